@@ -1,0 +1,12 @@
+pub mod Keys
+pub mod Tables
+pub mod Same
+pub mod Catalog
+pub mod Kv
+pub mod Machine
+pub mod Queries
+pub mod Indexes
+pub mod Channels
+pub mod Locks
+pub mod KvIndexes
+pub mod Role

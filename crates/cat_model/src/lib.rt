@@ -1,0 +1,30 @@
+//! The plain values of the catalog: its rows, commands, queries, requests and replies, and in `specs/` the
+//! definitions that speak of them.
+#![tactic(auto)]
+
+mod applied;
+mod bytes;
+mod command;
+mod fired;
+pub mod laws;
+mod list;
+mod memory;
+mod query;
+mod reply;
+mod request;
+mod row;
+mod steps;
+mod text;
+
+pub use applied::{Applied, Refuse, TxnResult};
+pub use bytes::Bytes;
+pub use command::{Command, Entry, NewCheck, NewService, TxnOp, Verb};
+pub use fired::{Fired, Freed, Local, Remote};
+pub use list::{List, Texts};
+pub use memory::Memory;
+pub use query::{Answer, Chan, CheckView, Instance, NameTags, Query, Ran};
+pub use reply::{Form, Held, Kind, Mark, Out, Refusal, Reply, Role};
+pub use request::{AgentOp, Asked, Draw, Event, Mode, Request, ServiceDef, TtlDef};
+pub use row::{Behavior, CheckRow, KvRow, NodeRow, QueryRow, ServiceRow, SessionRow, Status};
+pub use steps::Steps;
+pub use text::Text;

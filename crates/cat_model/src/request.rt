@@ -1,0 +1,129 @@
+use crate::{Command, List, Query, Refusal, Status, Text, Texts};
+
+/// How fresh a read is to be.
+#[derive(Clone, Copy, Debug, PartialEq, Eq)]
+pub enum Mode {
+    /// By a server that leads.
+    Default,
+    /// By a server that a majority has since confirmed as the leader.
+    Consistent,
+    /// By the asked server as it stands.
+    Stale,
+}
+
+/// A service as an agent's client gives it.
+#[derive(Debug, Drop)]
+pub struct ServiceDef {
+    pub id: Text,
+    pub name: Text,
+    pub tags: Texts,
+    pub address: Text,
+    pub port: u16,
+    pub tag_override: bool,
+}
+
+/// A check with a TTL, in milliseconds, as an agent's client gives it.
+#[derive(Debug, Drop)]
+pub struct TtlDef {
+    pub id: Text,
+    pub name: Text,
+    pub notes: Text,
+    pub service: Text,
+    pub status: Status,
+    pub ttl_ms: u64,
+}
+
+/// What an agent is asked to do with its own rows.
+#[derive(Debug, Drop)]
+pub enum AgentOp {
+    Services,
+    Checks,
+    AddService {
+        service: ServiceDef,
+        checks: List<TtlDef>,
+    },
+    DropService {
+        id: Text,
+    },
+    AddCheck {
+        check: TtlDef,
+    },
+    DropCheck {
+        id: Text,
+    },
+    Mark {
+        id: Text,
+        status: Status,
+        output: Text,
+    },
+}
+
+/// A request as HTTP means it.
+#[derive(Debug, Drop)]
+pub enum Request {
+    /// Answers once the query's index is above `min`, or `wait_ms` are over. A wait of 0 is five minutes, and the
+    /// longest is ten. `raw` asks for a key's value alone.
+    Read {
+        query: Query,
+        mode: Mode,
+        min: u64,
+        wait_ms: u64,
+        raw: bool,
+    },
+    /// Executes the prepared query with this identifier or name. A limit of 0 is none.
+    Execute {
+        name: Text,
+        limit: u64,
+        mode: Mode,
+    },
+    Write {
+        command: Command,
+    },
+    /// Restarts a session's TTL.
+    Renew {
+        id: u128,
+    },
+    Agent(AgentOp),
+}
+
+/// A request, or the refusal of what is none.
+#[derive(Debug, Drop)]
+pub enum Asked {
+    Good(Request),
+    Bad(Refusal),
+}
+
+/// The random words that a request is given, of which an identifier is made.
+#[derive(Clone, Copy, Debug, PartialEq, Eq)]
+pub struct Draw {
+    pub hi: u64,
+    pub lo: u64,
+}
+
+/// What may happen to a cluster in one step. Servers and agents are numbered from 1, and times are milliseconds.
+#[derive(Debug, Drop)]
+pub enum Event {
+    /// The server's election timeout is over.
+    Timeout(u32),
+    /// The server sends a heartbeat, if it leads.
+    Beat(u32),
+    /// The server's clock goes on by so much.
+    Tick(u32, u64),
+    /// The message with this number reaches its receiver, and may do so again.
+    Deliver(u64),
+    /// The message with this number is lost.
+    Drop(u64),
+    /// The server restarts with what its durable store holds.
+    Restart(u32),
+    /// The n-th call from now on of the server's durable store is to fail, or none for 0.
+    FailKeep(u32, u32),
+    Ask {
+        agent: u32,
+        asked: Asked,
+        draw: Draw,
+    },
+    /// The agent makes the catalog's rows of its node equal to its own.
+    Sync(u32),
+    /// The agent's clock goes on by so much.
+    AgentTick(u32, u64),
+}
