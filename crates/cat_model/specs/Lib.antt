@@ -10,3 +10,4 @@ pub mod Channels
 pub mod Locks
 pub mod KvIndexes
 pub mod Role
+pub mod Spelling

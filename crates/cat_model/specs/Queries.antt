@@ -12,6 +12,7 @@ use Rattle.cat_model.specs.declared.row.CheckRow.{CheckRow}
 use Rattle.cat_model.specs.declared.query.CheckView.{CheckView}
 use Rattle.cat_model.specs.declared.query.NameTags.{NameTags}
 use Rattle.cat_model.specs.declared.query.Instance.{Instance}
+use Rattle.cat_model.specs.declared.row.QueryRow.{QueryRow}
 use Rattle.cat_model.specs.declared.row.Status.{Status}
 use Rattle.cat_model.specs.declared.row.Status.TheVariants.{Passing}
 use Rattle.cat_model.specs.declared.query.Query.{Query}
@@ -110,6 +111,10 @@ abbrev pub rows_or_absent : List KvRow → Answer
 rows_or_absent [] = a.Absent
 rows_or_absent (r ∷ rows) = a.Rows (r ∷ rows)
 
+abbrev pub queries_or_absent : List QueryRow → Answer
+queries_or_absent [] = a.Absent
+queries_or_absent (r ∷ rows) = a.Queries (r ∷ rows)
+
 abbrev pub has_status : Option Status → CheckRow → Bool
 has_status None c = true
 has_status (Some s) c = same_status c.status s
@@ -137,7 +142,7 @@ answer_from (q.Keys prefix separator) k = a.Names (all_names (map (λ r. cut_key
 answer_from (q.SessionInfo id) k = a.Sessions (filter (λ s. nat_eq s.id id) k.sessions)
 answer_from (q.SessionsOf node) k = a.Sessions (filter (λ s. same_text s.node node) k.sessions)
 answer_from q.Sessions k = a.Sessions k.sessions
-answer_from (q.QueryInfo id) k = a.Queries (filter (λ x. nat_eq x.id id) k.queries)
+answer_from (q.QueryInfo id) k = queries_or_absent (filter (λ x. nat_eq x.id id) k.queries)
 answer_from q.Queries k = a.Queries k.queries
 
 -- the answer at a catalog: equal reads give equal answers

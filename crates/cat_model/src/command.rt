@@ -1,7 +1,7 @@
 use crate::{Behavior, Bytes, List, Status, Text, Texts};
 
 /// A service as a Register gives it.
-#[derive(Debug, Drop)]
+#[derive(Clone, Debug, Drop)]
 pub struct NewService {
     pub id: Text,
     pub name: Text,
@@ -12,7 +12,7 @@ pub struct NewService {
 }
 
 /// A check as a Register gives it.
-#[derive(Debug, Drop)]
+#[derive(Clone, Debug, Drop)]
 pub struct NewCheck {
     pub id: Text,
     pub name: Text,
@@ -41,7 +41,7 @@ pub enum Verb {
 }
 
 /// An operation of a transaction. `key` is the prefix where the verb is one of the two on trees.
-#[derive(Debug, Drop)]
+#[derive(Clone, Debug, Drop)]
 pub struct TxnOp {
     pub verb: Verb,
     pub key: Text,
@@ -52,7 +52,7 @@ pub struct TxnOp {
 }
 
 /// What an entry of the log does to the catalog.
-#[derive(Debug, Drop)]
+#[derive(Clone, Debug, Drop)]
 pub enum Command {
     /// Opens a leader's term.
     Noop,
@@ -137,7 +137,7 @@ pub enum Command {
 
 /// One place of a log: the term in which a leader entered the command, and the number of the request that asked
 /// for it. Number 0 is no request's.
-#[derive(Debug, Drop)]
+#[derive(Clone, Debug, Drop)]
 pub struct Entry {
     pub term: u64,
     pub number: u64,

@@ -1,0 +1,115 @@
+-- The bytes of a command, as logs and durable stores keep them: a version byte, a tag byte and the fields.
+-- Numbers are unsigned LEB128 (DWARF 5, section 7.6) in the shortest form, texts are UTF-8.
+use Rattle.std.specs.Prelude.{ℕ, zero, suc, ◌+◌, ◌/◌, ◌%◌, nat_lt, Bool, true, false, if◌then◌else◌, List, [], ◌∷◌, ◌++◌, Option, None, Some, length}
+use Rattle.std.specs.List.{flat_map}
+use Rattle.std.specs.Int.{to_be_bytes, w128}
+use Rattle.cat_model.specs.declared.row.Status.{Status}
+use Rattle.cat_model.specs.declared.row.Status.TheVariants.{Passing, Warning, Critical}
+use Rattle.cat_model.specs.declared.row.Behavior.{Behavior}
+use Rattle.cat_model.specs.declared.row.Behavior.TheVariants as behaviors
+use Rattle.cat_model.specs.declared.command.Verb.{Verb}
+use Rattle.cat_model.specs.declared.command.Verb.TheVariants as verbs
+use Rattle.cat_model.specs.declared.command.NewService.{NewService}
+use Rattle.cat_model.specs.declared.command.NewCheck.{NewCheck}
+use Rattle.cat_model.specs.declared.command.TxnOp.{TxnOp}
+use Rattle.cat_model.specs.declared.command.Command.{Command}
+use Rattle.cat_model.specs.declared.command.Command.TheVariants.{Noop, Register, Deregister, KvSet, KvCas, KvLock, KvUnlock, KvDelete, KvDeleteCas, KvDeleteTree, Txn, SessionCreate, SessionDestroy, QuerySet, QueryDelete, Reap}
+
+-- seven bits a byte, the lowest first, each byte but the last with its top bit set, in at most so many more bytes
+unfoldable pub number_within : ℕ → ℕ → List ℕ
+number_within zero n = n ∷ []
+number_within (suc more) n = if nat_lt n 128 then n ∷ [] else (128 + n % 128) ∷ number_within more (n / 128)
+
+-- a number below 2 ^ 64, which has at most ten bytes
+abbrev pub number_bytes : ℕ → List ℕ
+number_bytes n = number_within 9 n
+
+-- a text or bytes: the length, and then they
+abbrev pub text_bytes : List ℕ → List ℕ
+text_bytes text = number_bytes (length text) ++ text
+
+-- a list: the count, and then the items
+abbrev pub list_bytes : {A : Type 0} → (A → List ℕ) → List A → List ℕ
+list_bytes item items = number_bytes (length items) ++ flat_map item items
+
+abbrev pub option_bytes : {A : Type 0} → (A → List ℕ) → Option A → List ℕ
+option_bytes item None = 0 ∷ []
+option_bytes item (Some x) = 1 ∷ item x
+
+abbrev pub flag_bytes : Bool → List ℕ
+flag_bytes false = 0 ∷ []
+flag_bytes true = 1 ∷ []
+
+-- an identifier: sixteen bytes, the most significant first
+abbrev pub id_bytes : ℕ → List ℕ
+id_bytes id = to_be_bytes w128 id
+
+abbrev pub status_bytes : Status → List ℕ
+status_bytes Passing = 0 ∷ []
+status_bytes Warning = 1 ∷ []
+status_bytes Critical = 2 ∷ []
+
+abbrev pub behavior_bytes : Behavior → List ℕ
+behavior_bytes behaviors.Release = 0 ∷ []
+behavior_bytes behaviors.Delete = 1 ∷ []
+
+abbrev pub verb_bytes : Verb → List ℕ
+verb_bytes verbs.Set = 0 ∷ []
+verb_bytes verbs.Cas = 1 ∷ []
+verb_bytes verbs.Lock = 2 ∷ []
+verb_bytes verbs.Unlock = 3 ∷ []
+verb_bytes verbs.Get = 4 ∷ []
+verb_bytes verbs.GetOrEmpty = 5 ∷ []
+verb_bytes verbs.GetTree = 6 ∷ []
+verb_bytes verbs.CheckIndex = 7 ∷ []
+verb_bytes verbs.CheckSession = 8 ∷ []
+verb_bytes verbs.CheckNotExists = 9 ∷ []
+verb_bytes verbs.Delete = 10 ∷ []
+verb_bytes verbs.DeleteTree = 11 ∷ []
+verb_bytes verbs.DeleteCas = 12 ∷ []
+
+unfoldable pub service_bytes : NewService → List ℕ
+service_bytes s =
+    text_bytes s.id ++ text_bytes s.name ++ list_bytes text_bytes s.tags ++ text_bytes s.address
+    ++ number_bytes s.port ++ flag_bytes s.tag_override
+
+unfoldable pub check_bytes : NewCheck → List ℕ
+check_bytes c =
+    text_bytes c.id ++ text_bytes c.name ++ status_bytes c.status ++ text_bytes c.notes ++ text_bytes c.output
+    ++ text_bytes c.service
+
+unfoldable pub op_bytes : TxnOp → List ℕ
+op_bytes op =
+    verb_bytes op.verb ++ text_bytes op.key ++ text_bytes op.value ++ number_bytes op.flags ++ number_bytes op.index
+    ++ option_bytes id_bytes op.session
+
+-- the tag and the fields
+unfoldable pub tagged : Command → List ℕ
+tagged Noop = 0 ∷ []
+tagged (Register node address service checks) =
+    1 ∷ [] ++ text_bytes node ++ text_bytes address ++ option_bytes service_bytes service ++ list_bytes check_bytes checks
+tagged (Deregister node service check) = 2 ∷ [] ++ text_bytes node ++ text_bytes service ++ text_bytes check
+tagged (KvSet key flags value) = 3 ∷ [] ++ text_bytes key ++ number_bytes flags ++ text_bytes value
+tagged (KvCas key flags value index) =
+    4 ∷ [] ++ text_bytes key ++ number_bytes flags ++ text_bytes value ++ number_bytes index
+tagged (KvLock key flags value session) =
+    5 ∷ [] ++ text_bytes key ++ number_bytes flags ++ text_bytes value ++ id_bytes session
+tagged (KvUnlock key flags value session) =
+    6 ∷ [] ++ text_bytes key ++ number_bytes flags ++ text_bytes value ++ id_bytes session
+tagged (KvDelete key) = 7 ∷ [] ++ text_bytes key
+tagged (KvDeleteCas key index) = 8 ∷ [] ++ text_bytes key ++ number_bytes index
+tagged (KvDeleteTree prefix) = 9 ∷ [] ++ text_bytes prefix
+tagged (Txn ops) = 10 ∷ [] ++ list_bytes op_bytes ops
+tagged (SessionCreate id name node checks behavior delay_ms ttl_ms) =
+    11 ∷ [] ++ id_bytes id ++ text_bytes name ++ text_bytes node ++ list_bytes text_bytes checks
+    ++ behavior_bytes behavior ++ number_bytes delay_ms ++ number_bytes ttl_ms
+tagged (SessionDestroy id) = 12 ∷ [] ++ id_bytes id
+tagged (QuerySet id create name session service only_passing tags dns_ttl_ms) =
+    13 ∷ [] ++ id_bytes id ++ flag_bytes create ++ text_bytes name ++ option_bytes id_bytes session
+    ++ text_bytes service ++ flag_bytes only_passing ++ list_bytes text_bytes tags ++ number_bytes dns_ttl_ms
+tagged (QueryDelete id) = 14 ∷ [] ++ id_bytes id
+tagged Reap = 15 ∷ []
+
+-- the spelling of a command
+abbrev pub spelling : Command → List ℕ
+spelling command = 1 ∷ tagged command
