@@ -1,0 +1,5 @@
+pub mod Bodies
+pub mod Events
+pub mod Replies
+pub mod Cluster
+pub mod Legal
