@@ -11,3 +11,10 @@ pub mod Locks
 pub mod KvIndexes
 pub mod Role
 pub mod Spelling
+pub mod Executions
+pub mod Identifiers
+pub mod Log
+pub mod Delays
+pub mod Views
+pub mod Syncs
+pub mod Reach
