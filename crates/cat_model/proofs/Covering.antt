@@ -185,7 +185,7 @@ reap_reached (q.QueryInfo id) before after c r h = absurd (false≢true h)
 reap_reached q.Queries before after c r h = absurd (false≢true h)
 
 -- a list has an element that passes exactly where what passes has one
-any_filter : {A : Type 0} (test : A → Bool) (xs : List A) → list_any test (filter test xs) ≡ list_any test xs
+pub any_filter : {A : Type 0} (test : A → Bool) (xs : List A) → list_any test (filter test xs) ≡ list_any test xs
 any_filter test [] = refl
 any_filter test (x ∷ xs) = go (test x) refl (any_filter test xs)
   where

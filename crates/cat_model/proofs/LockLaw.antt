@@ -5,15 +5,16 @@ use Rattle.std.specs.Ordering.{is_eq}
 use Rattle.std.proofs.lemmas.Cmp.{nat_list_cmp_total, nat_cmp_total, tied_itself}
 use Rattle.std.proofs.lemmas.Map.Lookups.{exact_bytes, exact_unsigned}
 use Rattle.std.proofs.lemmas.Bool.{true≢false, false≢true}
-use Rattle.std.proofs.lemmas.List.{reverse-append}
+use Rattle.std.proofs.lemmas.List.{reverse-append, length-reverse}
 use Rattle.cat_model.specs.Keys.{text_cmp, is_empty}
 use Rattle.cat_model.specs.Tables.{put, without}
 use Rattle.cat_model.specs.Catalog.{Catalog, kv_key, kv_at, session_at, session_key}
-use Rattle.cat_model.specs.Kv.{write_kv, kv_set, kv_lock, kv_delete, kv_delete_tree, TxnRun, Went, Failed_at, written, holder}
+use Rattle.cat_model.specs.Kv.{write_kv, kv_set, kv_lock, kv_delete, kv_delete_tree, run_ops, TxnRun, Went, Failed_at, written, holder}
 use Rattle.cat_model.specs.Machine.{Step, act, apply, end_sessions, at_past, catalog_at, register, deregister, create_session, set_query, freed_row, ended_holder, ends, names, broken, yes_or_no, txn_end, unless, refusal_of, deregister_service, deregister_check, deregister_node}
 use Rattle.cat_model.specs.Locks.{LockMove, IsLockStep, known, HoldersStand, is_txn, LockLaw}
 use Rattle.cat_model.specs.declared.row.KvRow.{KvRow}
 use Rattle.cat_model.specs.declared.row.SessionRow.{SessionRow}
+use Rattle.cat_model.specs.declared.command.TxnOp.{TxnOp}
 use Rattle.cat_model.specs.declared.applied.Refuse.{Refuse}
 use Rattle.cat_model.specs.declared.applied.Refuse.TheVariants as refusals
 use Rattle.cat_model.specs.declared.row.Behavior.{Behavior}
@@ -374,9 +375,19 @@ pub next_is : (log : List Command) (c : Command) → catalog_at (log ++ c ∷ []
 unfolding at_past
 next_is log c = ap at_past (reverse-append log (c ∷ []))
 
+txn_keys : (k : Catalog) (t : TxnRun) → (txn_end k t).0 ≡ record k { kv = (txn_end k t).0.kv }
+txn_keys k (Went rows results) = refl
+txn_keys k (Failed_at at verb) = refl
+
+-- a transaction leaves the keys that its operations made
+txn_step : (i : ℕ) (ops : List TxnOp) (k : Catalog) → HoldersStand k → (apply i (Txn ops) k).0.kv ≡ (act i (Txn ops) k).0.kv
+unfolding act
+txn_step i ops k stand = keys_after i (Txn ops) k _ stand (txn_keys k (run_ops i k.sessions 0 ops k.kv [])) (λ s. refl)
+
 -- the lock law
 pub lock_law : (log : List Command) → LockLaw log
 lock_law log = record {
   stand = stand_at (reverse log);
   commands = λ c t. subst (λ k. IsLockStep (catalog_at log).kv k.kv) (sym (next_is log c)) (command_step (length (reverse log) + 1) c (catalog_at log) (kv_ascends (reverse log)) (stand_at (reverse log)) t);
+  transactions = λ ops. ap (λ k. k.kv) (next_is log (Txn ops)) ∙ txn_step (length (reverse log) + 1) ops (catalog_at log) (stand_at (reverse log)) ∙ ap (λ n. (act (n + 1) (Txn ops) (catalog_at log)).0.kv) (length-reverse log);
 }

@@ -1,11 +1,12 @@
 -- Locks: what a step may do to the holder and the lock index of a key's row.
-use Rattle.std.specs.Prelude.{◌≡◌, ℕ, ◌+◌, Bool, true, false, List, [], ◌∷◌, ◌++◌, Option, Some, None, ◌⊎◌, is_some}
+use Rattle.std.specs.Prelude.{◌≡◌, ℕ, ◌+◌, Bool, true, false, List, [], ◌∷◌, ◌++◌, Option, Some, None, ◌⊎◌, is_some, length}
 use Rattle.std.specs.List.{AllByRecursion}
 use Rattle.cat_model.specs.Catalog.{Catalog, kv_at, session_at}
 use Rattle.cat_model.specs.Kv.{Outcome, holder, locks}
-use Rattle.cat_model.specs.Machine.{broken, catalog_at}
+use Rattle.cat_model.specs.Machine.{act, broken, catalog_at}
 use Rattle.cat_model.specs.declared.row.KvRow.{KvRow}
 use Rattle.cat_model.specs.declared.row.SessionRow.{SessionRow}
+use Rattle.cat_model.specs.declared.command.TxnOp.{TxnOp}
 use Rattle.cat_model.specs.declared.command.Command.{Command}
 use Rattle.cat_model.specs.declared.command.Command.TheVariants.{Txn}
 
@@ -51,7 +52,10 @@ abbrev pub IfDone : List KvRow → Outcome → Type 0
 IfDone before None = Unit {0}
 IfDone before (Some done) = IsLockStep before done.0
 
--- The lock law: after every log the holders stand, and each command but a transaction, and each operation of one, is a lock step.
+-- The lock law. After every log the holders stand. Each command but a transaction is a lock step, and so is each
+-- operation of a transaction (a law of its own); of the sessions that a transaction ends none is left, since it changes
+-- no node and no check: the keys after it are those that its operations made.
 pub record LockLaw (log : List Command) : Type 0 where
   pub stand : HoldersStand (catalog_at log)
   pub commands : (c : Command) → is_txn c ≡ false → IsLockStep (catalog_at log).kv (catalog_at (log ++ c ∷ [])).kv
+  pub transactions : (ops : List TxnOp) → (catalog_at (log ++ Txn ops ∷ [])).kv ≡ (act (length log + 1) (Txn ops) (catalog_at log)).0.kv

@@ -1,9 +1,13 @@
 -- Which channels a fired one reaches, as a test, and the list of those that a step fires.
-use Rattle.std.specs.Prelude.{◌≡◌, ◌≢◌, ℕ, Bool, true, false, List, Contains}
+use Rattle.std.specs.Prelude.{◌≡◌, ◌≢◌, ℕ, Bool, true, false, List, [], ◌∷◌, ◌++◌, Contains}
 use Rattle.std.specs.List.{AllByRecursion, AllPairs, list_any}
 use Rattle.cat_model.specs.Keys.{same_text, has_prefix}
 use Rattle.cat_model.specs.Catalog.{Catalog}
-use Rattle.cat_model.specs.Channels.{fires}
+use Rattle.cat_model.specs.Queries.{reads, answer}
+use Rattle.cat_model.specs.Machine.{catalog_at}
+use Rattle.cat_model.specs.Indexes.{touches}
+use Rattle.cat_model.specs.Channels.{chans, fires}
+use Rattle.cat_model.specs.declared.query.Query.{Query}
 use Rattle.cat_model.specs.declared.command.Command.{Command}
 use Rattle.cat_model.specs.declared.query.Chan.{Chan}
 use Rattle.cat_model.specs.declared.query.Chan.TheVariants.{Nodes, Services, Checks, Sessions, Queries, Service, Vanished, Key, Prefix, Reaped}
@@ -72,3 +76,14 @@ pub record FiresJust (before : Catalog) (c : Command) (after : Catalog) (fired :
   pub whole : (chan : Chan) → fires before c after chan ≡ true → Contains fired chan
   pub just : AllByRecursion (λ chan. fires before c after chan ≡ true) fired
   pub once : AllPairs (λ x y. x ≢ y) fired
+
+-- What a query reads says what it answers and on which channels it hangs.
+abbrev pub ReadsLaw : Query → Catalog → Catalog → Type 0
+ReadsLaw q before after = reads q before ≡ reads q after → (answer q before ≡ answer q after) × (chans q before ≡ chans q after)
+
+-- The covering law over the list of what a step fires.
+abbrev pub HitLaw : Query → List Command → Command → List Chan → Type 0
+HitLaw q log c fired =
+    FiresJust (catalog_at log) c (catalog_at (log ++ c ∷ [])) fired
+    → touches q (catalog_at log) c (catalog_at (log ++ c ∷ [])) ≡ true
+    → is_on fired (chans q (catalog_at log)) ≡ true

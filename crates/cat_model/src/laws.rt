@@ -3,8 +3,13 @@
 ghost use Rattle.std.specs.Prelude.{List, ℕ, ◌++◌};
 ghost use Rattle.cat_model.specs.declared.query.Query.{Query};
 ghost use Rattle.cat_model.specs.declared.command.Command.{Command};
+ghost use Rattle.cat_model.specs.Machine.{catalog_at};
 ghost use Rattle.cat_model.specs.Indexes.{BeginsWithNoop, IndexLaw};
-ghost use Rattle.cat_model.specs.Channels.{CoveringLaw};
+ghost use Rattle.std.specs.Bool.{Decides};
+ghost use Rattle.cat_model.specs.Catalog.{Catalog, InOrder};
+ghost use Rattle.cat_model.specs.Channels.{CoveringLaw, Reaches};
+ghost use Rattle.cat_model.specs.Reach.{reaches, ReadsLaw, HitLaw};
+ghost use Rattle.cat_model.specs.declared.query.Chan.{Chan};
 ghost use Rattle.cat_model.specs.Kv.{operate};
 ghost use Rattle.cat_model.specs.Locks.{LockLaw, IfDone};
 ghost use Rattle.cat_model.specs.declared.row.KvRow.{KvRow};
@@ -25,8 +30,10 @@ pub fn covering_law()
     ensures { (query : Query) (log : List Command) (command : Command) → CoveringLaw query log command }
 {}
 
-/// After every log each holder is a session that is there and none is broken. Each command but a transaction moves
-/// a holder from none to a session or back, and only a fresh acquisition raises a lock index.
+/// After every log each holder is a session that is there and none is broken. Each command but a transaction, of each
+/// row that it leaves, keeps holder and lock index, or gives a row that nobody held a holder and raises its lock index
+/// by one (from 0 where the row is new), or takes the holder away and keeps the lock index. A transaction leaves the
+/// keys that its operations made.
 pub fn lock_law()
     ensures { (log : List Command) → LockLaw log }
 {}
@@ -35,4 +42,26 @@ pub fn lock_law()
 #[tactic(auto, using(crate::proofs::LockSteps::operate_step))]
 pub fn operation_law()
     ensures { (position : ℕ) (sessions : List SessionRow) (verb : Verb) (op : TxnOp) (rows : List KvRow) → IfDone rows (operate position sessions verb op rows) }
+{}
+
+/// In the catalog after any log each list is in the order of its keys, with at most one row for a key.
+pub fn key_order()
+    ensures { (log : List Command) → InOrder (catalog_at log) }
+{}
+
+/// Equal reads give equal answers and equal channels.
+pub fn reads_law()
+    ensures { (query : Query) (before after : Catalog) → ReadsLaw query before after }
+{}
+
+/// The test of what a fired channel reaches says what the relation does.
+#[tactic(auto, using(crate::proofs::Reaching::reach_law))]
+pub fn reach_law()
+    ensures { (fired chan : Chan) → Decides (reaches fired chan) (Reaches fired chan) }
+{}
+
+/// The covering law over the list of what a command fires.
+#[tactic(auto, using(crate::proofs::Reaching::hit_law))]
+pub fn hit_law()
+    ensures { (query : Query) (log : List Command) (command : Command) (fired : List Chan) → HitLaw query log command fired }
 {}
