@@ -3,6 +3,7 @@
 #![tactic(auto)]
 
 mod applied;
+mod bounds;
 mod bytes;
 mod command;
 mod fired;
