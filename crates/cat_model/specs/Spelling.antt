@@ -1,8 +1,8 @@
 -- The bytes of a command, as logs and durable stores keep them: a version byte, a tag byte and the fields.
 -- Numbers are unsigned LEB128 (DWARF 5, section 7.6) in the shortest form, texts are UTF-8.
-use Rattle.std.specs.Prelude.{ℕ, zero, suc, ◌+◌, ◌/◌, ◌%◌, nat_lt, Bool, true, false, if◌then◌else◌, List, [], ◌∷◌, ◌++◌, Option, None, Some, length}
+use Rattle.std.specs.Prelude.{ℕ, zero, suc, ◌+◌, ◌/◌, ◌%◌, ◌^◌, nat_lt, Bool, true, false, if◌then◌else◌, List, [], ◌∷◌, ◌++◌, Option, None, Some, length}
 use Rattle.std.specs.List.{flat_map, concat}
-use Rattle.std.specs.Int.{to_be_bytes, w128}
+use Rattle.std.specs.Int.{to_be_bytes, w64}
 use Rattle.cat_model.specs.declared.row.Status.{Status}
 use Rattle.cat_model.specs.declared.row.Status.TheVariants.{Passing, Warning, Critical}
 use Rattle.cat_model.specs.declared.row.Behavior.{Behavior}
@@ -42,7 +42,7 @@ flag_bytes true = 1 ∷ []
 
 -- an identifier: sixteen bytes, the most significant first
 abbrev pub id_bytes : ℕ → List ℕ
-id_bytes id = to_be_bytes w128 id
+id_bytes id = to_be_bytes w64 (id / 2 ^ 64) ++ to_be_bytes w64 (id % 2 ^ 64)
 
 abbrev pub status_bytes : Status → List ℕ
 status_bytes Passing = 0 ∷ []
@@ -72,17 +72,17 @@ verb_bytes verbs.DeleteCas = 12 ∷ []
 unfoldable pub service_bytes : NewService → List ℕ
 service_bytes s =
     concat (text_bytes s.id ∷ text_bytes s.name ∷ list_bytes text_bytes s.tags ∷ text_bytes s.address ∷ number_bytes s.port
-        ∷ flag_bytes s.tag_override ∷ [])
+    ∷ flag_bytes s.tag_override ∷ [])
 
 unfoldable pub check_bytes : NewCheck → List ℕ
 check_bytes c =
     concat (text_bytes c.id ∷ text_bytes c.name ∷ status_bytes c.status ∷ text_bytes c.notes ∷ text_bytes c.output
-        ∷ text_bytes c.service ∷ [])
+    ∷ text_bytes c.service ∷ [])
 
 unfoldable pub op_bytes : TxnOp → List ℕ
 op_bytes op =
     concat (verb_bytes op.verb ∷ text_bytes op.key ∷ text_bytes op.value ∷ number_bytes op.flags ∷ number_bytes op.index
-        ∷ option_bytes id_bytes op.session ∷ [])
+    ∷ option_bytes id_bytes op.session ∷ [])
 
 -- the byte that tells the sixteen commands apart
 abbrev pub tag_of : Command → ℕ
@@ -122,11 +122,11 @@ fields_of (KvDeleteTree prefix) = text_bytes prefix ∷ []
 fields_of (Txn ops) = list_bytes op_bytes ops ∷ []
 fields_of (SessionCreate id name node checks behavior delay_ms ttl_ms) =
     id_bytes id ∷ text_bytes name ∷ text_bytes node ∷ list_bytes text_bytes checks ∷ behavior_bytes behavior
-        ∷ number_bytes delay_ms ∷ number_bytes ttl_ms ∷ []
+    ∷ number_bytes delay_ms ∷ number_bytes ttl_ms ∷ []
 fields_of (SessionDestroy id) = id_bytes id ∷ []
 fields_of (QuerySet id create name session service only_passing tags dns_ttl_ms) =
     id_bytes id ∷ flag_bytes create ∷ text_bytes name ∷ option_bytes id_bytes session ∷ text_bytes service
-        ∷ flag_bytes only_passing ∷ list_bytes text_bytes tags ∷ number_bytes dns_ttl_ms ∷ []
+    ∷ flag_bytes only_passing ∷ list_bytes text_bytes tags ∷ number_bytes dns_ttl_ms ∷ []
 fields_of (QueryDelete id) = id_bytes id ∷ []
 fields_of Reap = []
 

@@ -166,10 +166,7 @@ impl Command {
                 service,
                 checks,
             } => {
-                is_text(node)
-                    && is_text(address)
-                    && is_no_or_service(service)
-                    && are_checks(checks)
+                is_text(node) && is_text(address) && is_no_or_service(service) && are_checks(checks)
             }
             Command::Deregister {
                 node,

@@ -15,6 +15,7 @@ mod reads;
 mod reply;
 mod request;
 mod row;
+pub mod spelling_laws;
 mod steps;
 mod text;
 
