@@ -18,3 +18,4 @@ pub mod Delays
 pub mod Views
 pub mod Syncs
 pub mod Reach
+pub mod Bounds

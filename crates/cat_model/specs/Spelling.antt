@@ -1,8 +1,8 @@
 -- The bytes of a command, as logs and durable stores keep them: a version byte, a tag byte and the fields.
 -- Numbers are unsigned LEB128 (DWARF 5, section 7.6) in the shortest form, texts are UTF-8.
-use Rattle.std.specs.Prelude.{ℕ, zero, suc, ◌+◌, ◌/◌, ◌%◌, nat_lt, Bool, true, false, if◌then◌else◌, List, [], ◌∷◌, ◌++◌, Option, None, Some, length}
-use Rattle.std.specs.List.{flat_map}
-use Rattle.std.specs.Int.{to_be_bytes, w128}
+use Rattle.std.specs.Prelude.{ℕ, zero, suc, ◌+◌, ◌/◌, ◌%◌, ◌^◌, nat_lt, Bool, true, false, if◌then◌else◌, List, [], ◌∷◌, ◌++◌, Option, None, Some, length}
+use Rattle.std.specs.List.{flat_map, concat}
+use Rattle.std.specs.Int.{to_be_bytes, w64}
 use Rattle.cat_model.specs.declared.row.Status.{Status}
 use Rattle.cat_model.specs.declared.row.Status.TheVariants.{Passing, Warning, Critical}
 use Rattle.cat_model.specs.declared.row.Behavior.{Behavior}
@@ -42,7 +42,7 @@ flag_bytes true = 1 ∷ []
 
 -- an identifier: sixteen bytes, the most significant first
 abbrev pub id_bytes : ℕ → List ℕ
-id_bytes id = to_be_bytes w128 id
+id_bytes id = to_be_bytes w64 (id / 2 ^ 64) ++ to_be_bytes w64 (id % 2 ^ 64)
 
 abbrev pub status_bytes : Status → List ℕ
 status_bytes Passing = 0 ∷ []
@@ -68,48 +68,68 @@ verb_bytes verbs.Delete = 10 ∷ []
 verb_bytes verbs.DeleteTree = 11 ∷ []
 verb_bytes verbs.DeleteCas = 12 ∷ []
 
+-- the service of a Register, field after field
 unfoldable pub service_bytes : NewService → List ℕ
 service_bytes s =
-    text_bytes s.id ++ text_bytes s.name ++ list_bytes text_bytes s.tags ++ text_bytes s.address
-    ++ number_bytes s.port ++ flag_bytes s.tag_override
+    concat (text_bytes s.id ∷ text_bytes s.name ∷ list_bytes text_bytes s.tags ∷ text_bytes s.address ∷ number_bytes s.port
+    ∷ flag_bytes s.tag_override ∷ [])
 
 unfoldable pub check_bytes : NewCheck → List ℕ
 check_bytes c =
-    text_bytes c.id ++ text_bytes c.name ++ status_bytes c.status ++ text_bytes c.notes ++ text_bytes c.output
-    ++ text_bytes c.service
+    concat (text_bytes c.id ∷ text_bytes c.name ∷ status_bytes c.status ∷ text_bytes c.notes ∷ text_bytes c.output
+    ∷ text_bytes c.service ∷ [])
 
 unfoldable pub op_bytes : TxnOp → List ℕ
 op_bytes op =
-    verb_bytes op.verb ++ text_bytes op.key ++ text_bytes op.value ++ number_bytes op.flags ++ number_bytes op.index
-    ++ option_bytes id_bytes op.session
+    concat (verb_bytes op.verb ∷ text_bytes op.key ∷ text_bytes op.value ∷ number_bytes op.flags ∷ number_bytes op.index
+    ∷ option_bytes id_bytes op.session ∷ [])
 
--- the tag and the fields
-unfoldable pub tagged : Command → List ℕ
-tagged Noop = 0 ∷ []
-tagged (Register node address service checks) =
-    1 ∷ [] ++ text_bytes node ++ text_bytes address ++ option_bytes service_bytes service ++ list_bytes check_bytes checks
-tagged (Deregister node service check) = 2 ∷ [] ++ text_bytes node ++ text_bytes service ++ text_bytes check
-tagged (KvSet key flags value) = 3 ∷ [] ++ text_bytes key ++ number_bytes flags ++ text_bytes value
-tagged (KvCas key flags value index) =
-    4 ∷ [] ++ text_bytes key ++ number_bytes flags ++ text_bytes value ++ number_bytes index
-tagged (KvLock key flags value session) =
-    5 ∷ [] ++ text_bytes key ++ number_bytes flags ++ text_bytes value ++ id_bytes session
-tagged (KvUnlock key flags value session) =
-    6 ∷ [] ++ text_bytes key ++ number_bytes flags ++ text_bytes value ++ id_bytes session
-tagged (KvDelete key) = 7 ∷ [] ++ text_bytes key
-tagged (KvDeleteCas key index) = 8 ∷ [] ++ text_bytes key ++ number_bytes index
-tagged (KvDeleteTree prefix) = 9 ∷ [] ++ text_bytes prefix
-tagged (Txn ops) = 10 ∷ [] ++ list_bytes op_bytes ops
-tagged (SessionCreate id name node checks behavior delay_ms ttl_ms) =
-    11 ∷ [] ++ id_bytes id ++ text_bytes name ++ text_bytes node ++ list_bytes text_bytes checks
-    ++ behavior_bytes behavior ++ number_bytes delay_ms ++ number_bytes ttl_ms
-tagged (SessionDestroy id) = 12 ∷ [] ++ id_bytes id
-tagged (QuerySet id create name session service only_passing tags dns_ttl_ms) =
-    13 ∷ [] ++ id_bytes id ++ flag_bytes create ++ text_bytes name ++ option_bytes id_bytes session
-    ++ text_bytes service ++ flag_bytes only_passing ++ list_bytes text_bytes tags ++ number_bytes dns_ttl_ms
-tagged (QueryDelete id) = 14 ∷ [] ++ id_bytes id
-tagged Reap = 15 ∷ []
+-- the byte that tells the sixteen commands apart
+abbrev pub tag_of : Command → ℕ
+tag_of Noop = 0
+tag_of (Register node address service checks) = 1
+tag_of (Deregister node service check) = 2
+tag_of (KvSet key flags value) = 3
+tag_of (KvCas key flags value index) = 4
+tag_of (KvLock key flags value session) = 5
+tag_of (KvUnlock key flags value session) = 6
+tag_of (KvDelete key) = 7
+tag_of (KvDeleteCas key index) = 8
+tag_of (KvDeleteTree prefix) = 9
+tag_of (Txn ops) = 10
+tag_of (SessionCreate id name node checks behavior delay_ms ttl_ms) = 11
+tag_of (SessionDestroy id) = 12
+tag_of (QuerySet id create name session service only_passing tags dns_ttl_ms) = 13
+tag_of (QueryDelete id) = 14
+tag_of Reap = 15
 
--- the spelling of a command
+-- the fields of each, in their order
+abbrev pub fields_of : Command → List (List ℕ)
+fields_of Noop = []
+fields_of (Register node address service checks) =
+    text_bytes node ∷ text_bytes address ∷ option_bytes service_bytes service ∷ list_bytes check_bytes checks ∷ []
+fields_of (Deregister node service check) = text_bytes node ∷ text_bytes service ∷ text_bytes check ∷ []
+fields_of (KvSet key flags value) = text_bytes key ∷ number_bytes flags ∷ text_bytes value ∷ []
+fields_of (KvCas key flags value index) =
+    text_bytes key ∷ number_bytes flags ∷ text_bytes value ∷ number_bytes index ∷ []
+fields_of (KvLock key flags value session) =
+    text_bytes key ∷ number_bytes flags ∷ text_bytes value ∷ id_bytes session ∷ []
+fields_of (KvUnlock key flags value session) =
+    text_bytes key ∷ number_bytes flags ∷ text_bytes value ∷ id_bytes session ∷ []
+fields_of (KvDelete key) = text_bytes key ∷ []
+fields_of (KvDeleteCas key index) = text_bytes key ∷ number_bytes index ∷ []
+fields_of (KvDeleteTree prefix) = text_bytes prefix ∷ []
+fields_of (Txn ops) = list_bytes op_bytes ops ∷ []
+fields_of (SessionCreate id name node checks behavior delay_ms ttl_ms) =
+    id_bytes id ∷ text_bytes name ∷ text_bytes node ∷ list_bytes text_bytes checks ∷ behavior_bytes behavior
+    ∷ number_bytes delay_ms ∷ number_bytes ttl_ms ∷ []
+fields_of (SessionDestroy id) = id_bytes id ∷ []
+fields_of (QuerySet id create name session service only_passing tags dns_ttl_ms) =
+    id_bytes id ∷ flag_bytes create ∷ text_bytes name ∷ option_bytes id_bytes session ∷ text_bytes service
+    ∷ flag_bytes only_passing ∷ list_bytes text_bytes tags ∷ number_bytes dns_ttl_ms ∷ []
+fields_of (QueryDelete id) = id_bytes id ∷ []
+fields_of Reap = []
+
+-- the spelling of a command: the version, the tag and the fields
 abbrev pub spelling : Command → List ℕ
-spelling command = 1 ∷ tagged command
+spelling command = 1 ∷ tag_of command ∷ concat (fields_of command)

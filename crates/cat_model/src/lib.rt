@@ -3,6 +3,7 @@
 #![tactic(auto)]
 
 mod applied;
+mod bounds;
 mod bytes;
 mod command;
 mod fired;
@@ -14,6 +15,7 @@ mod reads;
 mod reply;
 mod request;
 mod row;
+pub mod spelling_laws;
 mod steps;
 mod text;
 

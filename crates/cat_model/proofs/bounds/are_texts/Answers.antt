@@ -1,0 +1,10 @@
+use Rattle.std.proofs.Common.{arith, sym}
+use Rattle.std.proofs.lemmas.List.Elements.{All-same}
+use Rattle.cat_model.specs.Bounds.{IsText}
+use Rattle.cat_model.proofs.bounds.are_texts.Goals as goal
+
+pub returns-then-len-le1048576 : goal.returns-then-len-le1048576
+returns-then-len-le1048576 c = (
+  λ yes. record { each = All-same IsText _ _ (sym c.as_slice.ensures) (c.all_are_texts.ensures.0 yes); to = omega arith },
+  λ bounded. c.all_are_texts.ensures.1 (All-same IsText _ _ c.as_slice.ensures bounded.each),
+)
