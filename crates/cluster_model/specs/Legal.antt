@@ -1,7 +1,7 @@
 -- When a reply is legal: an acknowledged write stands at its position, a read is the catalog's answer at its prefix,
 -- and a refusal has its cause.
 use Rattle.std.specs.Prelude.{◌≡◌, ◌≢◌, ◌⊎◌, ℕ, ◌+◌, ◌-◌, ◌<◌, ◌≤◌, Bool, true, false, List, [], ◌∷◌, length, take, map, Option, None, Some, slice_get}
-use Rattle.std.specs.List.{AllByRecursion}
+use Rattle.std.specs.List.{AllByRecursion, range_with_len}
 use Rattle.cat_model.specs.declared.command.Command.{Command}
 use Rattle.cat_model.specs.declared.command.Entry.{Entry}
 use Rattle.cat_model.specs.declared.query.Query.{Query}
@@ -110,6 +110,12 @@ AllAnswered [] log [] = Unit {0}
 AllAnswered (question ∷ questions) log (out.Reply reply ∷ outs) =
     IsLasting question log reply × AllAnswered questions log outs
 AllAnswered questions log outs = ⊥
+
+-- The outs are replies, to the requests from 1 to so many, in their order.
+pub record AreNumbered (outs : List Out) (requests : ℕ) : Type 0 where
+  pub replies : List Reply
+  pub all : outs ≡ map out.Reply replies
+  pub numbers : map (λ reply. reply.number) replies ≡ range_with_len 1 requests
 
 -- each of these events fits and is taken
 abbrev pub AllFit : ℕ → List Event → Type 0
