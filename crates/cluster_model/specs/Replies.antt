@@ -1,7 +1,6 @@
 -- Replies: what each rests on, and what it shows as a function of the request, of that and of the agreed log.
-use Rattle.std.specs.Prelude.{ℕ, ◌+◌, ◌-◌, ◌==◌, Bool, true, false, min, if◌then◌else◌, List, [], ◌∷◌, length, take, drop, map, Option, None, Some}
+use Rattle.std.specs.Prelude.{ℕ, ◌+◌, ◌-◌, ◌==◌, Bool, true, false, min, if◌then◌else◌, List, [], ◌∷◌, length, take, drop, Option, None, Some}
 use Rattle.cat_model.specs.declared.command.Command.{Command}
-use Rattle.cat_model.specs.declared.command.Entry.{Entry}
 use Rattle.cat_model.specs.declared.applied.Applied.{Applied}
 use Rattle.cat_model.specs.declared.applied.Applied.TheVariants.{Done}
 use Rattle.cat_model.specs.declared.query.Query.{Query}
@@ -15,14 +14,11 @@ use Rattle.cat_model.specs.declared.request.Draw.{Draw}
 use Rattle.cat_model.specs.declared.reply.Kind.{Kind}
 use Rattle.cat_model.specs.declared.reply.Kind.TheVariants.{Acked, At, Refused}
 use Rattle.cat_model.specs.declared.reply.Reply.{Reply}
+pub use Rattle.cat_model.specs.Log.{commands_of}
 use Rattle.cat_model.specs.Machine.{catalog_at, reply_to}
 use Rattle.cat_model.specs.Queries.{answer}
 use Rattle.cluster_model.specs.declared.shown.Shown.{Shown}
 use Rattle.cluster_model.specs.Bodies.{shown_answer, shown_applied, shown_refusal, plain}
-
--- the commands of a log of entries
-abbrev pub commands_of : List Entry → List Command
-commands_of log = map (λ e. e.command) log
 
 -- A request with its number, the agent that was asked and the words that were drawn for it.
 pub record Question : Type 0 where
