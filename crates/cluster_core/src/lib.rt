@@ -1,0 +1,9 @@
+//! The cluster: what each event does to the agreed log, and what is replied.
+#![tactic(auto)]
+
+mod body;
+mod cluster;
+mod fitting;
+mod rows;
+
+pub use cluster::Cluster;
