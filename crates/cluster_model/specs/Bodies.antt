@@ -1,6 +1,6 @@
 -- The status, body and form of what a reply shows. The bodies are those of Consul's HTTP API version 1, written as
 -- compact JSON with the members of an object in byte order; binary values are base64 (RFC 4648, section 4).
-use Rattle.std.specs.Prelude.{ℕ, ◌==◌, if◌then◌else◌, List, [], ◌∷◌, ◌++◌, length, map, Option, None, Some, codes}
+use Rattle.std.specs.Prelude.{ℕ, ◌==◌, if◌then◌else◌, List, [], ◌++◌, length, map, Option, None, Some, codes}
 use Rattle.std.specs.Int.{to_be_bytes, w128}
 use Rattle.base64.specs.Engines.{standard}
 use Rattle.base64.specs.GeneralPurpose.{encode_of}

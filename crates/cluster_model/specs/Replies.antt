@@ -1,12 +1,10 @@
 -- Replies: what each rests on, and what it shows as a function of the request, of that and of the agreed log.
-use Rattle.std.specs.Prelude.{ℕ, ◌+◌, ◌-◌, ◌==◌, Bool, true, false, min, if◌then◌else◌, List, [], ◌∷◌, length, take, drop, Option, None, Some}
+use Rattle.std.specs.Prelude.{ℕ, ◌-◌, ◌==◌, Bool, true, false, min, if◌then◌else◌, List, [], ◌∷◌, take, drop, Option, None, Some}
 use Rattle.cat_model.specs.declared.command.Command.{Command}
 use Rattle.cat_model.specs.declared.applied.Applied.{Applied}
 use Rattle.cat_model.specs.declared.applied.Applied.TheVariants.{Done}
 use Rattle.cat_model.specs.declared.query.Query.{Query}
 use Rattle.cat_model.specs.declared.query.Answer.{Answer}
-use Rattle.cat_model.specs.declared.request.Mode.{Mode}
-use Rattle.cat_model.specs.declared.request.Request.{Request}
 use Rattle.cat_model.specs.declared.request.Request.TheVariants.{Read}
 use Rattle.cat_model.specs.declared.request.Asked.{Asked}
 use Rattle.cat_model.specs.declared.request.Asked.TheVariants.{Good}
