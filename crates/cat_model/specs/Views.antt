@@ -1,14 +1,14 @@
 -- What the tables of a store keep in place of the log, and when they stand for one: their rows are the catalog's, and
 -- their positions those of the last steps that fired the channels.
 -- Consul, "Blocking Queries": the index of a read is that of the tables and rows that it reads.
-use Rattle.std.specs.Prelude.{◌≡◌, ℕ, ◌+◌, true, if◌then◌else◌, List, [], ◌∷◌, length, reverse}
+use Rattle.std.specs.Prelude.{◌≡◌, ℕ, ◌+◌, Bool, true, if◌then◌else◌, List, [], ◌∷◌, length, reverse}
 use Rattle.std.proofs.Common.{max}
 use Rattle.cat_model.specs.Keys.{same_text}
 use Rattle.cat_model.specs.Catalog.{Catalog, empty_catalog}
-use Rattle.cat_model.specs.Machine.{at_past, catalog_at}
+use Rattle.cat_model.specs.Machine.{apply, at_past, catalog_at}
 use Rattle.cat_model.specs.Queries.{answer}
 use Rattle.cat_model.specs.Indexes.{has_name, index_of}
-use Rattle.cat_model.specs.KvIndexes.{key_index, prefix_index, GivesIndexes}
+use Rattle.cat_model.specs.KvIndexes.{key_index, prefix_index, GivesIndexes, tombs_after, floor_after}
 use Rattle.cat_model.specs.Channels.{chans, fires}
 use Rattle.cat_model.specs.declared.query.Query.{Query}
 use Rattle.cat_model.specs.declared.query.Query.TheVariants as q
@@ -87,3 +87,27 @@ pub record ViewLaw (q : Query) (kept : Kept) (log : List Command) : Type 0 where
   pub index : kept_index q kept ≡ index_of q log
   pub answers : answer q kept.rows ≡ answer q (catalog_at log)
   pub hangs : chans q kept.rows ≡ chans q (catalog_at log)
+
+-- The tables after a command at position i: what it fires moves to i, and the keys that it removes get tombstones.
+abbrev pub moved : ℕ → Bool → ℕ → ℕ
+moved i fired old = if fired then i else old
+
+unfoldable pub kept_after : ℕ → Command → List (List ℕ × ℕ) → Kept → Kept
+kept_after i c names kept =
+    let after = (apply i c kept.rows).0 in
+    record {
+      rows = after;
+      tombs = tombs_after i c kept.rows.kv after.kv kept.tombs;
+      floor = floor_after i c kept.floor;
+      nodes = moved i (fires kept.rows c after Nodes) kept.nodes;
+      services = moved i (fires kept.rows c after Services) kept.services;
+      checks = moved i (fires kept.rows c after Checks) kept.checks;
+      sessions = moved i (fires kept.rows c after Sessions) kept.sessions;
+      queries = moved i (fires kept.rows c after Queries) kept.queries;
+      names = names;
+      vanished = moved i (fires kept.rows c after Vanished) kept.vanished;
+    }
+
+-- the positions of the names that have rows after the command: each that fires moves to i
+pub record NamesAfter (i : ℕ) (c : Command) (kept : Kept) (names : List (List ℕ × ℕ)) : Type 0 where
+  pub each : (name : List ℕ) → has_name name (apply i c kept.rows).0 ≡ true → position_of name names ≡ moved i (fires kept.rows c (apply i c kept.rows).0 (Service name)) (position_of name kept.names)

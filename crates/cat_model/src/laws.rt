@@ -1,8 +1,10 @@
 //! Laws of the definitions, each the contract of a function with an empty body.
 
-ghost use Rattle.std.specs.Prelude.{List, ℕ, ◌++◌};
+ghost use Rattle.std.specs.Prelude.{List, [], ◌∷◌, ℕ, ◌+◌, ◌++◌, length};
 ghost use Rattle.cat_model.specs.declared.query.Query.{Query};
 ghost use Rattle.cat_model.specs.declared.command.Command.{Command};
+ghost use Rattle.cat_model.specs.declared.command.Entry.{Entry};
+ghost use Rattle.cat_model.specs.Log.{commands_of, IsWellFormed};
 ghost use Rattle.cat_model.specs.Machine.{catalog_at};
 ghost use Rattle.cat_model.specs.Indexes.{BeginsWithNoop, IndexLaw};
 ghost use Rattle.std.specs.Bool.{Decides};
@@ -10,6 +12,7 @@ ghost use Rattle.cat_model.specs.Catalog.{Catalog, InOrder};
 ghost use Rattle.cat_model.specs.Channels.{CoveringLaw, Reaches};
 ghost use Rattle.cat_model.specs.Reach.{reaches, ReadsLaw, HitLaw};
 ghost use Rattle.cat_model.specs.declared.query.Chan.{Chan};
+ghost use Rattle.cat_model.specs.Views.{Kept, StandsFor, ViewLaw, NamesAfter, kept_after, nothing_kept};
 ghost use Rattle.cat_model.specs.Kv.{operate};
 ghost use Rattle.cat_model.specs.Locks.{LockLaw, IfDone};
 ghost use Rattle.cat_model.specs.declared.row.KvRow.{KvRow};
@@ -22,6 +25,17 @@ ghost use Rattle.cat_model.specs.declared.command.Verb.{Verb};
 #[tactic(auto, using(crate::proofs::IndexLaw::index_law))]
 pub fn index_law()
     ensures { (query : Query) (log more : List Command) → BeginsWithNoop (log ++ more) → IndexLaw query log more }
+{}
+
+/// The same of logs of entries, where the longer one is well formed.
+#[tactic(auto, using(crate::proofs::Logs::entry_index_law))]
+pub fn entry_index_law()
+    ensures { (query : Query) (log more : List Entry) → IsWellFormed (log ++ more) → IndexLaw query (commands_of log) (commands_of more) }
+{}
+
+/// The front of a well-formed log is well formed.
+pub fn front_law()
+    ensures { (log more : List Entry) → IsWellFormed (log ++ more) → IsWellFormed log }
 {}
 
 /// A command that touches a query fires a channel that reaches one on which the query hung before it.
@@ -64,4 +78,20 @@ pub fn reach_law()
 #[tactic(auto, using(crate::proofs::Reaching::hit_law))]
 pub fn hit_law()
     ensures { (query : Query) (log : List Command) (command : Command) (fired : List Chan) → HitLaw query log command fired }
+{}
+
+/// What the tables of a store keep gives the index, the answer and the channels of every query.
+pub fn view_law()
+    ensures { (query : Query) (kept : Kept) (log : List Command) → StandsFor kept log → ViewLaw query kept log }
+{}
+
+/// What the tables keep before the first command stands for the empty log.
+pub fn first_view_law()
+    ensures { StandsFor nothing_kept [] }
+{}
+
+/// What the tables keep goes on standing for the log, whatever the command: what the command fires moves to its
+/// position, and the keys that it removes get tombstones.
+pub fn view_step_law()
+    ensures { (kept : Kept) (log : List Command) (command : Command) (names : List (List ℕ × ℕ)) → StandsFor kept log → NamesAfter (length log + 1) command kept names → StandsFor (kept_after (length log + 1) command names kept) (log ++ command ∷ []) }
 {}
