@@ -72,7 +72,7 @@ given_put : (i : ℕ) (node : List ℕ) (o : Option NewService) (rows : List Ser
 given_put i node None rows h = h
 given_put i node (Some s) rows h = service_put i node s rows h
 
-check_put : (i : ℕ) (node : List ℕ) (c : NewCheck) (rows : List CheckRow) → ChecksAscend rows → ChecksAscend (put_check i node c rows)
+pub check_put : (i : ℕ) (node : List ℕ) (c : NewCheck) (rows : List CheckRow) → ChecksAscend rows → ChecksAscend (put_check i node c rows)
 check_put i node c rows h = go (check_at (node, c.id) rows)
   where
     fresh : ℕ → CheckRow

@@ -41,7 +41,7 @@ option_decides = decides_by same_option sound own
     own None = refl
     own (Some x) = (Decides-eqb x x).1 refl
 
-bool_decides : (a b : Bool) → Decides (same_bool a b) (a ≡ b)
+pub bool_decides : (a b : Bool) → Decides (same_bool a b) (a ≡ b)
 bool_decides = decides_by same_bool sound own
   where
     sound : (a b : Bool) → same_bool a b ≡ true → a ≡ b
@@ -54,7 +54,7 @@ bool_decides = decides_by same_bool sound own
     own true = refl
     own false = refl
 
-status_decides : (a b : Status) → Decides (same_status a b) (a ≡ b)
+pub status_decides : (a b : Status) → Decides (same_status a b) (a ≡ b)
 status_decides = decides_by same_status sound own
   where
     sound : (a b : Status) → same_status a b ≡ true → a ≡ b

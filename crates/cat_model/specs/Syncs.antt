@@ -1,11 +1,13 @@
 -- Anti-entropy: an agent makes the catalog's rows of its node equal to its own.
 -- Consul, "Anti-Entropy"; Agent, Register Service (EnableTagOverride); Catalog, Register Entity and Deregister Entity.
-use Rattle.std.specs.Prelude.{◌≡◌, ℕ, Bool, true, not, if◌then◌else◌, List, [], ◌∷◌, ◌++◌, Option, Some, None, ◌&&◌, filter, is_some, codes, map}
+use Rattle.std.specs.Prelude.{◌≡◌, ◌≢◌, ℕ, ◌+◌, Bool, true, not, if◌then◌else◌, List, [], ◌∷◌, ◌++◌, Option, Some, None, ◌&&◌, ◌||◌, filter, is_some, codes, map}
+use Rattle.std.specs.List.{AllByRecursion, list_any}
 use Rattle.std.specs.declared.cmp.Ordering.{Ordering}
 use Rattle.cat_model.specs.Keys.{pair_cmp, same_text, is_empty}
 use Rattle.cat_model.specs.Tables.{put, same_found}
 use Rattle.cat_model.specs.Same.{alike_nodes, alike_services, alike_checks}
 use Rattle.cat_model.specs.Catalog.{Catalog, node_at, service_at, check_at, service_key, check_key}
+use Rattle.cat_model.specs.Machine.{apply}
 use Rattle.cat_model.specs.declared.row.NodeRow.{NodeRow}
 use Rattle.cat_model.specs.declared.row.ServiceRow.{ServiceRow}
 use Rattle.cat_model.specs.declared.row.CheckRow.{CheckRow}
@@ -39,19 +41,15 @@ new_service s = record { id = s.id; name = s.name; tags = s.tags; address = s.ad
 abbrev pub new_check : CheckRow → NewCheck
 new_check c = record { id = c.id; name = c.name; status = c.status; notes = c.notes; output = c.output; service = c.service }
 
--- the check that each agent has of its own node
-abbrev pub is_serf : CheckRow → Bool
-is_serf c = same_text c.id (codes "serfHealth")
-
--- a local row that the catalog lacks, or has otherwise
+-- the catalog's row differs from the local one, or is missing
 abbrev pub lacks_node : Option NodeRow → NodeRow → Bool
-lacks_node remote n = not (same_found alike_nodes (Some n) remote)
+lacks_node remote n = not (same_found alike_nodes remote (Some n))
 
 abbrev pub lacks_service : List ServiceRow → ServiceRow → Bool
-lacks_service remote s = not (same_found alike_services (Some s) (service_at (s.node, s.id) remote))
+lacks_service remote s = not (same_found alike_services (service_at (s.node, s.id) remote) (Some s))
 
 abbrev pub lacks_check : List CheckRow → CheckRow → Bool
-lacks_check remote c = not (same_found alike_checks (Some c) (check_at (c.node, c.id) remote))
+lacks_check remote c = not (same_found alike_checks (check_at (c.node, c.id) remote) (Some c))
 
 -- a catalog row that is not local
 abbrev pub is_alien_service : List ServiceRow → ServiceRow → Bool
@@ -71,9 +69,20 @@ registers_service n s = Register n.node n.address (Some (new_service s)) []
 abbrev pub registers_checks : NodeRow → List CheckRow → Command
 registers_checks n checks = Register n.node n.address None (map new_check checks)
 
--- one Register with the node and its own check, where either is missing or different
+-- the check that each agent has of its own node
+abbrev pub serf_id : List ℕ
+serf_id = codes "serfHealth"
+
+abbrev pub is_serf : CheckRow → Bool
+is_serf c = same_text c.id serf_id
+
+abbrev pub listed : Option CheckRow → List CheckRow
+listed None = []
+listed (Some c) = c ∷ []
+
+-- one Register with the node and that check, where either is missing or different
 abbrev pub node_plan : NodeRow → List CheckRow → Remote → List Command
-node_plan n serf remote = if not (lacks_node remote.node n) && is_empty (filter (lacks_check remote.checks) serf) then [] else registers_checks n serf ∷ []
+node_plan n serf remote = if lacks_node remote.node n || list_any (lacks_check remote.checks) serf then registers_checks n serf ∷ [] else []
 
 abbrev pub services_in_order : List ServiceRow → List ServiceRow
 services_in_order = in_order pair_cmp service_key
@@ -81,16 +90,12 @@ services_in_order = in_order pair_cmp service_key
 abbrev pub checks_in_order : List CheckRow → List CheckRow
 checks_in_order = in_order pair_cmp check_key
 
--- the agent's own node's check, and the other local checks
-abbrev pub serf_checks : Local → List CheckRow
-serf_checks local = filter is_serf (checks_in_order local.checks)
-
 abbrev pub other_checks : Local → List CheckRow
 other_checks local = filter (λ c. not (is_serf c)) (checks_in_order local.checks)
 
 unfoldable pub plan_of : NodeRow → Local → Remote → List Command
 plan_of n local remote =
-    node_plan n (serf_checks local) remote
+    node_plan n (listed (check_at (n.node, serf_id) local.checks)) remote
     ++ map (registers_service n) (filter (lacks_service remote.services) (services_in_order local.services))
     ++ map (λ c. registers_checks n (c ∷ [])) (filter (lacks_check remote.checks) (other_checks local))
     ++ map (λ s. Deregister n.node s.id []) (filter (is_alien_service local.services) (services_in_order remote.services))
@@ -110,8 +115,35 @@ pub record HasRemote (name : List ℕ) (remote : Remote) (k : Catalog) : Type 0 
   pub services : remote.services ≡ filter (λ s. same_text s.node name) k.services
   pub checks : remote.checks ≡ filter (λ c. same_text c.node name) k.checks
 
--- Synced: for each ID the catalog has just the local row, create and modify aside.
+-- Synced: of each ID the catalog and the agent have rows that are alike, or both have none.
 pub record Synced (n : NodeRow) (local : Local) (k : Catalog) : Type 0 where
-  pub node : same_found alike_nodes (Some n) (node_at n.node k.nodes) ≡ true
-  pub services : (id : List ℕ) → same_found alike_services (service_at (n.node, id) local.services) (service_at (n.node, id) k.services) ≡ true
-  pub checks : (id : List ℕ) → same_found alike_checks (check_at (n.node, id) local.checks) (check_at (n.node, id) k.checks) ≡ true
+  pub node : same_found alike_nodes (node_at n.node k.nodes) (Some n) ≡ true
+  pub services : (id : List ℕ) → same_found alike_services (service_at (n.node, id) k.services) (service_at (n.node, id) local.services) ≡ true
+  pub checks : (id : List ℕ) → same_found alike_checks (check_at (n.node, id) k.checks) (check_at (n.node, id) local.checks) ≡ true
+
+-- the catalog after these commands, of which the first is at position i
+unfoldable pub all_applied : ℕ → List Command → Catalog → Catalog
+all_applied i [] k = k
+all_applied i (c ∷ cs) k = all_applied (i + 1) cs (apply i c k).0
+
+-- Rows that a sync can make equal: all are of one node, no ID is empty, each local check is the node's own or of a local
+-- service, and the agent's own check is the node's.
+pub record IsSyncable (n : NodeRow) (local : Local) (remote : Remote) : Type 0 where
+  pub services : AllByRecursion (λ s. (s.node ≡ n.node) × (s.id ≢ [])) local.services
+  pub checks : AllByRecursion (λ c. (c.node ≡ n.node) × (c.id ≢ [])) local.checks
+  pub of_service : AllByRecursion (λ c. is_empty c.service || is_some (service_at (n.node, c.service) local.services) ≡ true) local.checks
+  pub serf : AllByRecursion (λ c. is_serf c ≡ true → c.service ≡ []) local.checks
+  pub remote_services : AllByRecursion (λ s. s.id ≢ []) remote.services
+  pub remote_checks : AllByRecursion (λ c. c.id ≢ []) remote.checks
+
+-- The sync law. The plan, applied to a catalog with the remote rows, makes it synced, and it is empty where that was synced already, and only there.
+pub record SyncLaw (i : ℕ) (n : NodeRow) (local : Local) (remote : Remote) (k : Catalog) : Type 0 where
+  pub makes : Synced n local (all_applied i (plan local remote) k)
+  pub only : plan local remote ≡ [] → Synced n local k
+  pub where_synced : Synced n local k → plan local remote ≡ []
+
+-- Taking tags over changes no node, no check and no ID: what a sync can make equal, it can make equal after it.
+pub record MergeLaw (n : NodeRow) (local : Local) (remote : Remote) : Type 0 where
+  pub node : (merged local remote).node ≡ local.node
+  pub checks : (merged local remote).checks ≡ local.checks
+  pub syncable : IsSyncable n local remote → IsSyncable n (merged local remote) remote

@@ -1,6 +1,6 @@
 //! Laws of the definitions, each the contract of a function with an empty body.
 
-ghost use Rattle.std.specs.Prelude.{List, [], ◌∷◌, ℕ, ◌+◌, ◌++◌, length};
+ghost use Rattle.std.specs.Prelude.{◌≡◌, List, [], ◌∷◌, Some, ℕ, ◌+◌, ◌++◌, length};
 ghost use Rattle.cat_model.specs.declared.query.Query.{Query};
 ghost use Rattle.cat_model.specs.declared.command.Command.{Command};
 ghost use Rattle.cat_model.specs.declared.command.Entry.{Entry};
@@ -13,6 +13,10 @@ ghost use Rattle.cat_model.specs.Channels.{CoveringLaw, Reaches};
 ghost use Rattle.cat_model.specs.Reach.{reaches, ReadsLaw, HitLaw};
 ghost use Rattle.cat_model.specs.declared.query.Chan.{Chan};
 ghost use Rattle.cat_model.specs.Views.{Kept, StandsFor, ViewLaw, NamesAfter, kept_after, nothing_kept};
+ghost use Rattle.cat_model.specs.Syncs.{HasRemote, IsSyncable, SyncLaw, MergeLaw};
+ghost use Rattle.cat_model.specs.declared.row.NodeRow.{NodeRow};
+ghost use Rattle.cat_model.specs.declared.fired.Local.{Local};
+ghost use Rattle.cat_model.specs.declared.fired.Remote.{Remote};
 ghost use Rattle.cat_model.specs.Kv.{operate};
 ghost use Rattle.cat_model.specs.Locks.{LockLaw, IfDone};
 ghost use Rattle.cat_model.specs.declared.row.KvRow.{KvRow};
@@ -94,4 +98,15 @@ pub fn first_view_law()
 /// position, and the keys that it removes get tombstones.
 pub fn view_step_law()
     ensures { (kept : Kept) (log : List Command) (command : Command) (names : List (List ℕ × ℕ)) → StandsFor kept log → NamesAfter (length log + 1) command kept names → StandsFor (kept_after (length log + 1) command names kept) (log ++ command ∷ []) }
+{}
+
+/// The plan of a sync, applied to a catalog with the remote rows, makes it synced. It is empty where the catalog was
+/// synced already, and only there.
+pub fn sync_law()
+    ensures { (position : ℕ) (node : NodeRow) (local : Local) (remote : Remote) (before : Catalog) → local.node ≡ Some node → HasRemote node.node remote before → InOrder before → IsSyncable node local remote → SyncLaw position node local remote before }
+{}
+
+/// The tags that an agent takes over from the catalog leave its rows such that the sync law speaks of them.
+pub fn merge_law()
+    ensures { (node : NodeRow) (local : Local) (remote : Remote) → MergeLaw node local remote }
 {}
