@@ -7,7 +7,7 @@ use Rattle.cat_model.specs.declared.command.Entry.{Entry}
 use Rattle.raft_model.specs.Log.{Log, term_at, merged, accepted}
 use Rattle.std.proofs.Math.Seq.{take-add}
 use Rattle.std.proofs.lemmas.Bool.{cases_lt}
-use Rattle.raft_model.specs.History.{Follows}
+use Rattle.raft_model.proofs.History.{Follows}
 use Rattle.raft_model.proofs.Election.{at_eq}
 
 -- same term at the same index, same front

@@ -6,9 +6,10 @@ use Rattle.std.proofs.lemmas.List.{length-take, take-append-le, length_push}
 use Rattle.raft_model.specs.Quorum.{Servers}
 use Rattle.cat_model.specs.declared.command.Entry.{Entry}
 use Rattle.raft_model.specs.Log.{Log, term_at, last_term, IsUpToDate}
-use Rattle.raft_model.specs.History.{History, Follower, Candidate, Leader, put, put₂, Has, Follows, AllBegin, LedgersGrow, AcksLast, Sound}
 use Rattle.raft_model.proofs.Logs.{agree_below, agree_length, agree_term, front_take}
 use Rattle.raft_model.proofs.Election.{at_eq, at_put, at_put₂, put_up, put_same, put_other}
+use Rattle.raft_model.proofs.History.{History, put, put₂, Has, Follows, AllBegin, LedgersGrow, AcksLast, Sound}
+use Rattle.cat_model.specs.declared.reply.Role.TheVariants.{Follower, Candidate, Leader}
 use Rattle.raft_model.proofs.Matching.{grown, grows_append, ledger_bound}
 
 agree_zero : (y z : Log) → take (length y) y ≡ take (length y) z → z ≡ [] → length y ≤ 0

@@ -4,8 +4,8 @@ use Rattle.std.proofs.lemmas.Bool.{cases_lt}
 use Rattle.std.proofs.lemmas.List.{take-take, take_all, length-take, take-append-le, take_at, length_push}
 use Rattle.cat_model.specs.declared.command.Entry.{Entry}
 use Rattle.raft_model.specs.Log.{Log, term_at}
-use Rattle.raft_model.specs.History.{put, put₂, Has, Follows, LedgersGrow, LogsMatch}
 use Rattle.raft_model.proofs.Logs.{agree_length, term_take, agree_term, front_take}
+use Rattle.raft_model.proofs.History.{put, put₂, Has, Follows, LedgersGrow, LogsMatch}
 use Rattle.raft_model.proofs.Election.{at_eq, put_up, put_same}
 
 -- each ledger goes on
@@ -31,7 +31,7 @@ follows_take ledger x m f n l =
     let lx : n ≤ length x = omega (arith, length-take m x) in
     take-take n m x ln ∙ f n lx ∙ ap (λ t. take n (ledger t)) (sym (term_take n m x ln))
 
-term_push : (x : Log) (e : Entry) → term_at (suc (length x)) (x ++ e ∷ []) ≡ e.term
+pub term_push : (x : Log) (e : Entry) → term_at (suc (length x)) (x ++ e ∷ []) ≡ e.term
 term_push [] e = refl
 term_push (a ∷ x) e = term_push x e
 

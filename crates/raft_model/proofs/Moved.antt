@@ -4,11 +4,12 @@ use Rattle.std.proofs.lemmas.List.{take_all, length-take}
 use Rattle.raft_model.specs.Quorum.{Servers}
 use Rattle.cat_model.specs.declared.command.Entry.{Entry}
 use Rattle.raft_model.specs.Log.{Log, term_at, last_term, accepted}
-use Rattle.raft_model.specs.History.{History, Follower, Candidate, Leader, put₂, IsCommitted, Sound, rise, rest, stand, grant, win, append, accept, agree, hear, probe}
-use Rattle.raft_model.specs.World.{GoesOn}
 use Rattle.raft_model.proofs.Logs.{term_take}
 use Rattle.raft_model.proofs.Election.{at_put, at_put₂, put_up, put_other}
 use Rattle.raft_model.proofs.Matching.{grows_append, grows_win}
+use Rattle.raft_model.proofs.History.{History, put₂, IsCommitted, Sound, rise, rest, stand, grant, win, append, accept, agree, hear, probe}
+use Rattle.cat_model.specs.declared.reply.Role.TheVariants.{Follower, Candidate, Leader}
+use Rattle.raft_model.proofs.Sound.{GoesOn}
 use Rattle.raft_model.proofs.Moves.{agreed_extends}
 
 put₂_other : {A : Type 0} (f : ℕ → ℕ → A) (i k : ℕ) (x : A) (j l : ℕ) → j ≢ i → put₂ f i k x j l ≡ f j l

@@ -4,7 +4,6 @@ use Rattle.std.proofs.lemmas.List.{take-take, take_all, length-take, length-drop
 use Rattle.raft_model.specs.Quorum.{Servers, IsMajority}
 use Rattle.cat_model.specs.declared.command.Entry.{Entry}
 use Rattle.raft_model.specs.Log.{Log, term_at, last_term, accepted, IsUpToDate}
-use Rattle.raft_model.specs.History.{History, Follower, Candidate, Leader, put, put₂, Has, Follows, IsCommitted, Sound, rise, rest, stand, grant, win, append, accept, agree, hear, probe, IsNewNumber, count_number}
 use Rattle.raft_model.proofs.Logs.{agree_below, term_take}
 use Rattle.raft_model.proofs.Election.{at_put, at_put₂, put_up, put_same, put_other, votes_rise, votes_grant, votes_win, same_leader}
 use Rattle.raft_model.proofs.Accepting.{Accepts, accepts}
@@ -12,6 +11,8 @@ use Rattle.raft_model.proofs.Matching.{Grows, has_grown, follows_take, grows_app
 use Rattle.raft_model.proofs.Acks.{acks_rise, acks_rest, acks_stand, acks_grant, acks_win, acks_append, acks_accept}
 use Rattle.raft_model.proofs.Roles.{roles_rise, roles_rest, roles_step_down, roles_stand, roles_grant, roles_win, roles_append}
 use Rattle.raft_model.proofs.Numbers.{numbers_rise, numbers_role, numbers_win, numbers_append}
+use Rattle.raft_model.proofs.History.{History, put, put₂, Has, Follows, IsCommitted, Sound, rise, rest, stand, grant, win, append, accept, agree, hear, probe, IsNewNumber, count_number}
+use Rattle.cat_model.specs.declared.reply.Role.TheVariants.{Follower, Candidate, Leader}
 use Rattle.raft_model.proofs.Agreement.{committed_grown, committed_agree}
 
 abbrev pub IsAgreed : ℕ → (ℕ → Log) → (ℕ → Log) → (ℕ → ℕ → ℕ) → Log → Type 0

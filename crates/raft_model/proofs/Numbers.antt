@@ -4,7 +4,9 @@ use Rattle.std.proofs.lemmas.Bool.{cases_lt}
 use Rattle.std.proofs.lemmas.List.{take-append-le, length_push}
 use Rattle.cat_model.specs.declared.command.Entry.{Entry}
 use Rattle.raft_model.specs.Log.{Log, number_at}
-use Rattle.raft_model.specs.History.{History, Role, Follower, Leader, put, NumbersApart, IsNewNumber, Sound}
+use Rattle.raft_model.proofs.History.{History, put, NumbersApart, IsNewNumber, Sound}
+use Rattle.cat_model.specs.declared.reply.Role.{Role}
+use Rattle.cat_model.specs.declared.reply.Role.TheVariants.{Follower, Leader}
 use Rattle.raft_model.proofs.Election.{at_eq, at_put}
 
 pub number_take : (n m : ℕ) (x : Log) → n ≤ m → number_at n (take m x) ≡ number_at n x

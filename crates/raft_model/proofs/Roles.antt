@@ -2,7 +2,9 @@
 use Rattle.std.proofs.Common.{◌≡◌, ◌≢◌, ℕ, ◌<◌, ◌≤◌, cond, ◌⊎◌, inl, inr, Option, Some, None, [], ◌∷◌, ◌++◌, sym, ◌∙◌, ap, subst, arith}
 use Rattle.cat_model.specs.declared.command.Entry.{Entry}
 use Rattle.raft_model.specs.Log.{Log}
-use Rattle.raft_model.specs.History.{Role, Follower, Candidate, Leader, put, put₂, RolesAreTrue}
+use Rattle.cat_model.specs.declared.reply.Role.{Role}
+use Rattle.cat_model.specs.declared.reply.Role.TheVariants.{Follower, Candidate, Leader}
+use Rattle.raft_model.proofs.History.{put, put₂, RolesAreTrue}
 use Rattle.raft_model.proofs.Election.{at_eq, at_put, at_put₂, put_up, put_same, put_other}
 
 module _ (terms : ℕ → ℕ) (votes : ℕ → ℕ → Option ℕ) (logs : ℕ → Log) (roles : ℕ → Role) (stood : ℕ → ℕ → Log) (leaders : ℕ → Option ℕ) (ledger : ℕ → Log) (r : RolesAreTrue terms votes logs roles stood leaders ledger) where

@@ -1,14 +1,11 @@
 -- What a cluster has done so far: each server's kept values, and what was true at its elections. The ghost
 -- part (votes of past terms, stood, leaders, first, ledger, electors, acks) is read by no server.
 use Rattle.std.specs.Prelude.{◌≡◌, ◌≢◌, ℕ, suc, ◌+◌, ◌<◌, ◌≤◌, ◌==◌, nat_le, max, ◌⊎◌, Bool, true, false, [], ◌∷◌, ◌++◌, length, take, if◌then◌else◌, Option, Some, None}
+use Rattle.cat_model.specs.declared.reply.Role.{Role}
+use Rattle.cat_model.specs.declared.reply.Role.TheVariants.{Follower, Candidate, Leader}
 use Rattle.raft_model.specs.Quorum.{Servers, IsMajority}
 use Rattle.cat_model.specs.declared.command.Entry.{Entry}
 use Rattle.raft_model.specs.Log.{Log, term_at, number_at, accepted}
-
-pub data Role : Type 0 where
-  Follower : Role
-  Candidate : Role
-  Leader : Role
 
 -- a function with another value at one place
 abbrev pub put : {A : Type 0} → (ℕ → A) → ℕ → A → ℕ → A
