@@ -129,7 +129,7 @@ keep term vote log = record { term = term; vote = vote; log = log }
 keep_vote : (term term' : ℕ) (vote vote' : Option ℕ) (log : Log) → term' ≡ term → vote' ≡ vote → keep term vote log ≡ keep term' vote' log
 keep_vote term term' vote vote' log e f = ap (λ t. keep t vote log) (sym e) ∙ ap (λ v. keep term' v log) (sym f)
 
-changed_some : (change : Kept → Kept) (old new : Option Kept) (kept : Kept) → new ≡ changed change old → old ≡ Some kept → new ≡ Some (change kept)
+pub changed_some : (change : Kept → Kept) (old new : Option Kept) (kept : Kept) → new ≡ changed change old → old ≡ Some kept → new ≡ Some (change kept)
 changed_some change old new kept e f = e ∙ ap (changed change) f
 
 vote_saved : (old new : Node) (before after : Store) → before.contents ≡ Some (kept_of old) → VoteSaved old new before after → after.contents ≡ Some (half_kept old new)

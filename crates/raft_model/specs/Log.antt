@@ -1,10 +1,17 @@
 -- Logs. Indexes start at 1, and index 0 has term 0.
-use Rattle.std.specs.Prelude.{◌≡◌, ℕ, zero, suc, ◌<◌, ◌≤◌, ◌==◌, List, [], ◌∷◌, ◌++◌, length, take, drop, if◌then◌else◌}
+use Rattle.std.specs.Prelude.{◌≡◌, ℕ, zero, suc, ◌<◌, ◌≤◌, ◌==◌, List, [], ◌∷◌, ◌++◌, length, take, drop, if◌then◌else◌, Option, Some, None}
 use Rattle.cat_model.specs.declared.command.Command.TheVariants.{Noop}
 use Rattle.cat_model.specs.declared.command.Entry.{Entry}
 
 abbrev pub Log : Type 0
 Log = List Entry
+
+-- the entry at index n
+abbrev pub entry_at : ℕ → Log → Option Entry
+entry_at zero log = None
+entry_at (suc n) [] = None
+entry_at (suc zero) (e ∷ es) = Some e
+entry_at (suc (suc n)) (e ∷ es) = entry_at (suc n) es
 
 -- the term at index n, and 0 at index 0 and past the end
 abbrev pub term_at : ℕ → Log → ℕ
