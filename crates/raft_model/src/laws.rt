@@ -1,11 +1,52 @@
-//! Laws of the definitions, each the contract of a function with an empty body.
+//! Laws of the definitions, each the contract of a function with an empty body. They hold of each world that is
+//! reached from empty stores, or from the stores of an earlier run, whatever is lost, repeated, reordered or
+//! restarted, and whichever store calls fail.
 
-ghost use Rattle.std.specs.Prelude.{◌≡◌, ℕ, length};
+ghost use Rattle.std.specs.Prelude.{◌≡◌, ◌≤◌, ℕ, length, take, false};
+ghost use Rattle.cat_model.specs.declared.command.Entry.{Entry};
+ghost use Rattle.raft_model.specs.Log.{entry_at, last_term};
 ghost use Rattle.raft_model.specs.Node.{Node};
-ghost use Rattle.raft_model.specs.World.{World};
-ghost use Rattle.raft_model.specs.Step.{NodeStep};
+ghost use Rattle.raft_model.specs.World.{World, Move, WorldStep, Reaches, IsReached, IsServer, Agrees};
+ghost use Rattle.raft_model.specs.Facts.{IsLeading, IsReady, IsPlaced, ShowsAgreed, StandsOnce, next_round};
 
-/// Nothing.
-pub fn nothing()
-    ensures { (w w' : World) → w ≡ w' → w ≡ w' }
+/// Agreement: each server has committed a front of the agreed log.
+#[tactic(auto, using(crate::proofs::Theorems::agrees))]
+pub fn servers_agree()
+    ensures { (w : World) → IsReached w → Agrees w }
+{}
+
+/// No step shortens or changes the agreed log.
+#[tactic(auto, using(crate::proofs::Theorems::grows))]
+pub fn agreed_only_grows()
+    ensures { (w w' : World) (move : Move) → IsReached w → WorldStep w move w' → take (length w.agreed) w'.agreed ≡ w.agreed }
+{}
+
+/// Nor do many steps.
+#[tactic(auto, using(crate::proofs::Theorems::grows_far))]
+pub fn agreed_only_grows_on()
+    ensures { (w w' : World) → IsReached w → Reaches w w' → take (length w.agreed) w'.agreed ≡ w.agreed }
+{}
+
+/// A confirmed round shows all that was agreed when it was begun, where its leader had committed an entry of its
+/// own term.
+#[tactic(auto, using(crate::proofs::Theorems::shows))]
+pub fn reads_are_fresh()
+    ensures { (w : World) → IsReached w → (i : ℕ) (n : Node) → IsServer w i n → IsReady n → ShowsAgreed w (next_round n) }
+{}
+
+/// An entry of a running server's log, as one that it has just been given, keeps its place.
+#[tactic(auto, using(crate::proofs::Theorems::placed))]
+pub fn entries_keep_their_places()
+    ensures { (w : World) → IsReached w → (i : ℕ) (n : Node) → IsServer w i n → n.halted ≡ false → (m : ℕ) (e : Entry) → entry_at m n.log ≡ Some e → IsPlaced w m e }
+{}
+
+/// An entry of one term with a number other than 0 stands at one index wherever it stands.
+pub fn numbers_stand_once()
+    ensures { (w w' : World) → IsReached w → Reaches w w' → StandsOnce w w' }
+{}
+
+/// The log of a leader whose term is not below that of the last agreed entry begins with the agreed log.
+#[tactic(auto, using(crate::proofs::Theorems::begins))]
+pub fn leaders_begin_with_agreed()
+    ensures { (w : World) → IsReached w → (i : ℕ) (n : Node) → IsServer w i n → IsLeading n → last_term w.agreed ≤ n.term → take (length w.agreed) n.log ≡ w.agreed }
 {}
