@@ -14,7 +14,7 @@ use Rattle.raft_model.proofs.Accepting.{accepts, match_logs}
 use Rattle.raft_model.proofs.Agreement.{majority_more}
 use Rattle.raft_model.proofs.Moves.{sound_rise, sound_rest, sound_grant, sound_append, sound_win, sound_accept, sound_agree, sound_stand, sound_hear, no_leader, committed_is_agreed}
 use Rattle.raft_model.proofs.Going.{goes_nowhere, goes_further, true_stays}
-use Rattle.raft_model.proofs.History.{Follows, History, put, put₂, Has, IsCommitted, Sound, rise, rest, stand, grant, win, append, accept, agree, hear, IsNewNumber}
+use Rattle.raft_model.proofs.History.{Follows, History, put, put₂, Has, IsCommitted, Sound, rise, rest, stand, grant, win, append, accept, agree, hear, IsNewNumber, MayFollow}
 use Rattle.cat_model.specs.declared.reply.Role.{Role}
 use Rattle.cat_model.specs.declared.reply.Role.TheVariants.{Follower, Candidate, Leader}
 use Rattle.raft_model.specs.Rules.{candidate, accepts as node_accepts, append_to, append_all, risen, has_index, committed_upto, with_commit, appended, leading, leads, counted, stands, ask_all, may_vote, is_up_to_date, asked, voted, matches, keeps_front, is_refused, offered, after_yes, agreed_to, declined, of_own_term, of_lower_term, term_of, received}
@@ -174,11 +174,11 @@ module _ (servers : ℕ) (h : History) (s : Sound servers h) (i : ℕ) where
 
 
   -- 8
-  pub came_appended : (n : Node) (e : Entry) → Runs servers h i n → n.role ≡ Leader → e.term ≡ n.term → IsNewNumber h i e.number → Came servers h i (quiet (record n { log = n.log ++ e ∷ [] }))
-  came_appended n e r lead et fresh = record {
+  pub came_appended : (n : Node) (e : Entry) → Runs servers h i n → n.role ≡ Leader → e.term ≡ n.term → IsNewNumber h e.number → MayFollow n.log e → Came servers h i (quiet (record n { log = n.log ++ e ∷ [] }))
+  came_appended n e r lead et fresh may = record {
     after = append i e h;
     goes = goes_append servers h s i e (r.role ∙ lead);
-    sound = sound_append servers h s i e (r.role ∙ lead) (et ∙ sym r.term) fresh;
+    sound = sound_append servers h s i e (r.role ∙ lead) (et ∙ sym r.term) fresh (subst (λ z. MayFollow z e) (sym r.log) may);
     grew = inl refl;
     told = tt;
     runs = record {
@@ -225,15 +225,15 @@ single_commits n (suc k) one id l e =
 
 module _ (servers : ℕ) (h : History) (s : Sound servers h) (i : ℕ) where
   -- a leader's new entry, which a single server commits at once
-  pub came_new : (n : Node) (e : Entry) → Runs servers h i n → n.role ≡ Leader → e.term ≡ n.term → IsNewNumber h i e.number → Came servers h i (quiet (appended n e))
-  came_new n e r lead et fresh =
+  pub came_new : (n : Node) (e : Entry) → Runs servers h i n → n.role ≡ Leader → e.term ≡ n.term → IsNewNumber h e.number → MayFollow n.log e → Came servers h i (quiet (appended n e))
+  came_new n e r lead et fresh may =
       at_bool (λ b. Came servers h i (quiet (cond b (record new { commit = last new }) new))) (n.servers == 1) (λ q. single (eq_tells n.servers 1 q)) (λ _. whole)
     where
       new : Node
       new = record n { log = n.log ++ e ∷ [] }
 
       whole : Came servers h i (quiet (record n { log = n.log ++ e ∷ [] }))
-      whole = came_appended servers h s i n e r lead et fresh
+      whole = came_appended servers h s i n e r lead et fresh may
 
       single : n.servers ≡ 1 → Came servers h i (quiet (record n { log = n.log ++ e ∷ []; commit = length (n.log ++ e ∷ []) }))
       single one =

@@ -4,8 +4,9 @@ use Rattle.std.specs.Prelude.{◌≡◌, ◌≢◌, ℕ, suc, ◌+◌, ◌<◌, 
 use Rattle.cat_model.specs.declared.reply.Role.{Role}
 use Rattle.cat_model.specs.declared.reply.Role.TheVariants.{Follower, Candidate, Leader}
 use Rattle.raft_model.specs.Quorum.{Servers, IsMajority}
+use Rattle.cat_model.specs.declared.command.Command.TheVariants.{Noop}
 use Rattle.cat_model.specs.declared.command.Entry.{Entry}
-use Rattle.raft_model.specs.Log.{Log, term_at, number_at, accepted}
+use Rattle.raft_model.specs.Log.{Log, term_at, number_at, accepted, OpensWithNoop}
 
 -- a function with another value at one place
 abbrev pub put : {A : Type 0} → (ℕ → A) → ℕ → A → ℕ → A
@@ -27,6 +28,7 @@ pub record History : Type 0 where
   pub acks : ℕ → ℕ → ℕ  -- server, term: the greatest index that it acknowledged there
   pub heard : ℕ → ℕ → ℕ  -- server, term: the greatest round that it acknowledged there
   pub probed : ℕ → ℕ  -- term: the greatest round that its leader began
+  pub spent : ℕ → Bool  -- the terms that an earlier run led
   pub greatest : ℕ  -- the greatest number proposed
   pub agreed : Log
 
@@ -92,14 +94,21 @@ pub record RoundsAreHeard (terms : ℕ → ℕ) (leaders : ℕ → Option ℕ) (
   pub none_yet : (i t : ℕ) → terms i < t → heard i t ≡ 0
   pub unled : (t : ℕ) → leaders t ≡ None → probed t ≡ 0
 
--- two entries of one term have not the same number, but 0
-pub record NumbersApart (terms : ℕ → ℕ) (roles : ℕ → Role) (first ledger : ℕ → Log) (greatest : ℕ) : Type 0 where
+-- Two entries of one term have not the same number, but 0. Of the terms that are not spent, no two entries have.
+pub record NumbersApart (terms : ℕ → ℕ) (roles : ℕ → Role) (leaders : ℕ → Option ℕ) (first ledger : ℕ → Log) (spent : ℕ → Bool) (greatest : ℕ) : Type 0 where
   pub apart : (t m k : ℕ) → length (first t) < m → m < k → k ≤ length (ledger t) → number_at m (ledger t) ≡ number_at k (ledger t) → number_at m (ledger t) ≡ 0
-  pub known : (c m : ℕ) → roles c ≡ Leader → length (first (terms c)) < m → m ≤ length (ledger (terms c)) → number_at m (ledger (terms c)) ≤ greatest
+  pub known : (t m : ℕ) → spent t ≡ false → length (first t) < m → m ≤ length (ledger t) → number_at m (ledger t) ≤ greatest
+  pub across : (t u m k : ℕ) → t ≢ u → spent t ≡ false → spent u ≡ false → length (first t) < m → m ≤ length (ledger t) → length (first u) < k → k ≤ length (ledger u) → number_at m (ledger t) ≡ number_at k (ledger u) → number_at m (ledger t) ≡ 0
+  pub leading : (c : ℕ) → roles c ≡ Leader → spent (terms c) ≡ false
+  pub unled : (t : ℕ) → leaders t ≡ None → spent t ≡ false
 
 -- a number that a leader may give an entry
-abbrev pub IsNewNumber : History → ℕ → ℕ → Type 0
-IsNewNumber h c number = (number ≡ 0) ⊎ (((m : ℕ) → length (h.first (h.terms c)) < m → m ≤ length (h.ledger (h.terms c)) → number_at m (h.ledger (h.terms c)) < number) × (number ≤ h.greatest))
+abbrev pub IsNewNumber : History → ℕ → Type 0
+IsNewNumber h number = (number ≡ 0) ⊎ (((t m : ℕ) → h.spent t ≡ false → length (h.first t) < m → m ≤ length (h.ledger t) → number_at m (h.ledger t) < number) × (number ≤ h.greatest))
+
+-- an entry that may come behind this log: the first is a Noop with number 0
+abbrev pub MayFollow : Log → Entry → Type 0
+MayFollow log e = (0 < length log) ⊎ ((e.number ≡ 0) × (e.command ≡ Noop))
 
 pub record Sound (servers : ℕ) (h : History) : Type 0 where
   pub votes : VotesAreKept servers h.terms h.votes h.leaders h.electors
@@ -108,10 +117,9 @@ pub record Sound (servers : ℕ) (h : History) : Type 0 where
   pub logs : LogsMatch h.terms h.logs h.stood h.ledger
   pub acks : AcksLast h.terms h.votes h.logs h.roles h.stood h.leaders h.first h.ledger h.electors h.acks
   pub rounds : RoundsAreHeard h.terms h.leaders h.heard h.probed
-  pub numbers : NumbersApart h.terms h.roles h.first h.ledger h.greatest
+  pub numbers : NumbersApart h.terms h.roles h.leaders h.first h.ledger h.spent h.greatest
+  pub opens : (t : ℕ) → OpensWithNoop (h.ledger t)
   pub agreed : (h.agreed ≡ []) ⊎ ((t : ℕ) × IsCommitted servers h.first h.ledger h.acks t (length h.agreed) × Has h.ledger t (length h.agreed) h.agreed)
-
--- The eight moves.
 
 -- a server learns of a higher term
 abbrev pub rise : ℕ → ℕ → History → History

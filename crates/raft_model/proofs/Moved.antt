@@ -33,6 +33,7 @@ module _ (servers : ℕ) (h : History) (s : Sound servers h) where
     terms_up = λ j. put_up h.terms i t j (omega arith);
     first = λ _ _. refl;
     greatest = refl;
+    spent = λ _. refl;
     heard_old = λ _ _ _. refl;
     other_heard = λ _ _ _. refl;
     other_probed = λ _ _. refl;
@@ -56,6 +57,7 @@ module _ (servers : ℕ) (h : History) (s : Sound servers h) where
     terms_up = λ _. omega arith;
     first = λ _ _. refl;
     greatest = refl;
+    spent = λ _. refl;
     heard_old = λ _ _ _. refl;
     other_heard = λ _ _ _. refl;
     other_probed = λ _ _. refl;
@@ -89,6 +91,7 @@ module _ (servers : ℕ) (h : History) (s : Sound servers h) where
     terms_up = λ _. omega arith;
     first = λ _ _. refl;
     greatest = refl;
+    spent = λ _. refl;
     heard_old = λ _ _ _. refl;
     other_heard = λ _ _ _. refl;
     other_probed = λ _ _. refl;
@@ -114,6 +117,7 @@ module _ (servers : ℕ) (h : History) (s : Sound servers h) where
     terms_up = λ _. omega arith;
     first = λ _ _. refl;
     greatest = refl;
+    spent = λ _. refl;
     heard_old = λ _ _ _. refl;
     other_heard = λ _ _ _. refl;
     other_probed = λ _ _. refl;
@@ -138,6 +142,7 @@ module _ (servers : ℕ) (h : History) (s : Sound servers h) where
     terms_up = λ _. omega arith;
     first = λ t l. put_other h.first (h.terms c) (h.logs c) t (λ e. let q = ap length (ap h.ledger e ∙ s.ledgers.none (h.terms c) none) in omega arith);
     greatest = refl;
+    spent = λ _. refl;
     heard_old = λ _ _ _. refl;
     other_heard = λ _ _ _. refl;
     other_probed = λ _ _. refl;
@@ -162,6 +167,7 @@ module _ (servers : ℕ) (h : History) (s : Sound servers h) where
     terms_up = λ _. omega arith;
     first = λ _ _. refl;
     greatest = refl;
+    spent = λ _. refl;
     heard_old = λ _ _ _. refl;
     other_heard = λ _ _ _. refl;
     other_probed = λ _ _. refl;
@@ -186,6 +192,7 @@ module _ (servers : ℕ) (h : History) (s : Sound servers h) where
     terms_up = λ _. omega arith;
     first = λ _ _. refl;
     greatest = refl;
+    spent = λ _. refl;
     heard_old = λ _ _ _. refl;
     other_heard = λ _ _ _. refl;
     other_probed = λ _ _. refl;
@@ -209,6 +216,7 @@ module _ (servers : ℕ) (h : History) (s : Sound servers h) where
     terms_up = λ _. omega arith;
     first = λ _ _. refl;
     greatest = refl;
+    spent = λ _. refl;
     heard_old = λ _ _ _. refl;
     other_heard = λ _ _ _. refl;
     other_probed = λ _ _. refl;
@@ -240,6 +248,7 @@ module _ (servers : ℕ) (h : History) (s : Sound servers h) where
     terms_up = λ _. omega arith;
     first = λ _ _. refl;
     greatest = refl;
+    spent = λ _. refl;
     heard_old = λ j t l. at_put₂ (λ z. z ≡ h.heard j t) h.heard i (h.terms i) (max (h.heard i (h.terms i)) round) j t (λ ej et. let q = ap h.terms ej in absurd (omega arith)) (λ _. refl);
     other_heard = λ j t ne. put₂_other h.heard i (h.terms i) (max (h.heard i (h.terms i)) round) j t ne;
     other_terms = λ _ _. refl;
@@ -261,6 +270,7 @@ module _ (servers : ℕ) (h : History) (s : Sound servers h) where
     terms_up = λ _. omega arith;
     first = λ _ _. refl;
     greatest = refl;
+    spent = λ _. refl;
     heard_old = λ _ _ _. refl;
     other_heard = λ _ _ _. refl;
     probed = λ t. at_put (λ z. h.probed t ≤ z) h.probed (h.terms c) (suc (h.probed (h.terms c))) t (λ e. let q = ap h.probed e in omega arith) (λ _. omega arith);

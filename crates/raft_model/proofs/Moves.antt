@@ -3,7 +3,7 @@ use Rattle.std.proofs.Common.{◌≡◌, ◌≢◌, ℕ, suc, ◌+◌, ◌<◌, 
 use Rattle.std.proofs.lemmas.List.{take-take, take_all, length-take, length-drop}
 use Rattle.raft_model.specs.Quorum.{Servers, IsMajority}
 use Rattle.cat_model.specs.declared.command.Entry.{Entry}
-use Rattle.raft_model.specs.Log.{Log, term_at, last_term, accepted, IsUpToDate}
+use Rattle.raft_model.specs.Log.{Log, term_at, last_term, accepted, IsUpToDate, OpensWithNoop}
 use Rattle.raft_model.proofs.Logs.{agree_below, term_take}
 use Rattle.raft_model.proofs.Election.{at_put, at_put₂, put_up, put_same, put_other, votes_rise, votes_grant, votes_win, same_leader}
 use Rattle.raft_model.proofs.Accepting.{Accepts, accepts}
@@ -11,9 +11,11 @@ use Rattle.raft_model.proofs.Matching.{Grows, has_grown, follows_take, grows_app
 use Rattle.raft_model.proofs.Acks.{acks_rise, acks_rest, acks_stand, acks_grant, acks_win, acks_append, acks_accept}
 use Rattle.raft_model.proofs.Roles.{roles_rise, roles_rest, roles_step_down, roles_stand, roles_grant, roles_win, roles_append}
 use Rattle.raft_model.proofs.Numbers.{numbers_rise, numbers_role, numbers_win, numbers_append}
-use Rattle.raft_model.proofs.History.{History, put, put₂, Has, Follows, IsCommitted, Sound, rise, rest, stand, grant, win, append, accept, agree, hear, probe, IsNewNumber, count_number}
+use Rattle.raft_model.proofs.History.{History, put, put₂, Has, Follows, IsCommitted, Sound, rise, rest, stand, grant, win, append, accept, agree, hear, probe, IsNewNumber, count_number, MayFollow}
 use Rattle.cat_model.specs.declared.reply.Role.TheVariants.{Follower, Candidate, Leader}
 use Rattle.raft_model.proofs.Agreement.{committed_grown, committed_agree}
+use Rattle.raft_model.proofs.Opening.{opens_follows, opens_push}
+use Rattle.raft_model.specs.Rules.{asked, leading, stands}
 
 abbrev pub IsAgreed : ℕ → (ℕ → Log) → (ℕ → Log) → (ℕ → ℕ → ℕ) → Log → Type 0
 IsAgreed servers first ledger acks agreed = (agreed ≡ []) ⊎ ((t : ℕ) × IsCommitted servers first ledger acks t (length agreed) × Has ledger t (length agreed) agreed)
@@ -31,9 +33,10 @@ module _ (servers : ℕ) (h : History) (s : Sound servers h) where
     votes = votes_rise servers h.terms h.votes h.leaders h.electors s.votes i t l;
     roles = roles_rise h.terms h.votes h.logs h.roles h.stood h.leaders h.ledger s.roles i t l;
     ledgers = s.ledgers;
+    opens = s.opens;
     logs = logs_rise h.terms h.logs h.stood h.ledger s.logs i t (omega arith);
     acks = acks_rise servers h s i t l;
-    numbers = numbers_rise h.terms h.roles h.first h.ledger h.greatest s.numbers i t;
+    numbers = numbers_rise h.terms h.roles h.leaders h.first h.ledger h.spent h.greatest s.numbers i t;
     rounds = record { begun = s.rounds.begun; none_yet = λ j u k. let up = put_up h.terms i t j (omega arith) in s.rounds.none_yet j u (omega arith); unled = s.rounds.unled };
     agreed = s.agreed;
   }
@@ -43,9 +46,10 @@ module _ (servers : ℕ) (h : History) (s : Sound servers h) where
     votes = s.votes;
     roles = roles_step_down h.terms h.votes h.logs h.roles h.stood h.leaders h.ledger s.roles i;
     ledgers = s.ledgers;
+    opens = s.opens;
     logs = s.logs;
     acks = acks_rest servers h s i;
-    numbers = numbers_role h.terms h.roles h.first h.ledger h.greatest s.numbers i Follower (λ e. cc e);
+    numbers = numbers_role h.terms h.roles h.leaders h.first h.ledger h.spent h.greatest s.numbers i Follower (λ e. cc e);
     rounds = s.rounds;
     agreed = s.agreed;
   }
@@ -56,6 +60,7 @@ module _ (servers : ℕ) (h : History) (s : Sound servers h) where
     votes = votes_grant servers h.terms h.votes h.leaders h.electors s.votes i c (h.terms i) refl free (inr asked);
     roles = roles_grant h.terms h.votes h.logs h.roles h.stood h.leaders h.ledger s.roles i c free;
     ledgers = s.ledgers;
+    opens = s.opens;
     logs = s.logs;
     acks = acks_grant servers h s i c up;
     numbers = s.numbers;
@@ -63,14 +68,15 @@ module _ (servers : ℕ) (h : History) (s : Sound servers h) where
     agreed = s.agreed;
   }
 
-  pub sound_append : (c : ℕ) (e : Entry) → h.roles c ≡ Leader → e.term ≡ h.terms c → IsNewNumber h c e.number → Sound servers (append c e h)
-  sound_append c e lead et fresh = record {
+  pub sound_append : (c : ℕ) (e : Entry) → h.roles c ≡ Leader → e.term ≡ h.terms c → IsNewNumber h e.number → MayFollow (h.logs c) e → Sound servers (append c e h)
+  sound_append c e lead et fresh may = record {
     votes = s.votes;
     roles = roles_append h.terms h.votes h.logs h.roles h.stood h.leaders h.ledger s.roles c e lead;
     ledgers = ledgers_append h.leaders h.first h.ledger s.ledgers (h.terms c) c e et (s.roles.elected c lead);
     logs = logs_append h.terms h.logs h.stood h.ledger s.logs (h.terms c) c e et refl (s.roles.leading c lead);
     acks = acks_append servers h s c e lead;
-    numbers = numbers_append servers h s c e fresh;
+    numbers = numbers_append servers h s c e lead fresh;
+    opens = λ t. at_put (λ z. OpensWithNoop z) h.ledger (h.terms c) (h.ledger (h.terms c) ++ e ∷ []) t (λ _. opens_push (h.ledger (h.terms c)) e (s.opens (h.terms c)) (subst (λ z. MayFollow z e) (sym (s.roles.leading c lead)) may)) (λ _. s.opens t);
     rounds = s.rounds;
     agreed = agreed_grown servers h.first h.first h.ledger (put h.ledger (h.terms c) (h.ledger (h.terms c) ++ e ∷ [])) h.acks (put₂ h.acks c (h.terms c) (suc (length (h.logs c)))) h.agreed (λ t _. refl) (grows_append h.ledger (h.terms c) e)
         (λ i t. at_put₂ (λ a. h.acks i t ≤ a) h.acks c (h.terms c) (suc (length (h.logs c))) i t (λ ei et. more i t ei et) (λ _. omega arith)) s.agreed;
@@ -97,6 +103,7 @@ module _ (servers : ℕ) (h : History) (s : Sound servers h) where
         logs = logs_win h.terms h.logs h.stood h.ledger s.logs (h.terms c) c nil;
         acks = acks_win servers h s c by none (s.roles.log c stands) for;
         numbers = numbers_win servers h s c none;
+        opens = λ t. at_put (λ z. OpensWithNoop z) h.ledger (h.terms c) (h.logs c) t (λ _. opens_follows h.ledger s.opens (h.logs c) (s.logs.of_logs c)) (λ _. s.opens t);
         rounds = record { begun = s.rounds.begun; none_yet = s.rounds.none_yet; unled = λ t e. at_put (λ z. z ≡ None → h.probed t ≡ 0) h.leaders (h.terms c) (Some c) t (λ _ q. cc q) (λ _ q. s.rounds.unled t q) e };
         agreed = agreed_grown servers h.first (put h.first (h.terms c) (h.logs c)) h.ledger (put h.ledger (h.terms c) (h.logs c)) h.acks (put₂ h.acks c (h.terms c) (length (h.logs c))) h.agreed
             (λ t l. put_other h.first (h.terms c) (h.logs c) t (λ e. some t e nil l)) (grows_win h.ledger (h.terms c) (h.logs c) nil)
@@ -126,9 +133,10 @@ module _ (servers : ℕ) (h : History) (s : Sound servers h) where
             votes = s.votes;
             roles = roles_rest h.terms h.votes h.logs h.roles h.stood h.leaders h.ledger s.roles i x;
             ledgers = s.ledgers;
+            opens = s.opens;
             logs = logs_set h.terms h.logs h.stood h.ledger s.logs i x f.0 f.1;
             acks = acks_accept servers h s i c (prev + k) x lead lk a.keeps a.reaches;
-            numbers = numbers_role h.terms h.roles h.first h.ledger h.greatest s.numbers i Follower (λ e. cc e);
+            numbers = numbers_role h.terms h.roles h.leaders h.first h.ledger h.spent h.greatest s.numbers i Follower (λ e. cc e);
             rounds = s.rounds;
             agreed = agreed_grown servers h.first h.first h.ledger h.ledger h.acks (put₂ h.acks i (h.terms i) (max (h.acks i (h.terms i)) (prev + k))) h.agreed (λ t _. refl) (λ t. take_all (length (h.ledger t)) (h.ledger t) (omega arith))
                 (λ j t. at_put₂ (λ b. h.acks j t ≤ b) h.acks i (h.terms i) (max (h.acks i (h.terms i)) (prev + k)) j t (λ ej et. let p : h.acks j t ≡ h.acks i (h.terms i) = ap (λ z. h.acks z t) ej ∙ ap (h.acks i) et in omega arith) (λ _. omega arith)) s.agreed;
@@ -150,6 +158,7 @@ module _ (servers : ℕ) (h : History) (s : Sound servers h) where
     votes = s.votes;
     roles = s.roles;
     ledgers = s.ledgers;
+    opens = s.opens;
     logs = s.logs;
     acks = s.acks;
     numbers = s.numbers;
@@ -181,9 +190,10 @@ module _ (servers : ℕ) (h : History) (s : Sound servers h) where
     votes = votes_grant servers h.terms h.votes h.leaders h.electors s.votes i i (h.terms i) refl (inl free) (inl refl);
     roles = roles_stand h.terms h.votes h.logs h.roles h.stood h.leaders h.ledger s.roles i un;
     ledgers = s.ledgers;
+    opens = s.opens;
     logs = logs_stand h.terms h.logs h.stood h.ledger s.logs i (h.terms i) young;
     acks = acks_stand servers h s i free;
-    numbers = numbers_role h.terms h.roles h.first h.ledger h.greatest s.numbers i Candidate (λ e. cc e);
+    numbers = numbers_role h.terms h.roles h.leaders h.first h.ledger h.spent h.greatest s.numbers i Candidate (λ e. cc e);
     rounds = s.rounds;
     agreed = s.agreed;
   }
@@ -193,6 +203,7 @@ module _ (servers : ℕ) (h : History) (s : Sound servers h) where
     votes = s.votes;
     roles = s.roles;
     ledgers = s.ledgers;
+    opens = s.opens;
     logs = s.logs;
     acks = s.acks;
     agreed = s.agreed;
@@ -211,6 +222,7 @@ module _ (servers : ℕ) (h : History) (s : Sound servers h) where
     votes = s.votes;
     roles = s.roles;
     ledgers = s.ledgers;
+    opens = s.opens;
     logs = s.logs;
     acks = s.acks;
     agreed = s.agreed;
@@ -227,11 +239,12 @@ module _ (servers : ℕ) (h : History) (s : Sound servers h) where
     votes = s.votes;
     roles = s.roles;
     ledgers = s.ledgers;
+    opens = s.opens;
     logs = s.logs;
     acks = s.acks;
     agreed = s.agreed;
     rounds = s.rounds;
-    numbers = record { apart = s.numbers.apart; known = λ c m e p l. let k = s.numbers.known c m e p l in omega arith };
+    numbers = record { apart = s.numbers.apart; known = λ t m e p l. let k = s.numbers.known t m e p l in omega arith; across = s.numbers.across; leading = s.numbers.leading; unled = s.numbers.unled };
   }
 
 -- a timeout: the next term, with the own vote

@@ -8,7 +8,7 @@ use Rattle.raft_model.proofs.Logs.{agree_length, front_take}
 use Rattle.raft_model.proofs.Moved.{goes_rest}
 use Rattle.raft_model.proofs.Moves.{agreed_grown, sound_rest}
 use Rattle.raft_model.proofs.Saving.{Half, IsTrueInput, half_here, half_kept, half_of, steps}
-use Rattle.raft_model.proofs.Sound.{AllTrue, Fits, GoesOn, Runs, kept_of}
+use Rattle.raft_model.proofs.Sound.{AllTrue, Fits, GoesOn, Runs, kept_of, HasBegun}
 use Rattle.raft_model.proofs.Tests.{at_bool, lt_tells, lt_tells_not}
 use Rattle.raft_model.specs.Log.{Log}
 use Rattle.raft_model.specs.Node.{Done, Kept, Node, Store, committed, quiet}
@@ -18,6 +18,7 @@ use Rattle.raft_model.specs.declared.message.Sent.{Sent}
 use Rattle.std.proofs.lemmas.List.{length-take, take_all}
 use Rattle.std.specs.Prelude.{nat_lt}
 use Rattle.raft_model.specs.World.{longer}
+use Rattle.raft_model.proofs.Beginning.{done_begun}
 
 -- a server has come to this node, and has sent these
 pub record Moves (servers : ℕ) (h : History) (i : ℕ) (n : Node) (sent : List Sent) : Type 0 where
@@ -60,6 +61,7 @@ sound_back servers i h a s g t =
       votes = r.votes;
       roles = r.roles;
       ledgers = r.ledgers;
+      opens = r.opens;
       logs = r.logs;
       acks = r.acks;
       rounds = r.rounds;
@@ -82,6 +84,7 @@ goes_back servers i h a g t =
       probed = r.probed;
       first = r.first;
       greatest = r.greatest;
+      spent = r.spent;
       terms_up = r.terms_up;
       heard_old = r.heard_old;
       other_heard = r.other_heard;
@@ -160,40 +163,40 @@ forgotten_on servers h s i n m store c r b =
       sound = sound_back servers i h b.after s b.goes b.sound;
       told = tt;
       agreed = no_more h (forgets n m store) (record { within = r.commit_within; agrees = r.commit_agrees });
-      fits = inl (c, record { id = r.id; count = r.count; place = r.place; running = r.running; term = b.term; vote = b.vote; log = b.log; role = put_same b.after.roles i Follower; commit_within = r.commit_within; commit_agrees = r.commit_agrees; votes = λ e. cc e; matched = λ e. cc e; next = λ e. cc e; round = λ e. cc e; acked = λ e. cc e; own = λ e. cc e });
+      fits = inl (c, record { id = r.id; count = r.count; place = r.place; running = r.running; term = b.term; vote = b.vote; log = b.log; role = put_same b.after.roles i Follower; commit_within = r.commit_within; commit_agrees = r.commit_agrees; votes = λ e. cc e; matched = λ e. cc e; next = λ e. cc e; round = λ e. cc e; acked = λ e. cc e; own = λ e. cc e }, λ e. cc e);
     }
 
 at_outcome : (servers : ℕ) (h : History) (i : ℕ) (n m : Node) (sent sent' : List Sent) → n ≡ m → sent ≡ sent' → Moves servers h i m sent' → Moves servers h i n sent
 at_outcome servers h i n m sent sent' e f a = subst (λ z. Moves servers h i z sent) (sym e) (subst (λ z. Moves servers h i m z) (sym f) a)
 
 -- a running node's step
-moves_running : (servers : ℕ) (h : History) → Sound servers h → (i : ℕ) (n : Node) (input : Input) (outcome : Outcome) (n' : Node) (sent : List Sent) → n.store.contents ≡ Some (kept_of n) → Runs servers h i n → IsTrueInput h i n input → NodeStep outcome n input n' sent → Moves servers h i n' sent
-moves_running servers h s i n input Works n' sent k r t (between, v, l, e, f) =
-    let d = steps servers h s i n input r t in
+moves_running : (servers : ℕ) (h : History) → Sound servers h → (i : ℕ) (n : Node) (input : Input) (outcome : Outcome) (n' : Node) (sent : List Sent) → n.store.contents ≡ Some (kept_of n) → Runs servers h i n → HasBegun n → IsTrueInput h i n input → NodeStep outcome n input n' sent → Moves servers h i n' sent
+moves_running servers h s i n input Works n' sent k r begun t (between, v, l, e, f) =
+    let d = steps servers h s i n input r begun t in
     let c = log_stored n (done n input).node between n'.store (vote_saved n (done n input).node n.store between k v) l in
     at_outcome servers h i n' (record (done n input).node { store = n'.store }) sent (done n input).sent e f (record {
       after = d.whole.after;
       goes = d.whole.goes;
       sound = d.whole.sound;
-      fits = inl (c, runs_stored servers d.whole.after i (done n input).node n'.store d.whole.runs);
+      fits = inl (c, runs_stored servers d.whole.after i (done n input).node n'.store d.whole.runs, done_begun n input begun);
       agreed = exact h d.whole.after (done n input).node d.whole.grew d.whole.goes.agreed (record { within = d.whole.runs.commit_within; agrees = d.whole.runs.commit_agrees });
       told = d.whole.told;
     })
-moves_running servers h s i n input VoteFails n' sent k r t (saves, c, e, f) =
-    let d = steps servers h s i n input r t in
+moves_running servers h s i n input VoteFails n' sent k r begun t (saves, c, e, f) =
+    let d = steps servers h s i n input r begun t in
     let m : Node = (done n input).node in
     at_outcome servers h i n' (halts n n'.store) sent [] e f (elim c.contents [
       inl q ↦ halted_on servers h s i n n'.store (kept_of n) (q ∙ k) r (half_here servers h s i n r)
     | inr q ↦ halted_on servers h s i n n'.store (half_kept n m) (changed_some (with_vote m.term m.vote) n.store.contents n'.store.contents (kept_of n) q k) r d.half ])
-moves_running servers h s i n input LogFails n' sent k r t (between, v, stores, c, e, f) =
-    let d = steps servers h s i n input r t in
+moves_running servers h s i n input LogFails n' sent k r begun t (between, v, stores, c, e, f) =
+    let d = steps servers h s i n input r begun t in
     let m : Node = (done n input).node in
     let b = vote_saved n m n.store between k v in
     at_outcome servers h i n' (halts n n'.store) sent [] e f (elim c.contents [
       inl q ↦ halted_on servers h s i n n'.store (half_kept n m) (q ∙ b) r d.half
     | inr q ↦ halted_on servers h s i n n'.store (kept_of m) (changed_some (with_log m.log) between.contents n'.store.contents (half_kept n m) q b) r (half_of servers h i (done n input) d.whole) ])
-moves_running servers h s i n input Forgets n' sent k r t (saves, c, stores, e, f) =
-    let d = steps servers h s i n input r t in
+moves_running servers h s i n input Forgets n' sent k r begun t (saves, c, stores, e, f) =
+    let d = steps servers h s i n input r begun t in
     let m : Node = (done n input).node in
     at_outcome servers h i n' (forgets n m n'.store) sent [] e f
     (forgotten_on servers h s i n m n'.store (changed_some (with_vote m.term m.vote) n.store.contents n'.store.contents (kept_of n) c.contents k) r d.half)
@@ -232,7 +235,7 @@ halted_stays LogFails n input n' sent h (between, v, stores, c, e, f) = absurd (
 halted_stays Forgets n input n' sent h (saves, c, stores, e, f) = absurd (saves_none n (done n input) (halted_done n input h) saves)
 
 pub commits_of : (servers : ℕ) (h : History) (i : ℕ) (n : Node) → Fits servers h i n → Commits h n
-commits_of servers h i n (inl (k, r)) = record { within = r.commit_within; agrees = r.commit_agrees }
+commits_of servers h i n (inl (k, r, b)) = record { within = r.commit_within; agrees = r.commit_agrees }
 commits_of servers h i n (inr (e, r)) = record { within = r.commit_within; agrees = r.commit_agrees }
 
 -- a node that is as it was
@@ -241,7 +244,7 @@ still servers h s i n f = record { after = h; goes = goes_nowhere i h; sound = s
 
 -- each step of a node
 pub moves : (servers : ℕ) (h : History) → Sound servers h → (i : ℕ) (n : Node) (input : Input) (outcome : Outcome) (n' : Node) (sent : List Sent) → Fits servers h i n → (Runs servers h i n → IsTrueInput h i n input) → NodeStep outcome n input n' sent → Moves servers h i n' sent
-moves servers h s i n input outcome n' sent (inl (k, r)) t e = moves_running servers h s i n input outcome n' sent k r (t r) e
+moves servers h s i n input outcome n' sent (inl (k, r, b)) t e = moves_running servers h s i n input outcome n' sent k r b (t r) e
 moves servers h s i n input outcome n' sent (inr (halted, r)) t e =
     let q = halted_stays outcome n input n' sent halted e in
     at_outcome servers h i n' n sent [] q.0 q.1 (still servers h s i n (inr (halted, r)))
@@ -258,7 +261,7 @@ pub record Durable (servers : ℕ) (h : History) (i : ℕ) (n : Node) : Type 0 w
   pub log : h.logs i ≡ kept.log
 
 pub durable : (servers : ℕ) (h : History) (i : ℕ) (n : Node) → Fits servers h i n → Durable servers h i n
-durable servers h i n (inl (k, r)) = record { id = r.id; count = r.count; place = r.place; kept = kept_of n; holds = k; term = r.term; vote = r.vote; log = r.log }
+durable servers h i n (inl (k, r, b)) = record { id = r.id; count = r.count; place = r.place; kept = kept_of n; holds = k; term = r.term; vote = r.vote; log = r.log }
 durable servers h i n (inr (e, r)) = record { id = r.id; count = r.count; place = r.place; kept = r.kept; holds = r.holds; term = r.term; vote = r.vote; log = r.log }
 
 -- a store that tells its contents reads them
@@ -283,7 +286,7 @@ moves_restarted servers h s i n store read d c e = subst (λ z. Moves servers h 
       sound = sound_rest servers h s i;
       agreed = longer_none h.agreed;
       told = tt;
-      fits = inl (c, record { id = d.id; count = d.count; place = d.place; running = refl; term = d.term; vote = d.vote; log = d.log; role = put_same h.roles i Follower; commit_within = omega arith; commit_agrees = refl; votes = λ e. cc e; matched = λ e. cc e; next = λ e. cc e; round = λ e. cc e; acked = λ e. cc e; own = λ e. cc e });
+      fits = inl (c, record { id = d.id; count = d.count; place = d.place; running = refl; term = d.term; vote = d.vote; log = d.log; role = put_same h.roles i Follower; commit_within = omega arith; commit_agrees = refl; votes = λ e. cc e; matched = λ e. cc e; next = λ e. cc e; round = λ e. cc e; acked = λ e. cc e; own = λ e. cc e }, λ e. cc e);
     })
 
 moves_unread : (servers : ℕ) (h : History) → Sound servers h → (i : ℕ) (n : Node) (store : Store) → (d : Durable servers h i n) → store.contents ≡ Some d.kept → Moves servers h i (unread n store) []
@@ -316,13 +319,13 @@ moves_arms servers h s i n nth f = record {
   told = tt;
   agreed = no_more h (arms n nth) (let c = commits_of servers h i n f in record { within = c.within; agrees = c.agrees });
   fits = elim f [
-    inl q ↦ inl (q.0, runs_stored servers h i n (record n.store { armed = nth }) q.1)
+    inl q ↦ inl (q.0, runs_stored servers h i n (record n.store { armed = nth }) q.1, q.2)
   | inr q ↦ inr (q.0, let r = q.1 in record { id = r.id; count = r.count; place = r.place; kept = r.kept; holds = r.holds; term = r.term; vote = r.vote; log = r.log; role = r.role; commit_within = r.commit_within; commit_agrees = r.commit_agrees }) ];
 }
 
 -- what other servers are stays
 pub fits_stays : (servers : ℕ) (i : ℕ) (h h' : History) → Sound servers h → GoesOn i h h' → (j : ℕ) (n : Node) → j ≢ i → Fits servers h j n → Fits servers h' j n
-fits_stays servers i h h' s g j n ne (inl (k, r)) = inl (k, runs_stays servers i h h' g s j n ne r)
+fits_stays servers i h h' s g j n ne (inl (k, r, b)) = inl (k, runs_stays servers i h h' g s j n ne r, b)
 fits_stays servers i h h' s g j n ne (inr (e, r)) =
     let a = agreed_stays i h h' g n.commit n.log r.commit_within r.commit_agrees in
     inr (e, record { id = r.id; count = r.count; place = r.place; kept = r.kept; holds = r.holds; term = g.other_terms j ne ∙ r.term; vote = g.other_votes j r.kept.term ne ∙ r.vote; log = g.other_logs j ne ∙ r.log; role = g.other_roles j ne ∙ r.role; commit_within = a.0; commit_agrees = a.1 })

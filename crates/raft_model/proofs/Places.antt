@@ -84,7 +84,7 @@ leader_begins w s i n is up lead l = go (fits_at w s i n is)
   where
     go : Fits (length w.nodes) s.history i n → take (length w.agreed) n.log ≡ w.agreed
     go (inr (q, r)) = absurd (no_bool n.halted q up)
-    go (inl (q, r)) =
+    go (inl (q, r, _)) =
         let e = leader_has_agreed (length w.nodes) s.history s.sound i (r.role ∙ lead) (let k = ap last_term s.agreed in let t = r.term in omega arith) in
         subst (λ (z : Log). take (length z) n.log ≡ z) s.agreed (subst (λ (z : Log). take (length s.history.agreed) z ≡ s.history.agreed) r.log e)
 
@@ -133,7 +133,7 @@ log_follows w s x (inr (inl (i, n, at, up, e))) m l = go (fits_at w s i n at)
   where
     go : Fits (length w.nodes) s.history i n → take m x ≡ take m (s.history.ledger (term_at m x))
     go (inr (q, r)) = absurd (no_bool n.halted q up)
-    go (inl (q, r)) = (subst (λ (z : Log). Follows s.history.ledger z) (r.log ∙ sym e) (s.sound.logs.of_logs i)) m l
+    go (inl (q, r, _)) = (subst (λ (z : Log). Follows s.history.ledger z) (r.log ∙ sym e) (s.sound.logs.of_logs i)) m l
 log_follows w s x (inr (inr (i, n, kept, at, told, e))) m l =
     let d = durable (length w.nodes) s.history i n (fits_at w s i n at) in
     let q : d.kept ≡ kept = same d.kept (sym d.holds ∙ told) in

@@ -1,7 +1,7 @@
 -- A step leaves a sound history too where the store fails in its midst.
 use Rattle.std.proofs.Common.{ℕ, Bool, None, Some, [], ap, arith, cond, false, inl, inr, length, max, min, refl, subst, suc, sym, true, ◌++◌, ◌+◌, ◌-◌, ◌∙◌, ◌∷◌, ◌≡◌, ◌⊎◌}
 use Rattle.raft_model.specs.Rules.{accepts, Beat, Input, Probe, Propose, Receive, Timeout, after_yes, agreed_to, append_all, append_to, appended, ask_all, beats, candidate, counted, declined, does, done, follows, has_room, is_refused, is_up_to_date, leading, leads, matches, may_vote, noop, noted, of_lower_term, of_own_term, offered, probes, proposal, proposes, received, risen, stands, term_of, timed_out, voted, with_commit}
-use Rattle.raft_model.proofs.Sound.{kept_of, GoesOn, IsTrueOf, Runs}
+use Rattle.raft_model.proofs.Sound.{kept_of, GoesOn, IsTrueOf, Runs, HasBegun}
 use Rattle.cat_model.specs.declared.command.Command.{Command}
 use Rattle.cat_model.specs.declared.command.Entry.{Entry}
 use Rattle.cat_model.specs.declared.reply.Role.{Role}
@@ -173,16 +173,16 @@ steps_beats servers h s i n r Leader e = steps_append_all servers h s i n r e
 steps_beats servers h s i n r Follower e = steps_quiet servers h s i n r
 steps_beats servers h s i n r Candidate e = steps_quiet servers h s i n r
 
-steps_proposes : (servers : ℕ) (h : History) → Sound servers h → (i : ℕ) (n : Node) → Runs servers h i n → (number : ℕ) (command : Command) → (n.role ≡ Leader → IsNewNumber h i number) → (role : Role) → n.role ≡ role → Steps servers h i n (proposes n role number command)
-steps_proposes servers h s i n r number command fresh Follower e = steps_quiet servers h s i n r
-steps_proposes servers h s i n r number command fresh Candidate e = steps_quiet servers h s i n r
-steps_proposes servers h s i n r number command fresh Leader lead =
+steps_proposes : (servers : ℕ) (h : History) → Sound servers h → (i : ℕ) (n : Node) → Runs servers h i n → (number : ℕ) (command : Command) → HasBegun n → (n.role ≡ Leader → IsNewNumber h number) → (role : Role) → n.role ≡ role → Steps servers h i n (proposes n role number command)
+steps_proposes servers h s i n r number command begun fresh Follower e = steps_quiet servers h s i n r
+steps_proposes servers h s i n r number command begun fresh Candidate e = steps_quiet servers h s i n r
+steps_proposes servers h s i n r number command begun fresh Leader lead =
     at_bool (λ b. Steps servers h i n (cond b (append_all (appended n (proposal n number command))) (quiet n))) (has_room n number command) (λ _. appends) (λ _. steps_quiet servers h s i n r)
   where
     appends : Steps servers h i n (append_all (appended n (proposal n number command)))
     appends =
         let e : Entry = proposal n number command in
-        let b = came_new servers h s i n e r lead refl (fresh lead) in
+        let b = came_new servers h s i n e r lead refl (fresh lead) (inl (begun lead)) in
         let w = then servers h i (appended n e) (append_all (appended n e)) b (omega arith) (came_append_all servers b.after b.sound i (appended n e) b.runs (appended_role n e ∙ lead)) in
         record { whole = w; half = half_one servers h s i n (append_all (appended n e)) r w (inr (appended_same n e)) }
 
@@ -225,15 +225,15 @@ steps_probes servers h s i n r Leader lead =
 -- what a running node's input rests on
 abbrev pub IsTrueInput : History → ℕ → Node → Input → Type 0
 IsTrueInput h i n (Receive from m) = IsTrueOf h from i m
-IsTrueInput h i n (Propose number command) = n.role ≡ Leader → IsNewNumber h i number
+IsTrueInput h i n (Propose number command) = n.role ≡ Leader → IsNewNumber h number
 IsTrueInput h i n input = Unit {0}
 
-steps_does : (servers : ℕ) (h : History) → Sound servers h → (i : ℕ) (n : Node) (input : Input) → Runs servers h i n → IsTrueInput h i n input → Steps servers h i n (does n input)
-steps_does servers h s i n Timeout r _ = steps_timed_out servers h s i n r n.role
-steps_does servers h s i n Beat r _ = steps_beats servers h s i n r n.role refl
-steps_does servers h s i n (Receive from m) r t = steps_received servers h s i n from m r t
-steps_does servers h s i n (Propose number command) r t = steps_proposes servers h s i n r number command t n.role refl
-steps_does servers h s i n Probe r _ = steps_probes servers h s i n r n.role refl
+steps_does : (servers : ℕ) (h : History) → Sound servers h → (i : ℕ) (n : Node) (input : Input) → Runs servers h i n → HasBegun n → IsTrueInput h i n input → Steps servers h i n (does n input)
+steps_does servers h s i n Timeout r _ _ = steps_timed_out servers h s i n r n.role
+steps_does servers h s i n Beat r _ _ = steps_beats servers h s i n r n.role refl
+steps_does servers h s i n (Receive from m) r _ t = steps_received servers h s i n from m r t
+steps_does servers h s i n (Propose number command) r b t = steps_proposes servers h s i n r number command b t n.role refl
+steps_does servers h s i n Probe r _ _ = steps_probes servers h s i n r n.role refl
 
-pub steps : (servers : ℕ) (h : History) → Sound servers h → (i : ℕ) (n : Node) (input : Input) → Runs servers h i n → IsTrueInput h i n input → Steps servers h i n (done n input)
-steps servers h s i n input r t = at_bool (λ b. Steps servers h i n (cond b (quiet n) (does n input))) n.halted (λ _. steps_quiet servers h s i n r) (λ _. steps_does servers h s i n input r t)
+pub steps : (servers : ℕ) (h : History) → Sound servers h → (i : ℕ) (n : Node) (input : Input) → Runs servers h i n → HasBegun n → IsTrueInput h i n input → Steps servers h i n (done n input)
+steps servers h s i n input r begun t = at_bool (λ b. Steps servers h i n (cond b (quiet n) (does n input))) n.halted (λ _. steps_quiet servers h s i n r) (λ _. steps_does servers h s i n input r begun t)

@@ -69,6 +69,7 @@ pub record GoesOn (i : ℕ) (h h' : History) : Type 0 where
   pub probed : (t : ℕ) → h.probed t ≤ h'.probed t
   pub first : (t : ℕ) → 0 < length (h.ledger t) → h'.first t ≡ h.first t
   pub greatest : h'.greatest ≡ h.greatest
+  pub spent : (t : ℕ) → h'.spent t ≡ h.spent t
   pub terms_up : (j : ℕ) → h.terms j ≤ h'.terms j
   pub heard_old : (j t : ℕ) → t < h.terms j → h'.heard j t ≡ h.heard j t
   pub other_heard : (j t : ℕ) → j ≢ i → h'.heard j t ≡ h.heard j t
@@ -96,8 +97,12 @@ pub record Rests (servers : ℕ) (h : History) (i : ℕ) (n : Node) : Type 0 whe
 abbrev pub kept_of : Node → Kept
 kept_of n = record { term = n.term; vote = n.vote; log = n.log }
 
+-- a leader's log is not empty
+abbrev pub HasBegun : Node → Type 0
+HasBegun n = n.role ≡ Leader → 0 < length n.log
+
 abbrev pub Fits : ℕ → History → ℕ → Node → Type 0
-Fits servers h i n = ((n.store.contents ≡ Some (kept_of n)) × Runs servers h i n) ⊎ ((n.halted ≡ true) × Rests servers h i n)
+Fits servers h i n = ((n.store.contents ≡ Some (kept_of n)) × Runs servers h i n × HasBegun n) ⊎ ((n.halted ≡ true) × Rests servers h i n)
 
 abbrev pub AllPackets : (Packet → Type 0) → List Packet → Type 0
 AllPackets P [] = Unit {0}

@@ -126,7 +126,7 @@ module _ (servers : ℕ) (i : ℕ) where
     where
       appends : (m : Node) (k : History) (t : Sound servers k) → Runs servers k i m → m.role ≡ Leader → Came servers k i (append_all (appended m (noop m.term)))
       appends m k t r lead =
-          let b = came_new servers k t i m (noop m.term) r lead refl (inl refl) in
+          let b = came_new servers k t i m (noop m.term) r lead refl (inl refl) (inr (refl, refl)) in
           then servers k i (appended m (noop m.term)) (append_all (appended m (noop m.term))) b (omega arith)
           (came_append_all servers b.after b.sound i (appended m (noop m.term)) b.runs (appended_role m (noop m.term) ∙ lead))
 
