@@ -6,9 +6,10 @@ use Rattle.raft_model.proofs.Rounds.{shows_agreed}
 use Rattle.raft_model.proofs.Starts.{reached_sound}
 use Rattle.raft_model.proofs.Worlds.{agreement, reach_goes, step_goes}
 use Rattle.raft_model.specs.Facts.{IsLeading, IsPlaced, IsReady, ShowsAgreed, StandsOnce, next_round}
-use Rattle.raft_model.specs.Log.{entry_at, last_term}
+use Rattle.raft_model.specs.Log.{entry_at, last_term, HasNumbersOnce, IsWellFormed}
 use Rattle.raft_model.specs.Node.{Node}
-use Rattle.raft_model.specs.World.{Agrees, IsReached, IsServer, Move, Reaches, World, WorldStep}
+use Rattle.raft_model.specs.World.{Agrees, IsReached, IsServer, Move, Reaches, World, WorldStep, IsOfFirstRun}
+use Rattle.raft_model.proofs.Forming.{agreed_well_formed, numbers_once}
 
 pub agrees : (w : World) → IsReached w → Agrees w
 agrees w r = agreement w (reached_sound w r)
@@ -27,6 +28,12 @@ placed w r = is_placed w (reached_sound w r)
 
 pub once : (w w' : World) → IsReached w → Reaches w w' → StandsOnce w w'
 once w w' r = stands_once w (reached_sound w r) w'
+
+pub well_formed : (w : World) → IsReached w → IsWellFormed w.agreed
+well_formed w r = agreed_well_formed w (reached_sound w r)
+
+pub first_run : (w : World) → IsOfFirstRun w → HasNumbersOnce w.agreed
+first_run w f = numbers_once w f
 
 pub begins : (w : World) → IsReached w → (i : ℕ) (n : Node) → IsServer w i n → IsLeading n → last_term w.agreed ≤ n.term → take (length w.agreed) n.log ≡ w.agreed
 begins w r i n at lead = leader_begins w (reached_sound w r) i n at lead.0 lead.1

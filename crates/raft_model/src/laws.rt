@@ -4,9 +4,9 @@
 
 ghost use Rattle.std.specs.Prelude.{◌≡◌, ◌≤◌, ℕ, length, take, false};
 ghost use Rattle.cat_model.specs.declared.command.Entry.{Entry};
-ghost use Rattle.raft_model.specs.Log.{entry_at, last_term};
+ghost use Rattle.raft_model.specs.Log.{entry_at, last_term, IsWellFormed, HasNumbersOnce};
 ghost use Rattle.raft_model.specs.Node.{Node};
-ghost use Rattle.raft_model.specs.World.{World, Move, WorldStep, Reaches, IsReached, IsServer, Agrees};
+ghost use Rattle.raft_model.specs.World.{World, Move, WorldStep, Reaches, IsReached, IsOfFirstRun, IsServer, Agrees};
 ghost use Rattle.raft_model.specs.Facts.{IsLeading, IsReady, IsPlaced, ShowsAgreed, StandsOnce, next_round};
 
 /// Agreement: each server has committed a front of the agreed log.
@@ -49,4 +49,17 @@ pub fn numbers_stand_once()
 #[tactic(auto, using(crate::proofs::Theorems::begins))]
 pub fn leaders_begin_with_agreed()
     ensures { (w : World) → IsReached w → (i : ℕ) (n : Node) → IsServer w i n → IsLeading n → last_term w.agreed ≤ n.term → take (length w.agreed) n.log ≡ w.agreed }
+{}
+
+/// The agreed log is well formed: it begins with a Noop of number 0, terms never fall, and no two entries of one term
+/// have the same number other than 0.
+#[tactic(auto, using(crate::proofs::Theorems::well_formed))]
+pub fn agreed_is_well_formed()
+    ensures { (w : World) → IsReached w → IsWellFormed w.agreed }
+{}
+
+/// In a run from empty stores no two agreed entries at all have the same number other than 0.
+#[tactic(auto, using(crate::proofs::Theorems::first_run))]
+pub fn numbers_of_a_first_run()
+    ensures { (w : World) → IsOfFirstRun w → HasNumbersOnce w.agreed }
 {}
