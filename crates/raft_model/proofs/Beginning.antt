@@ -1,6 +1,6 @@
 -- A leader's log is not empty once its step is done.
 use Rattle.std.proofs.Common.{ℕ, Bool, None, Some, [], arith, cond, false, length, max, min, refl, subst, sym, true, ◌++◌, ◌+◌, ◌-◌, ◌∷◌, ◌≡◌}
-use Rattle.raft_model.specs.Rules.{accepts, Beat, Input, Probe, Propose, Receive, Timeout, after_yes, agreed_to, append_all, appended, ask_all, beats, candidate, counted, declined, does, done, follows, has_room, is_refused, is_up_to_date, leading, leads, matches, may_vote, noop, noted, of_lower_term, of_own_term, offered, probes, proposal, proposes, received, risen, stands, term_of, timed_out, voted, with_commit}
+use Rattle.raft_model.specs.Rules.{accepts, Beat, Input, Probe, Propose, Receive, Timeout, after_yes, agreed_to, append_all, appended, ask_all, beats, candidate, counted, declined, does, done, follows, has_room, is_refused, is_up_to_date, leading, leads, matches, may_vote, noop, noted, of_lower_term, of_own_term, offered, probes, proposal, proposes, received, risen, stands, term_of, timed_out, voted, with_commit, with_voter}
 use Rattle.cat_model.specs.declared.command.Command.{Command}
 use Rattle.cat_model.specs.declared.command.Entry.{Entry}
 use Rattle.cat_model.specs.declared.reply.Role.{Role}
@@ -37,7 +37,7 @@ counted_begun : (n : Node) → HasBegun n → HasBegun (counted n).node
 counted_begun n b = at_bool (λ c. HasBegun (cond c (leads n) (quiet n)).node) (is_majority n.servers (members n.votes)) (λ _. leads_begun n) (λ _. b)
 
 voted_begun : (n : Node) (from : ℕ) (g : Bool) (r : Role) → HasBegun n → HasBegun (voted n from g r).node
-voted_begun n from true Candidate b = counted_begun (record n { votes = from ∷ n.votes }) b
+voted_begun n from true Candidate b = counted_begun (record n { votes = with_voter n.votes from }) b
 voted_begun n from true Follower b = b
 voted_begun n from true Leader b = b
 voted_begun n from false Candidate b = b
@@ -110,4 +110,5 @@ does_begun n (Propose number command) b = proposes_begun n n.role number command
 does_begun n Probe b = probes_begun n n.role b
 
 pub done_begun : (n : Node) (input : Input) → HasBegun n → HasBegun (done n input).node
+unfolding done
 done_begun n input b = at_bool (λ c. HasBegun (cond c (quiet n) (does n input)).node) n.halted (λ _. b) (λ _. does_begun n input b)

@@ -31,7 +31,7 @@ runs_count servers h g i n r = record {
 
 pub fits_count : (servers : ℕ) (h : History) (g i : ℕ) (n : Node) → Fits servers h i n → Fits servers (count_number g h) i n
 fits_count servers h g i n (inl (k, r, b)) = inl (k, runs_count servers h g i n r, b)
-fits_count servers h g i n (inr (e, r)) = inr (e, record { id = r.id; count = r.count; place = r.place; kept = r.kept; holds = r.holds; term = r.term; vote = r.vote; log = r.log; role = r.role; commit_within = r.commit_within; commit_agrees = r.commit_agrees })
+fits_count servers h g i n (inr (e, r)) = inr (e, record { id = r.id; count = r.count; place = r.place; kept = r.kept; holds = r.holds; rests = r.rests; term = r.term; vote = r.vote; log = r.log; role = r.role; commit_within = r.commit_within; commit_agrees = r.commit_agrees })
 
 pub true_count : (h : History) (g from to : ℕ) (m : Message) → IsTrueOf h from to m → IsTrueOf (count_number g h) from to m
 true_count h g from to (AskVote t li lt) a = record { stands = a.stands; index = a.index; last = a.last }

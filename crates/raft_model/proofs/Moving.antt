@@ -152,7 +152,7 @@ halted_on servers h s i n store k c r b =
       sound = sound_back servers i h b.after s b.goes b.sound;
       told = tt;
       agreed = no_more h (halts n store) (record { within = r.commit_within; agrees = r.commit_agrees });
-      fits = inr (refl, record { id = r.id; count = r.count; place = r.place; kept = k; holds = c; term = b.term; vote = b.vote; log = b.log; role = put_same b.after.roles i Follower; commit_within = r.commit_within; commit_agrees = r.commit_agrees });
+      fits = inr (refl, record { id = r.id; count = r.count; place = r.place; kept = k; holds = c; rests = refl; term = b.term; vote = b.vote; log = b.log; role = put_same b.after.roles i Follower; commit_within = r.commit_within; commit_agrees = r.commit_agrees });
     }
 
 forgotten_on : (servers : ℕ) (h : History) → Sound servers h → (i : ℕ) (n m : Node) (store : Store) → store.contents ≡ Some (half_kept n m) → Runs servers h i n → Half servers h i (half_kept n m) → Moves servers h i (forgets n m store) []
@@ -202,7 +202,8 @@ moves_running servers h s i n input Forgets n' sent k r begun t (saves, c, store
     (forgotten_on servers h s i n m n'.store (changed_some (with_vote m.term m.vote) n.store.contents n'.store.contents (kept_of n) c.contents k) r d.half)
 
 -- A halted node stays as it is, and sends nothing.
-halted_done : (n : Node) (input : Input) → n.halted ≡ true → done n input ≡ quiet n
+pub halted_done : (n : Node) (input : Input) → n.halted ≡ true → done n input ≡ quiet n
+unfolding done
 halted_done n input e = ap (λ b. cond b (quiet n) (does n input)) e
 
 stays_vote : (n : Node) (d : Done) (before after : Store) → d ≡ quiet n → VoteSaved n d.node before after → after ≡ before
@@ -297,7 +298,7 @@ moves_unread servers h s i n store d c =
       sound = sound_rest servers h s i;
       agreed = longer_none h.agreed;
       told = tt;
-      fits = inr (refl, record { id = d.id; count = d.count; place = d.place; kept = d.kept; holds = c; term = d.term; vote = d.vote; log = d.log; role = put_same h.roles i Follower; commit_within = omega arith; commit_agrees = refl });
+      fits = inr (refl, record { id = d.id; count = d.count; place = d.place; kept = d.kept; holds = c; rests = refl; term = d.term; vote = d.vote; log = d.log; role = put_same h.roles i Follower; commit_within = omega arith; commit_agrees = refl });
     }
 
 -- a restart, that works or fails
@@ -320,7 +321,7 @@ moves_arms servers h s i n nth f = record {
   agreed = no_more h (arms n nth) (let c = commits_of servers h i n f in record { within = c.within; agrees = c.agrees });
   fits = elim f [
     inl q ↦ inl (q.0, runs_stored servers h i n (record n.store { armed = nth }) q.1, q.2)
-  | inr q ↦ inr (q.0, let r = q.1 in record { id = r.id; count = r.count; place = r.place; kept = r.kept; holds = r.holds; term = r.term; vote = r.vote; log = r.log; role = r.role; commit_within = r.commit_within; commit_agrees = r.commit_agrees }) ];
+  | inr q ↦ inr (q.0, let r = q.1 in record { id = r.id; count = r.count; place = r.place; kept = r.kept; holds = r.holds; rests = r.rests; term = r.term; vote = r.vote; log = r.log; role = r.role; commit_within = r.commit_within; commit_agrees = r.commit_agrees }) ];
 }
 
 -- what other servers are stays
@@ -328,4 +329,4 @@ pub fits_stays : (servers : ℕ) (i : ℕ) (h h' : History) → Sound servers h 
 fits_stays servers i h h' s g j n ne (inl (k, r, b)) = inl (k, runs_stays servers i h h' g s j n ne r, b)
 fits_stays servers i h h' s g j n ne (inr (e, r)) =
     let a = agreed_stays i h h' g n.commit n.log r.commit_within r.commit_agrees in
-    inr (e, record { id = r.id; count = r.count; place = r.place; kept = r.kept; holds = r.holds; term = g.other_terms j ne ∙ r.term; vote = g.other_votes j r.kept.term ne ∙ r.vote; log = g.other_logs j ne ∙ r.log; role = g.other_roles j ne ∙ r.role; commit_within = a.0; commit_agrees = a.1 })
+    inr (e, record { id = r.id; count = r.count; place = r.place; kept = r.kept; holds = r.holds; rests = r.rests; term = g.other_terms j ne ∙ r.term; vote = g.other_votes j r.kept.term ne ∙ r.vote; log = g.other_logs j ne ∙ r.log; role = g.other_roles j ne ∙ r.role; commit_within = a.0; commit_agrees = a.1 })

@@ -8,7 +8,7 @@ use Rattle.raft_model.specs.Limits.{is_full}
 use Rattle.raft_model.specs.Log.{Log, accepted}
 use Rattle.raft_model.specs.Node.{Node, last, of_server, quiet, reply}
 use Rattle.raft_model.specs.Quorum.{is_majority, members}
-use Rattle.raft_model.specs.Rules.{accepts, after_yes, agreed_to, append_all, append_to, appended, ask_all, candidate, counted, declined, follows, is_refused, is_up_to_date, leading, leads, matches, may_vote, noop, noted, of_own_term, offered, voted, with_commit}
+use Rattle.raft_model.specs.Rules.{accepts, after_yes, agreed_to, append_all, append_to, appended, ask_all, candidate, counted, declined, follows, is_refused, is_up_to_date, leading, leads, matches, may_vote, noop, noted, of_own_term, offered, voted, with_commit, with_voter}
 use Rattle.raft_model.specs.declared.message.Message.{Message}
 use Rattle.raft_model.specs.declared.message.Message.TheVariants.{Append, AskVote, No, Vote, Yes}
 use Rattle.std.specs.Prelude.{nat_le, nat_lt, ◌&&◌, ◌==◌}
@@ -24,7 +24,7 @@ counted_up : (n : Node) → n.commit ≤ last n → n.commit ≤ (counted n).nod
 counted_up n l = at_bool (λ b. n.commit ≤ (cond b (leads n) (quiet n)).node.commit) (is_majority n.servers (members n.votes)) (λ _. leads_up n l) (λ _. omega arith)
 
 voted_up : (n : Node) (from : ℕ) (g : Bool) (r : Role) → n.commit ≤ last n → n.commit ≤ (voted n from g r).node.commit
-voted_up n from true Candidate l = counted_up (record n { votes = from ∷ n.votes }) l
+voted_up n from true Candidate l = counted_up (record n { votes = with_voter n.votes from }) l
 voted_up n from true Follower l = omega arith
 voted_up n from true Leader l = omega arith
 voted_up n from false Candidate l = omega arith

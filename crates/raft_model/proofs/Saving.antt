@@ -1,6 +1,6 @@
 -- A step leaves a sound history too where the store fails in its midst.
 use Rattle.std.proofs.Common.{ℕ, Bool, None, Some, [], ap, arith, cond, false, inl, inr, length, max, min, refl, subst, suc, sym, true, ◌++◌, ◌+◌, ◌-◌, ◌∙◌, ◌∷◌, ◌≡◌, ◌⊎◌}
-use Rattle.raft_model.specs.Rules.{accepts, Beat, Input, Probe, Propose, Receive, Timeout, after_yes, agreed_to, append_all, append_to, appended, ask_all, beats, candidate, counted, declined, does, done, follows, has_room, is_refused, is_up_to_date, leading, leads, matches, may_vote, noop, noted, of_lower_term, of_own_term, offered, probes, proposal, proposes, received, risen, stands, term_of, timed_out, voted, with_commit}
+use Rattle.raft_model.specs.Rules.{accepts, Beat, Input, Probe, Propose, Receive, Timeout, after_yes, agreed_to, append_all, append_to, appended, ask_all, beats, candidate, counted, declined, does, done, follows, has_room, is_refused, is_up_to_date, leading, leads, matches, may_vote, noop, noted, of_lower_term, of_own_term, offered, probes, proposal, proposes, received, risen, stands, term_of, timed_out, voted, with_commit, with_voter}
 use Rattle.raft_model.proofs.Sound.{kept_of, GoesOn, IsTrueOf, Runs, HasBegun}
 use Rattle.cat_model.specs.declared.command.Command.{Command}
 use Rattle.cat_model.specs.declared.command.Entry.{Entry}
@@ -78,7 +78,7 @@ counted_same : (n : Node) → HasVoteOf n (counted n).node
 counted_same n = at_bool (λ b. HasVoteOf n (cond b (leads n) (quiet n)).node) (is_majority n.servers (members n.votes)) (λ _. leads_same n) (λ _. (refl, refl))
 
 voted_same : (n : Node) (from : ℕ) (g : Bool) (r : Role) → HasVoteOf n (voted n from g r).node
-voted_same n from true Candidate = counted_same (record n { votes = from ∷ n.votes })
+voted_same n from true Candidate = counted_same (record n { votes = with_voter n.votes from })
 voted_same n from true Follower = (refl, refl)
 voted_same n from true Leader = (refl, refl)
 voted_same n from false Candidate = (refl, refl)
@@ -236,4 +236,5 @@ steps_does servers h s i n (Propose number command) r b t = steps_proposes serve
 steps_does servers h s i n Probe r _ _ = steps_probes servers h s i n r n.role refl
 
 pub steps : (servers : ℕ) (h : History) → Sound servers h → (i : ℕ) (n : Node) (input : Input) → Runs servers h i n → HasBegun n → IsTrueInput h i n input → Steps servers h i n (done n input)
+unfolding done
 steps servers h s i n input r begun t = at_bool (λ b. Steps servers h i n (cond b (quiet n) (does n input))) n.halted (λ _. steps_quiet servers h s i n r) (λ _. steps_does servers h s i n input r begun t)

@@ -86,6 +86,7 @@ pub record Rests (servers : ℕ) (h : History) (i : ℕ) (n : Node) : Type 0 whe
   pub place : (0 < i) × (i ≤ servers)
   pub kept : Kept
   pub holds : n.store.contents ≡ Some kept
+  pub rests : n.role ≡ Follower
   pub term : h.terms i ≡ kept.term
   pub vote : h.votes i kept.term ≡ kept.vote
   pub log : h.logs i ≡ kept.log

@@ -1,5 +1,5 @@
 -- Elections.
-use Rattle.std.proofs.Common.{ℕ, Bool, None, Option, Some, [], ap, arith, cond, false, inl, inr, length, refl, subst, suc, sym, true, ◌*◌, ◌++◌, ◌+◌, ◌<◌, ◌∙◌, ◌∷◌, ◌≡◌, ◌≢◌, ◌≤◌, ◌⊎◌}
+use Rattle.std.proofs.Common.{ℕ, Bool, None, Option, Some, [], ap, arith, cond, false, inl, inr, length, refl, subst, suc, sym, true, ◌*◌, ◌++◌, ◌+◌, ◌<◌, ◌∙◌, ◌∷◌, ◌≡◌, ◌≢◌, ◌≤◌, ◌⊎◌, List}
 use Rattle.cat_model.specs.declared.command.Entry.{Entry}
 use Rattle.cat_model.specs.declared.reply.Role.{Role}
 use Rattle.cat_model.specs.declared.reply.Role.TheVariants.{Candidate, Follower, Leader}
@@ -12,15 +12,15 @@ use Rattle.raft_model.proofs.Logs.{agree_term}
 use Rattle.raft_model.proofs.Moved.{goes_grant, goes_rise, goes_stand, goes_win}
 use Rattle.raft_model.proofs.Moves.{no_leader, sound_grant, sound_rise, sound_stand, sound_win}
 use Rattle.raft_model.proofs.Sound.{AskIsTrue, IsTrueOf, Runs}
-use Rattle.raft_model.proofs.Tests.{and_tells, at_all, at_bool, eq_tells, lt_tells, or_tells, up_tells}
+use Rattle.raft_model.proofs.Tests.{and_tells, at_all, at_bool, eq_tells, lt_tells, or_tells, up_tells, or_left}
 use Rattle.raft_model.specs.Limits.{is_full}
 use Rattle.raft_model.specs.Log.{IsUpToDate, last_term, term_at}
 use Rattle.raft_model.specs.Node.{Node, last, quiet, reply}
 use Rattle.raft_model.specs.Quorum.{IsMajority, Servers, count, is_majority, members}
-use Rattle.raft_model.specs.Rules.{append_all, appended, ask_all, asked, counted, is_up_to_date, leading, leads, may_vote, noop, stands, voted}
+use Rattle.raft_model.specs.Rules.{append_all, appended, ask_all, asked, counted, is_up_to_date, leading, leads, may_vote, noop, stands, voted, with_voter}
 use Rattle.raft_model.specs.World.{after, next}
 use Rattle.raft_model.specs.declared.message.Message.TheVariants.{AskVote, Vote}
-use Rattle.std.specs.Prelude.{◌&&◌, ◌==◌}
+use Rattle.std.specs.Prelude.{◌&&◌, ◌==◌, ◌||◌}
 use Rattle.raft_model.proofs.Rising.{leads_up}
 
 module _ (servers : ℕ) (h : History) (s : Sound servers h) (i : ℕ) where
@@ -111,6 +111,29 @@ module _ (servers : ℕ) (h : History) (s : Sound servers h) (i : ℕ) where
             };
           }
 
+members_push : (vs : List ℕ) (from p : ℕ) → members (vs ++ from ∷ []) p ≡ true → (p ≡ from) ⊎ (members vs p ≡ true)
+members_push [] from p e = go (or_tells (p == from) false e)
+  where
+    go : ((p == from) ≡ true) ⊎ (false ≡ true) → (p ≡ from) ⊎ (false ≡ true)
+    go (inl q) = inl (eq_tells p from q)
+    go (inr q) = inr q
+members_push (v ∷ vs) from p e = go (members_push vs from p) (or_tells (p == v) (members (vs ++ from ∷ []) p) e)
+  where
+    or_right : (a b : Bool) → b ≡ true → (a || b) ≡ true
+    or_right a b h = grind arith
+
+    deep : (p ≡ from) ⊎ (members vs p ≡ true) → (p ≡ from) ⊎ ((p == v || members vs p) ≡ true)
+    deep (inl q) = inl q
+    deep (inr q) = inr (or_right (p == v) (members vs p) q)
+
+    go : (members (vs ++ from ∷ []) p ≡ true → (p ≡ from) ⊎ (members vs p ≡ true)) → ((p == v) ≡ true) ⊎ (members (vs ++ from ∷ []) p ≡ true) → (p ≡ from) ⊎ ((p == v || members vs p) ≡ true)
+    go f (inl q) = inr (or_left (p == v) (members vs p) q)
+    go f (inr q) = deep (f q)
+
+-- who voted once one more has
+voter_tells : (vs : List ℕ) (from p : ℕ) → members (with_voter vs from) p ≡ true → (p ≡ from) ⊎ (members vs p ≡ true)
+voter_tells vs from p = at_bool (λ b. members (cond b vs (vs ++ from ∷ [])) p ≡ true → (p ≡ from) ⊎ (members vs p ≡ true)) (members vs from) (λ _ e. inr e) (λ _ e. members_push vs from p e)
+
 pub appended_role : (n : Node) (e : Entry) → (appended n e).role ≡ n.role
 appended_role n e = at_bool (λ b. (cond b (record n { log = n.log ++ e ∷ []; commit = length (n.log ++ e ∷ []) }) (record n { log = n.log ++ e ∷ [] })).role ≡ n.role) (n.servers == 1) (λ _. refl) (λ _. refl)
 
@@ -139,7 +162,7 @@ module _ (servers : ℕ) (i : ℕ) where
   pub came_voted : (h : History) → Sound servers h → (n : Node) (from : ℕ) (granted : Bool) → Runs servers h i n → (granted ≡ true → h.votes from n.term ≡ Some i) → Came servers h i (voted n from granted n.role)
   came_voted h s n from granted r t = go granted n.role refl t
     where
-      more : n.role ≡ Candidate → h.votes from n.term ≡ Some i → Runs servers h i (record n { votes = from ∷ n.votes })
+      more : n.role ≡ Candidate → h.votes from n.term ≡ Some i → Runs servers h i (record n { votes = with_voter n.votes from })
       more e v = record {
         id = r.id;
         count = r.count;
@@ -151,7 +174,7 @@ module _ (servers : ℕ) (i : ℕ) where
         role = r.role;
         commit_within = r.commit_within;
         commit_agrees = r.commit_agrees;
-        votes = λ e p k. elim (or_tells (p == from) (members n.votes p) k) [ inl q ↦ ap (λ z. h.votes z n.term) (eq_tells p from q) ∙ v | inr q ↦ r.votes e p q ];
+        votes = λ e p k. elim (voter_tells n.votes from p k) [ inl q ↦ ap (λ z. h.votes z n.term) q ∙ v | inr q ↦ r.votes e p q ];
         matched = r.matched;
         next = r.next;
         round = r.round;
@@ -160,7 +183,7 @@ module _ (servers : ℕ) (i : ℕ) where
       }
 
       go : (b : Bool) (role : Role) → n.role ≡ role → (b ≡ true → h.votes from n.term ≡ Some i) → Came servers h i (voted n from b role)
-      go true Candidate e t = came_counted h s (record n { votes = from ∷ n.votes }) (more e (t refl)) e
+      go true Candidate e t = came_counted h s (record n { votes = with_voter n.votes from }) (more e (t refl)) e
       go true Follower e t = came_quiet servers h s i n r
       go true Leader e t = came_quiet servers h s i n r
       go false Candidate e t = came_quiet servers h s i n r

@@ -1,6 +1,6 @@
 -- The rules of a server (extended Raft paper, figure 2, "Rules for Servers" and the receivers' rules; its section on
 -- read-only operations for rounds). Each says what the server becomes and sends where its store works.
-use Rattle.std.specs.Prelude.{◌≡◌, ℕ, zero, suc, ◌+◌, ◌-◌, ◌^◌, ◌==◌, nat_le, nat_lt, min, max, not, ◌&&◌, ◌||◌, Bool, true, false, [], ◌∷◌, ◌++◌, length, drop, replicate, if◌then◌else◌, Option, Some, None}
+use Rattle.std.specs.Prelude.{◌≡◌, ℕ, zero, suc, ◌+◌, ◌-◌, ◌^◌, ◌==◌, nat_le, nat_lt, min, max, not, ◌&&◌, ◌||◌, Bool, true, false, List, [], ◌∷◌, ◌++◌, length, drop, replicate, if◌then◌else◌, Option, Some, None}
 use Rattle.cat_model.specs.declared.command.Command.TheVariants.{Noop}
 use Rattle.cat_model.specs.declared.command.Command.{Command}
 use Rattle.cat_model.specs.declared.command.Entry.{Entry}
@@ -100,9 +100,12 @@ asked n from last_index last_term =
 abbrev pub counted : Node → Done
 counted n = if is_majority n.servers (members n.votes) then leads n else quiet n
 
+abbrev pub with_voter : List ℕ → ℕ → List ℕ
+with_voter votes from = if members votes from then votes else votes ++ from ∷ []
+
 -- A granted Vote of the own term is counted by a candidate, once per voter.
 abbrev pub voted : Node → ℕ → Bool → Role → Done
-voted n from true Candidate = counted (record n { votes = from ∷ n.votes })
+voted n from true Candidate = counted (record n { votes = with_voter n.votes from })
 voted n from granted role = quiet n
 
 -- The log has an entry prev of that term.
@@ -230,12 +233,12 @@ abbrev pub is_leader : Role → Bool
 is_leader Leader = true
 is_leader role = false
 
--- A round is confirmed where the node runs and leads in its term, and a majority, itself counted, has acknowledged
+-- A round is confirmed where the node leads in its term, and a majority, itself counted, has acknowledged
 -- that round or a later one.
 abbrev pub is_confirmed : Node → Round → Bool
-is_confirmed n round = not n.halted && is_leader n.role && n.term == round.term && is_majority n.servers (has_round n round.number)
+is_confirmed n round = is_leader n.role && n.term == round.term && is_majority n.servers (has_round n round.number)
 
--- What a server is given. A restart is told apart, in the steps.
+-- What a server is given. A restart is a step of its own.
 pub data Input : Type 0 where
   Timeout : Input
   Beat : Input
@@ -251,5 +254,5 @@ does n (Propose number command) = proposes n n.role number command
 does n Probe = probes n n.role
 
 -- What a server does with an input where its store works. A halted one does nothing.
-abbrev pub done : Node → Input → Done
+unfoldable pub done : Node → Input → Done
 done n input = if n.halted then quiet n else does n input

@@ -6,6 +6,7 @@ ghost use Rattle.std.specs.Prelude.{◌≡◌, ◌≤◌, ℕ, length, take, fal
 ghost use Rattle.cat_model.specs.declared.command.Entry.{Entry};
 ghost use Rattle.raft_model.specs.Log.{entry_at, last_term, IsWellFormed, HasNumbersOnce};
 ghost use Rattle.raft_model.specs.Node.{Node};
+ghost use Rattle.raft_model.specs.Runs.{ElectionRow, CountsRow};
 ghost use Rattle.raft_model.specs.World.{World, Move, WorldStep, Reaches, IsReached, IsOfFirstRun, IsServer, Agrees};
 ghost use Rattle.raft_model.specs.Facts.{IsLeading, IsReady, IsPlaced, ShowsAgreed, StandsOnce, next_round};
 
@@ -62,4 +63,16 @@ pub fn agreed_is_well_formed()
 #[tactic(auto, using(crate::proofs::Theorems::first_run))]
 pub fn numbers_of_a_first_run()
     ensures { (w : World) → IsOfFirstRun w → HasNumbersOnce w.agreed }
+{}
+
+/// The first election of three servers, as node 1 sees it.
+#[tactic(auto, using(crate::proofs::Examples::election))]
+pub fn first_election()
+    ensures { ElectionRow }
+{}
+
+/// The first election of three servers with all its deliveries: messages 1 to 12, and index 1 committed everywhere.
+#[tactic(auto, using(crate::proofs::Examples::counts))]
+pub fn first_election_settled()
+    ensures { CountsRow }
 {}
