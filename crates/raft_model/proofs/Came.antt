@@ -1,32 +1,22 @@
 -- What a node came to, with the history that accounts for it.
-use Rattle.std.proofs.Common.{◌≡◌, ◌≢◌, ℕ, zero, suc, ◌+◌, ◌*◌, ◌-◌, ◌<◌, ◌≤◌, min, max, Bool, true, false, cond, not, ◌⊎◌, inl, inr, Option, Some, None, List, [], ◌∷◌, ◌++◌, length, take, drop, get_or, set, replicate, refl, sym, ◌∙◌, ap, subst, arith}
-use Rattle.cat_model.specs.declared.command.Command.TheVariants.{Noop}
-use Rattle.std.specs.Prelude.{◌==◌, nat_le, nat_lt, ◌&&◌, ◌||◌}
-use Rattle.std.proofs.lemmas.Bool.{cases_lt}
-use Rattle.std.proofs.lemmas.Bool.Decides.{nat_tests}
-use Rattle.std.proofs.lemmas.List.{take-take, length-take, length-drop, take-append-le, take_min, length_push}
-use Rattle.raft_model.specs.Quorum.{Servers, count, IsMajority, members, is_majority}
-use Rattle.cat_model.specs.declared.command.Entry.{Entry}
-use Rattle.raft_model.specs.Log.{Log, term_at, last_term, accepted, IsUpToDate}
-use Rattle.raft_model.proofs.Logs.{agree_below, agree_length, agree_term, front_take}
-use Rattle.raft_model.proofs.Election.{at_eq, at_put₂, put_same}
-use Rattle.raft_model.proofs.Accepting.{accepts, match_logs}
-use Rattle.raft_model.proofs.Agreement.{majority_more}
-use Rattle.raft_model.proofs.Moves.{sound_rise, sound_rest, sound_grant, sound_append, sound_win, sound_accept, sound_agree, sound_stand, sound_hear, no_leader, committed_is_agreed}
-use Rattle.raft_model.proofs.Going.{goes_nowhere, goes_further, true_stays}
-use Rattle.raft_model.proofs.History.{Follows, History, put, put₂, Has, IsCommitted, Sound, rise, rest, stand, grant, win, append, accept, agree, hear, IsNewNumber}
-use Rattle.cat_model.specs.declared.reply.Role.{Role}
-use Rattle.cat_model.specs.declared.reply.Role.TheVariants.{Follower, Candidate, Leader}
-use Rattle.raft_model.specs.Rules.{candidate, accepts as node_accepts, append_to, append_all, risen, has_index, committed_upto, with_commit, appended, leading, leads, counted, stands, ask_all, may_vote, is_up_to_date, asked, voted, matches, keeps_front, is_refused, offered, after_yes, agreed_to, declined, of_own_term, of_lower_term, term_of, received}
-use Rattle.raft_model.specs.Limits.{most_entries, is_full, batch}
+use Rattle.std.proofs.Common.{◌≡◌, ℕ, zero, suc, ◌-◌, ◌<◌, ◌≤◌, cond, ◌⊎◌, inl, inr, Some, None, List, [], ◌∷◌, ◌++◌, length, take, drop, refl, sym, ◌∙◌, ap, subst, arith}
+use Rattle.std.specs.Prelude.{nat_lt}
+use Rattle.std.proofs.lemmas.List.{length-drop}
+use Rattle.raft_model.specs.Log.{term_at}
+use Rattle.raft_model.proofs.Logs.{agree_length}
+use Rattle.raft_model.proofs.Election.{at_eq, put_same}
+use Rattle.raft_model.proofs.Moves.{sound_rise}
+use Rattle.raft_model.proofs.Going.{goes_nowhere, goes_further}
+use Rattle.raft_model.proofs.History.{History, Sound, rise}
+use Rattle.cat_model.specs.declared.reply.Role.TheVariants.{Follower, Leader}
+use Rattle.raft_model.specs.Rules.{append_to, append_all, risen}
+use Rattle.raft_model.specs.Limits.{batch}
 use Rattle.raft_model.specs.declared.message.Message.{Message}
-use Rattle.raft_model.specs.declared.message.Message.TheVariants.{AskVote, Vote, Append, Yes, No}
 use Rattle.raft_model.specs.declared.message.Sent.{Sent}
-use Rattle.raft_model.specs.Node.{Node, Done, last, to_others, quiet, reply, of_server, begun}
-use Rattle.raft_model.proofs.Sound.{AskIsTrue, AppendIsTrue, IsTrueOf, AllTrue, Runs, GoesOn}
-use Rattle.raft_model.proofs.Moved.{goes_rise, goes_rest, goes_grant, goes_stand, goes_win, goes_append, goes_accept, goes_agree, goes_hear}
+use Rattle.raft_model.specs.Node.{Node, Done, to_others, quiet, reply, of_server}
+use Rattle.raft_model.proofs.Sound.{IsTrueOf, AllTrue, Runs, GoesOn}
+use Rattle.raft_model.proofs.Moved.{goes_rise}
 use Rattle.raft_model.proofs.Tests.{at_bool, batch_front, batch_short, lt_tells}
-use Rattle.raft_model.specs.World.{next}
 
 -- a node has come to this value, and has sent these
 pub record Came (servers : ℕ) (h : History) (i : ℕ) (d : Done) : Type 0 where
@@ -47,6 +37,7 @@ all_others h i id f t zero = tt
 all_others h i id f t (suc k) = at_eq (λ b. AllTrue h i (cond b (to_others id f k) (to_others id f k ++ record { to = suc k; message = f (suc k) } ∷ []))) (suc k) id
     (λ _. all_others h i id f t k)
     (λ _. AllTrue-append h i (to_others id f k) (record { to = suc k; message = f (suc k) } ∷ []) (all_others h i id f t k) (t (suc k), tt))
+
 module _ (servers : ℕ) (h : History) (s : Sound servers h) (i : ℕ) where
   pub came_quiet : (n : Node) → Runs servers h i n → Came servers h i (quiet n)
   came_quiet n r = record { after = h; goes = goes_nowhere i h; sound = s; runs = r; grew = inl refl; told = tt }
@@ -111,8 +102,8 @@ module _ (servers : ℕ) (h : History) (s : Sound servers h) (i : ℕ) where
 
   pub commit_long : (n : Node) → Runs servers h i n → n.commit ≤ length n.log
   commit_long n r = agree_length n.commit n.log h.agreed r.commit_agrees r.commit_within
-
   -- 8
+
 -- one after the other
 grown_by : (h a b : History) (m k : ℕ) → m ≤ k → (a.agreed ≡ h.agreed) ⊎ (length a.agreed ≤ m) → (b.agreed ≡ a.agreed) ⊎ (length b.agreed ≤ k) → (b.agreed ≡ h.agreed) ⊎ (length b.agreed ≤ k)
 grown_by h a b m k l x (inr y) = inr y

@@ -1,34 +1,25 @@
 -- A leader appends entries and commits them.
-use Rattle.std.proofs.Common.{◌≡◌, ◌≢◌, ℕ, zero, suc, ◌+◌, ◌*◌, ◌-◌, ◌<◌, ◌≤◌, min, max, Bool, true, false, cond, not, ◌⊎◌, inl, inr, Option, Some, None, List, [], ◌∷◌, ◌++◌, length, take, drop, get_or, set, replicate, refl, sym, ◌∙◌, ap, subst, arith}
-use Rattle.cat_model.specs.declared.command.Command.TheVariants.{Noop}
-use Rattle.std.specs.Prelude.{◌==◌, nat_le, nat_lt, ◌&&◌, ◌||◌}
+use Rattle.std.proofs.Common.{◌≡◌, ℕ, zero, suc, ◌*◌, ◌<◌, ◌≤◌, true, cond, ◌⊎◌, inl, inr, [], ◌∷◌, ◌++◌, length, take, refl, sym, ◌∙◌, ap, subst, arith}
+use Rattle.std.specs.Prelude.{◌==◌, nat_le, nat_lt, ◌&&◌}
 use Rattle.std.proofs.lemmas.Bool.{cases_lt}
-use Rattle.std.proofs.lemmas.Bool.Decides.{nat_tests}
-use Rattle.std.proofs.lemmas.List.{take-take, length-take, length-drop, take-append-le, take_min, length_push}
-use Rattle.raft_model.specs.Quorum.{Servers, count, IsMajority, members, is_majority}
+use Rattle.std.proofs.lemmas.List.{take-take, length-take, take-append-le, length_push}
+use Rattle.raft_model.specs.Quorum.{Servers, count, is_majority}
 use Rattle.cat_model.specs.declared.command.Entry.{Entry}
-use Rattle.raft_model.specs.Log.{Log, term_at, last_term, accepted, IsUpToDate}
-use Rattle.raft_model.proofs.Logs.{agree_below, agree_length, agree_term, front_take}
-use Rattle.raft_model.proofs.Election.{at_eq, at_put₂, put_same}
-use Rattle.raft_model.proofs.Accepting.{accepts, match_logs}
+use Rattle.raft_model.specs.Log.{term_at}
+use Rattle.raft_model.proofs.Logs.{agree_term, front_take}
+use Rattle.raft_model.proofs.Election.{put_same}
 use Rattle.raft_model.proofs.Agreement.{majority_more}
-use Rattle.raft_model.proofs.Moves.{sound_rise, sound_rest, sound_grant, sound_append, sound_win, sound_accept, sound_agree, sound_stand, sound_hear, no_leader, committed_is_agreed}
-use Rattle.raft_model.proofs.Going.{goes_nowhere, goes_further, true_stays}
-use Rattle.raft_model.proofs.History.{Follows, History, put, put₂, Has, IsCommitted, Sound, rise, rest, stand, grant, win, append, accept, agree, hear, IsNewNumber, MayFollow}
-use Rattle.cat_model.specs.declared.reply.Role.{Role}
-use Rattle.cat_model.specs.declared.reply.Role.TheVariants.{Follower, Candidate, Leader}
-use Rattle.raft_model.specs.Rules.{candidate, accepts as node_accepts, append_to, append_all, risen, has_index, committed_upto, with_commit, appended, leading, leads, counted, stands, ask_all, may_vote, is_up_to_date, asked, voted, matches, keeps_front, is_refused, offered, after_yes, agreed_to, declined, of_own_term, of_lower_term, term_of, received}
-use Rattle.raft_model.specs.Limits.{most_entries, is_full}
-use Rattle.raft_model.specs.declared.message.Message.{Message}
-use Rattle.raft_model.specs.declared.message.Message.TheVariants.{AskVote, Vote, Append, Yes, No}
-use Rattle.raft_model.specs.declared.message.Sent.{Sent}
-use Rattle.raft_model.specs.Node.{Node, Done, last, to_others, quiet, reply, of_server}
-use Rattle.raft_model.proofs.Sound.{AskIsTrue, AppendIsTrue, IsTrueOf, AllTrue, Runs, GoesOn}
-use Rattle.raft_model.proofs.Moved.{goes_rise, goes_rest, goes_grant, goes_stand, goes_win, goes_append, goes_accept, goes_agree, goes_hear}
+use Rattle.raft_model.proofs.Moves.{sound_append, sound_agree, committed_is_agreed}
+use Rattle.raft_model.proofs.Going.{goes_nowhere}
+use Rattle.raft_model.proofs.History.{History, IsCommitted, Sound, append, agree, IsNewNumber, MayFollow}
+use Rattle.cat_model.specs.declared.reply.Role.TheVariants.{Leader}
+use Rattle.raft_model.specs.Rules.{has_index, committed_upto, with_commit, appended}
+use Rattle.raft_model.specs.Node.{Node, last, quiet, of_server}
+use Rattle.raft_model.proofs.Sound.{Runs}
+use Rattle.raft_model.proofs.Moved.{goes_append, goes_agree}
 use Rattle.raft_model.proofs.Came.{Came, commit_long, then}
 use Rattle.raft_model.proofs.Matching.{term_push}
 use Rattle.raft_model.proofs.Tests.{and_tells, eq_is, eq_tells, le_is, le_tells, lt_is, lt_tells, or_left, or_tells, and_is, at_bool}
-use Rattle.raft_model.specs.World.{after, next}
 
 -- what an index above the commit must be to become it
 record Commits (n : Node) (k r : ℕ) : Type 0 where
@@ -172,7 +163,6 @@ module _ (servers : ℕ) (h : History) (s : Sound servers h) (i : ℕ) where
             };
           }
 
-
   -- 8
   pub came_appended : (n : Node) (e : Entry) → Runs servers h i n → n.role ≡ Leader → e.term ≡ n.term → IsNewNumber h e.number → MayFollow n.log e → Came servers h i (quiet (record n { log = n.log ++ e ∷ [] }))
   came_appended n e r lead et fresh may = record {
@@ -219,8 +209,8 @@ single_commits n (suc k) one id l e =
     let has : has_index n (suc k) 1 ≡ true = or_left (1 == n.id) (nat_le (suc k) (of_server n.matched 1)) (eq_is 1 n.id (sym id)) in
     let most : is_majority n.servers (has_index n (suc k)) ≡ true = subst (λ z. is_majority z (has_index n (suc k)) ≡ true) (sym one) (one_is_majority (has_index n (suc k)) has) in
     let test : (nat_lt n.commit (suc k) && (term_at (suc k) n.log == n.term && is_majority n.servers (has_index n (suc k)))) ≡ true =
-        and_is (nat_lt n.commit (suc k)) (term_at (suc k) n.log == n.term && is_majority n.servers (has_index n (suc k))) (lt_is n.commit (suc k) l)
-        (and_is (term_at (suc k) n.log == n.term) (is_majority n.servers (has_index n (suc k))) (eq_is (term_at (suc k) n.log) n.term e) most) in
+    and_is (nat_lt n.commit (suc k)) (term_at (suc k) n.log == n.term && is_majority n.servers (has_index n (suc k))) (lt_is n.commit (suc k) l)
+    (and_is (term_at (suc k) n.log == n.term) (is_majority n.servers (has_index n (suc k))) (eq_is (term_at (suc k) n.log) n.term e) most) in
     rw test refl
 
 module _ (servers : ℕ) (h : History) (s : Sound servers h) (i : ℕ) where

@@ -3,8 +3,7 @@ use Rattle.std.proofs.Common.{ℕ, List, [], arith, inl, inr, max, refl, ◌∷�
 use Rattle.raft_model.proofs.History.{History, count_number}
 use Rattle.raft_model.proofs.Sound.{AllPackets, Fits, IsTrueOf, Runs}
 use Rattle.raft_model.specs.Node.{Node, last}
-use Rattle.raft_model.specs.Quorum.{count}
-use Rattle.raft_model.specs.Rules.{Beat, Input, Probe, Propose, Receive, Timeout, leads, stands}
+use Rattle.raft_model.specs.Rules.{Beat, Input, Probe, Propose, Receive, Timeout}
 use Rattle.raft_model.specs.World.{Packet, raised}
 use Rattle.raft_model.specs.declared.message.Message.{Message}
 use Rattle.raft_model.specs.declared.message.Message.TheVariants.{Append, AskVote, No, Vote, Yes}
@@ -54,4 +53,3 @@ raised_is Timeout g = omega arith
 raised_is Beat g = omega arith
 raised_is (Receive from message) g = omega arith
 raised_is Probe g = omega arith
-

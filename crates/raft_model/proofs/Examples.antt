@@ -1,11 +1,7 @@
 -- Small runs, computed.
-use Rattle.std.proofs.Common.{◌≡◌, ℕ, [], ◌∷◌, ◌++◌, Some, true, refl}
-use Rattle.std.specs.Prelude.{length}
-use Rattle.raft_model.specs.declared.message.Message.TheVariants.{AskVote, Vote, Append, Yes}
-use Rattle.raft_model.specs.Node.{Node, begun}
-use Rattle.raft_model.specs.Rules.{Timeout, Receive, done, noop}
-use Rattle.raft_model.specs.World.{World, nothing_kept}
-use Rattle.raft_model.specs.Runs.{ElectionRow, CountsRow, empty_store, fresh, given, settled, first_delivered}
+use Rattle.std.proofs.Common.{refl}
+use Rattle.raft_model.specs.Rules.{done}
+use Rattle.raft_model.specs.Runs.{ElectionRow, CountsRow, fresh, given, settled, first_delivered}
 use Rattle.cat_model.specs.Spelling.{tagged}
 
 pub election : ElectionRow

@@ -16,7 +16,6 @@ use Rattle.raft_model.proofs.Tests.{and_tells, at_bool, eq_tells, keeps_tells, l
 use Rattle.raft_model.specs.Limits.{keeps_limits}
 use Rattle.raft_model.specs.Log.{Log, accepted, term_at}
 use Rattle.raft_model.specs.Node.{Node, last, quiet, reply}
-use Rattle.raft_model.specs.Quorum.{count}
 use Rattle.raft_model.specs.declared.message.Message.TheVariants.{No, Yes}
 use Rattle.std.proofs.lemmas.Bool.{cases_lt}
 use Rattle.std.specs.Prelude.{nat_le, ◌==◌}

@@ -15,7 +15,7 @@ use Rattle.raft_model.proofs.History.{History, put, put₂, Has, Follows, IsComm
 use Rattle.cat_model.specs.declared.reply.Role.TheVariants.{Follower, Candidate, Leader}
 use Rattle.raft_model.proofs.Agreement.{committed_grown, committed_agree}
 use Rattle.raft_model.proofs.Opening.{opens_follows, opens_push}
-use Rattle.raft_model.specs.Rules.{asked, leading, stands}
+use Rattle.raft_model.specs.Rules.{asked, stands}
 
 abbrev pub IsAgreed : ℕ → (ℕ → Log) → (ℕ → Log) → (ℕ → ℕ → ℕ) → Log → Type 0
 IsAgreed servers first ledger acks agreed = (agreed ≡ []) ⊎ ((t : ℕ) × IsCommitted servers first ledger acks t (length agreed) × Has ledger t (length agreed) agreed)

@@ -186,15 +186,17 @@ moves_running servers h s i n input VoteFails n' sent k r begun t (saves, c, e, 
     let d = steps servers h s i n input r begun t in
     let m : Node = (done n input).node in
     at_outcome servers h i n' (halts n n'.store) sent [] e f (elim c.contents [
-      inl q ↦ halted_on servers h s i n n'.store (kept_of n) (q ∙ k) r (half_here servers h s i n r)
-    | inr q ↦ halted_on servers h s i n n'.store (half_kept n m) (changed_some (with_vote m.term m.vote) n.store.contents n'.store.contents (kept_of n) q k) r d.half ])
+      | inl q ↦ halted_on servers h s i n n'.store (kept_of n) (q ∙ k) r (half_here servers h s i n r)
+      | inr q ↦ halted_on servers h s i n n'.store (half_kept n m) (changed_some (with_vote m.term m.vote) n.store.contents n'.store.contents (kept_of n) q k) r d.half
+    ])
 moves_running servers h s i n input LogFails n' sent k r begun t (between, v, stores, c, e, f) =
     let d = steps servers h s i n input r begun t in
     let m : Node = (done n input).node in
     let b = vote_saved n m n.store between k v in
     at_outcome servers h i n' (halts n n'.store) sent [] e f (elim c.contents [
-      inl q ↦ halted_on servers h s i n n'.store (half_kept n m) (q ∙ b) r d.half
-    | inr q ↦ halted_on servers h s i n n'.store (kept_of m) (changed_some (with_log m.log) between.contents n'.store.contents (half_kept n m) q b) r (half_of servers h i (done n input) d.whole) ])
+      | inl q ↦ halted_on servers h s i n n'.store (half_kept n m) (q ∙ b) r d.half
+      | inr q ↦ halted_on servers h s i n n'.store (kept_of m) (changed_some (with_log m.log) between.contents n'.store.contents (half_kept n m) q b) r (half_of servers h i (done n input) d.whole)
+    ])
 moves_running servers h s i n input Forgets n' sent k r begun t (saves, c, stores, e, f) =
     let d = steps servers h s i n input r begun t in
     let m : Node = (done n input).node in
@@ -320,8 +322,9 @@ moves_arms servers h s i n nth f = record {
   told = tt;
   agreed = no_more h (arms n nth) (let c = commits_of servers h i n f in record { within = c.within; agrees = c.agrees });
   fits = elim f [
-    inl q ↦ inl (q.0, runs_stored servers h i n (record n.store { armed = nth }) q.1, q.2)
-  | inr q ↦ inr (q.0, let r = q.1 in record { id = r.id; count = r.count; place = r.place; kept = r.kept; holds = r.holds; rests = r.rests; term = r.term; vote = r.vote; log = r.log; role = r.role; commit_within = r.commit_within; commit_agrees = r.commit_agrees }) ];
+    | inl q ↦ inl (q.0, runs_stored servers h i n (record n.store { armed = nth }) q.1, q.2)
+    | inr q ↦ inr (q.0, let r = q.1 in record { id = r.id; count = r.count; place = r.place; kept = r.kept; holds = r.holds; rests = r.rests; term = r.term; vote = r.vote; log = r.log; role = r.role; commit_within = r.commit_within; commit_agrees = r.commit_agrees })
+  ];
 }
 
 -- what other servers are stays

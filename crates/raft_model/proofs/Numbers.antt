@@ -8,7 +8,6 @@ use Rattle.raft_model.proofs.History.{History, put, NumbersApart, IsNewNumber, S
 use Rattle.cat_model.specs.declared.reply.Role.{Role}
 use Rattle.cat_model.specs.declared.reply.Role.TheVariants.{Follower, Leader}
 use Rattle.raft_model.proofs.Election.{at_eq, at_put, put_other}
-use Rattle.raft_model.specs.Rules.{leading}
 
 pub number_take : (n m : ℕ) (x : Log) → n ≤ m → number_at n (take m x) ≡ number_at n x
 number_take zero m x h = refl

@@ -4,7 +4,6 @@ use Rattle.raft_model.proofs.Going.{true_stays}
 use Rattle.raft_model.proofs.History.{History}
 use Rattle.raft_model.proofs.Sound.{AllPackets, AllTrue, GoesOn, IsTrueOf}
 use Rattle.raft_model.proofs.Tests.{at_bool}
-use Rattle.raft_model.specs.Node.{last}
 use Rattle.raft_model.specs.World.{Bag, Packet, numbered, posted, posted_all, takes, without}
 use Rattle.raft_model.specs.declared.message.Sent.{Sent}
 use Rattle.std.specs.Prelude.{◌==◌}

@@ -12,7 +12,6 @@ use Rattle.raft_model.proofs.Sound.{AppendIsTrue, AskIsTrue, IsTrueOf, Runs}
 use Rattle.raft_model.proofs.Tests.{at_bool, at_server, le_tells, lt_tells_not}
 use Rattle.raft_model.proofs.Voting.{came_asked, came_voted}
 use Rattle.raft_model.specs.Node.{Node, last, of_server, quiet, reply}
-use Rattle.raft_model.specs.Quorum.{count}
 use Rattle.raft_model.specs.Rules.{after_yes, agreed_to, append_all, append_to, committed_upto, declined, noted, of_lower_term, of_own_term, received, risen, stepped_back, term_of, with_commit}
 use Rattle.raft_model.specs.declared.message.Message.{Message}
 use Rattle.raft_model.specs.declared.message.Message.TheVariants.{Append, AskVote, No, Vote, Yes}

@@ -1,5 +1,5 @@
 -- No rule lowers the commit.
-use Rattle.std.proofs.Common.{ℕ, Bool, Some, ap, arith, cond, false, length, max, min, refl, true, ◌+◌, ◌∷◌, ◌≡◌, ◌≤◌}
+use Rattle.std.proofs.Common.{ℕ, Bool, Some, ap, arith, cond, false, length, max, min, refl, true, ◌+◌, ◌≡◌, ◌≤◌}
 use Rattle.cat_model.specs.declared.reply.Role.{Role}
 use Rattle.cat_model.specs.declared.reply.Role.TheVariants.{Candidate, Follower, Leader}
 use Rattle.raft_model.proofs.Committing.{appended_up, committed_up}

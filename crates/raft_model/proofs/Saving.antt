@@ -6,7 +6,6 @@ use Rattle.cat_model.specs.declared.command.Command.{Command}
 use Rattle.cat_model.specs.declared.command.Entry.{Entry}
 use Rattle.cat_model.specs.declared.reply.Role.{Role}
 use Rattle.cat_model.specs.declared.reply.Role.TheVariants.{Candidate, Follower, Leader}
-use Rattle.raft_model.proofs.Agreement.{led}
 use Rattle.raft_model.proofs.Came.{Came, came_append_all, came_quiet, came_risen, commit_long, then}
 use Rattle.raft_model.proofs.Committing.{came_new}
 use Rattle.raft_model.proofs.Election.{put_same}
@@ -21,7 +20,7 @@ use Rattle.raft_model.proofs.Voting.{appended_role, came_ask_all, came_leads, ca
 use Rattle.raft_model.specs.Limits.{is_full}
 use Rattle.raft_model.specs.Log.{Log, accepted}
 use Rattle.raft_model.specs.Node.{Done, Kept, Node, last, of_server, quiet, reply}
-use Rattle.raft_model.specs.Quorum.{IsMajority, count, is_majority, members}
+use Rattle.raft_model.specs.Quorum.{IsMajority, is_majority, members}
 use Rattle.raft_model.specs.Step.{HasVoteOf}
 use Rattle.raft_model.specs.declared.message.Message.{Message}
 use Rattle.raft_model.specs.declared.message.Message.TheVariants.{Append, AskVote, No, Vote, Yes}

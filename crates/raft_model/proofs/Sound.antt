@@ -109,7 +109,6 @@ abbrev pub AllPackets : (Packet → Type 0) → List Packet → Type 0
 AllPackets P [] = Unit {0}
 AllPackets P (p ∷ ps) = P p × AllPackets P ps
 
-
 -- some history accounts for the world
 pub record IsSound (w : World) : Type 0 where
   pub history : History
@@ -118,7 +117,6 @@ pub record IsSound (w : World) : Type 0 where
   pub told : AllPackets (λ p. IsTrueOf history p.from p.to p.message) w.bag.packets
   pub agreed : history.agreed ≡ w.agreed
   pub greatest : history.greatest ≤ w.greatest
-
 
 -- a majority of servers is in later terms than t, and has not acknowledged round r of t
 pub record IsBlocked (servers : ℕ) (h : History) (t r : ℕ) : Type 0 where

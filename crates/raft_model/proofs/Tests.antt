@@ -1,30 +1,12 @@
 -- What tests tell, and what holds of an item after a write.
-use Rattle.std.proofs.Common.{◌≡◌, ◌≢◌, ℕ, zero, suc, ◌+◌, ◌*◌, ◌-◌, ◌<◌, ◌≤◌, min, max, Bool, true, false, cond, not, ◌⊎◌, inl, inr, Option, Some, None, List, [], ◌∷◌, ◌++◌, length, take, drop, get_or, set, replicate, refl, sym, ◌∙◌, ap, subst, arith}
-use Rattle.cat_model.specs.declared.command.Command.TheVariants.{Noop}
+use Rattle.std.proofs.Common.{◌≡◌, ℕ, zero, suc, ◌+◌, ◌<◌, ◌≤◌, Bool, true, false, cond, not, ◌⊎◌, List, [], ◌∷◌, length, take, get_or, set, replicate, refl, ap, arith}
 use Rattle.std.specs.Prelude.{◌==◌, nat_le, nat_lt, ◌&&◌, ◌||◌}
-use Rattle.std.proofs.lemmas.Bool.{cases_lt}
 use Rattle.std.proofs.lemmas.Bool.Decides.{nat_tests}
-use Rattle.std.proofs.lemmas.List.{take-take, length-take, length-drop, take-append-le, take_min, length_push}
-use Rattle.raft_model.specs.Quorum.{Servers, count, IsMajority, members, is_majority}
-use Rattle.cat_model.specs.declared.command.Entry.{Entry}
-use Rattle.raft_model.specs.Log.{Log, term_at, last_term, accepted, IsUpToDate}
-use Rattle.raft_model.proofs.Logs.{agree_below, agree_length, agree_term, front_take}
-use Rattle.raft_model.proofs.Election.{at_eq, at_put₂, put_same}
-use Rattle.raft_model.proofs.Accepting.{accepts, match_logs}
-use Rattle.raft_model.proofs.Agreement.{majority_more}
-use Rattle.raft_model.proofs.Moves.{sound_rise, sound_rest, sound_grant, sound_append, sound_win, sound_accept, sound_agree, sound_stand, sound_hear, no_leader, committed_is_agreed}
-use Rattle.raft_model.proofs.Going.{goes_nowhere, goes_further, true_stays}
-use Rattle.raft_model.proofs.History.{Follows, History, put, put₂, Has, IsCommitted, Sound, rise, rest, stand, grant, win, append, accept, agree, hear, IsNewNumber}
-use Rattle.cat_model.specs.declared.reply.Role.{Role}
-use Rattle.cat_model.specs.declared.reply.Role.TheVariants.{Follower, Candidate, Leader}
-use Rattle.raft_model.specs.Rules.{candidate, accepts as node_accepts, append_to, append_all, risen, has_index, committed_upto, with_commit, appended, leading, leads, counted, stands, ask_all, may_vote, is_up_to_date, asked, voted, matches, keeps_front, is_refused, offered, after_yes, agreed_to, declined, of_own_term, of_lower_term, term_of, received}
-use Rattle.raft_model.specs.Limits.{most_entries, is_full, batch, command_bytes, joining, most_sent_bytes}
-use Rattle.raft_model.specs.declared.message.Message.{Message}
-use Rattle.raft_model.specs.declared.message.Message.TheVariants.{AskVote, Vote, Append, Yes, No}
-use Rattle.raft_model.specs.declared.message.Sent.{Sent}
-use Rattle.raft_model.specs.Node.{Node, Done, last, to_others, quiet, reply, of_server, set_server}
-use Rattle.raft_model.proofs.Sound.{AskIsTrue, AppendIsTrue, IsTrueOf, AllTrue, Runs, GoesOn}
-use Rattle.raft_model.proofs.Moved.{goes_rise, goes_rest, goes_grant, goes_stand, goes_win, goes_append, goes_accept, goes_agree, goes_hear}
+use Rattle.std.proofs.lemmas.List.{length-take}
+use Rattle.raft_model.specs.Log.{Log, term_at, IsUpToDate}
+use Rattle.raft_model.specs.Rules.{is_up_to_date, keeps_front}
+use Rattle.raft_model.specs.Limits.{batch, command_bytes, joining, most_sent_bytes}
+use Rattle.raft_model.specs.Node.{of_server, set_server}
 
 -- an element after a write is the new one or an old one
 pub at_set : (P : ℕ → Type 0) (xs : List ℕ) (i x p : ℕ) → (p ≡ i → P x) → P (get_or xs p 0) → P (get_or (set xs i x) p 0)
@@ -67,7 +49,6 @@ or_tells a b h = grind arith
 
 pub up_tells : (t n : ℕ) (log : Log) → is_up_to_date t n log ≡ true → IsUpToDate t n log
 up_tells t n log e = grind (arith, nat_tests)
-
 
 pub keeps_tells : (k : ℕ) (old new : Log) → k ≤ length old → keeps_front k old new ≡ true → (k ≤ length new) × (term_at k old ≡ term_at k new)
 keeps_tells zero old new l e = (omega arith, refl)

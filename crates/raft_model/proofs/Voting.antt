@@ -18,7 +18,6 @@ use Rattle.raft_model.specs.Log.{IsUpToDate, last_term, term_at}
 use Rattle.raft_model.specs.Node.{Node, last, quiet, reply}
 use Rattle.raft_model.specs.Quorum.{IsMajority, Servers, count, is_majority, members}
 use Rattle.raft_model.specs.Rules.{append_all, appended, ask_all, asked, counted, is_up_to_date, leading, leads, may_vote, noop, stands, voted, with_voter}
-use Rattle.raft_model.specs.World.{after, next}
 use Rattle.raft_model.specs.declared.message.Message.TheVariants.{AskVote, Vote}
 use Rattle.std.specs.Prelude.{◌&&◌, ◌==◌, ◌||◌}
 use Rattle.raft_model.proofs.Rising.{leads_up}
@@ -138,7 +137,6 @@ pub appended_role : (n : Node) (e : Entry) → (appended n e).role ≡ n.role
 appended_role n e = at_bool (λ b. (cond b (record n { log = n.log ++ e ∷ []; commit = length (n.log ++ e ∷ []) }) (record n { log = n.log ++ e ∷ [] })).role ≡ n.role) (n.servers == 1) (λ _. refl) (λ _. refl)
 
 module _ (servers : ℕ) (i : ℕ) where
-
   pub came_leads : (h : History) → Sound servers h → (n : Node) → Runs servers h i n → n.role ≡ Candidate → IsMajority servers (members n.votes) → Came servers h i (leads n)
   came_leads h s n r stands most =
       let a = came_leading servers h s i n r stands most in
@@ -152,7 +150,6 @@ module _ (servers : ℕ) (i : ℕ) where
           let b = came_new servers k t i m (noop m.term) r lead refl (inl refl) (inr (refl, refl)) in
           then servers k i (appended m (noop m.term)) (append_all (appended m (noop m.term))) b (omega arith)
           (came_append_all servers b.after b.sound i (appended m (noop m.term)) b.runs (appended_role m (noop m.term) ∙ lead))
-
 
   pub came_counted : (h : History) → Sound servers h → (n : Node) → Runs servers h i n → n.role ≡ Candidate → Came servers h i (counted n)
   came_counted h s n r stands = at_bool (λ b. Came servers h i (cond b (leads n) (quiet n))) (is_majority n.servers (members n.votes))
@@ -189,6 +186,7 @@ module _ (servers : ℕ) (i : ℕ) where
       go false Candidate e t = came_quiet servers h s i n r
       go false Follower e t = came_quiet servers h s i n r
       go false Leader e t = came_quiet servers h s i n r
+
 -- 2
 pub came_stands : (servers : ℕ) (h : History) → Sound servers h → (i : ℕ) (n : Node) → Runs servers h i n → Came servers h i (quiet (stands n))
 came_stands servers h s i n r =

@@ -1,6 +1,6 @@
 -- The rules of a server (extended Raft paper, figure 2, "Rules for Servers" and the receivers' rules; its section on
 -- read-only operations for rounds). Each says what the server becomes and sends where its store works.
-use Rattle.std.specs.Prelude.{◌≡◌, ℕ, zero, suc, ◌+◌, ◌-◌, ◌^◌, ◌==◌, nat_le, nat_lt, min, max, not, ◌&&◌, ◌||◌, Bool, true, false, List, [], ◌∷◌, ◌++◌, length, drop, replicate, if◌then◌else◌, Option, Some, None}
+use Rattle.std.specs.Prelude.{ℕ, zero, suc, ◌+◌, ◌-◌, ◌^◌, ◌==◌, nat_le, nat_lt, min, max, not, ◌&&◌, ◌||◌, Bool, true, false, List, [], ◌∷◌, ◌++◌, length, drop, replicate, if◌then◌else◌, Option, Some, None}
 use Rattle.cat_model.specs.declared.command.Command.TheVariants.{Noop}
 use Rattle.cat_model.specs.declared.command.Command.{Command}
 use Rattle.cat_model.specs.declared.command.Entry.{Entry}

@@ -1,9 +1,9 @@
 -- Runs in which each store works: they compute, from a start with empty stores.
-use Rattle.std.specs.Prelude.{◌≡◌, ℕ, true, zero, suc, ◌-◌, List, [], ◌∷◌, replicate, get_or, Option, Some, None}
-use Rattle.raft_model.specs.Node.{Kept, Store, Node, Done, begun}
+use Rattle.std.specs.Prelude.{◌≡◌, ℕ, true, zero, suc, ◌-◌, List, [], ◌∷◌, replicate, get_or, Some, None}
+use Rattle.raft_model.specs.Node.{Store, Node, Done, begun}
 use Rattle.raft_model.specs.declared.message.Message.TheVariants.{AskVote, Vote, Append, Yes}
 use Rattle.raft_model.specs.Rules.{Input, Timeout, Receive, done, noop}
-use Rattle.raft_model.specs.World.{World, Bag, Packet, after, without, nothing_kept}
+use Rattle.raft_model.specs.World.{World, Packet, after, without, nothing_kept}
 
 abbrev pub empty_store : Store
 empty_store = record { contents = Some nothing_kept; armed = 0; faults = 0 }
