@@ -1,13 +1,13 @@
 -- Small runs, computed.
 use Rattle.std.proofs.Common.{refl}
-use Rattle.raft_model.specs.Rules.{done}
+use Rattle.raft_model.specs.Rules.{done, does, timed_out, candidate, received, of_own_term, of_lower_term, asked, voted, counted, leads, offered, accepts, agreed_to, after_yes}
 use Rattle.raft_model.specs.Runs.{ElectionRow, CountsRow, fresh, given, settled, first_delivered}
 use Rattle.cat_model.specs.Spelling.{tagged}
 
 pub election : ElectionRow
-unfolding done
+unfolding done does timed_out candidate received of_own_term voted counted leads agreed_to after_yes
 election = record { asks = refl; leads = refl; commits = refl; index = refl }
 
 pub counts : CountsRow
-unfolding done tagged fresh given settled first_delivered
+unfolding done does timed_out candidate received of_own_term of_lower_term asked voted counted leads offered accepts agreed_to after_yes tagged fresh given settled first_delivered
 counts = record { last = refl; delivered = refl; commits = refl; agreed = refl }

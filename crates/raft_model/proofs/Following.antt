@@ -135,6 +135,7 @@ module _ (servers : ℕ) (h : History) (s : Sound servers h) (i : ℕ) where
       go (inr l) = let e : n.commit ≡ max n.commit (min commit (prev + length es)) = omega arith in subst (λ z. take z new ≡ take z h.agreed) e old_front
 
   came_accepts : (n : Node) (from prev : ℕ) (es : Log) (commit round prev_term : ℕ) → Runs servers h i n → AppendIsTrue h from n.term prev prev_term es commit round → prev ≤ length n.log → term_at prev n.log ≡ prev_term → Came servers h i (node_accepts n from prev es commit round)
+  unfolding node_accepts
   came_accepts n from prev es commit round prev_term r a lp et = at_bool (λ b. Came servers h i (cond b (quiet (follows n from))
       (reply (record (follows n from) { log = accepted n.log prev es; commit = max n.commit (min commit (prev + length es)) }) from (Yes n.term (prev + length es) round))))
       (is_refused n (accepted n.log prev es))
@@ -142,6 +143,7 @@ module _ (servers : ℕ) (h : History) (s : Sound servers h) (i : ℕ) where
       (λ e. came_taken n from prev es commit round prev_term r a lp et (not_tells (keeps_front n.commit n.log (accepted n.log prev es)) (or_false (not (keeps_limits (accepted n.log prev es))) (not (keeps_front n.commit n.log (accepted n.log prev es))) e).1))
 
   pub came_offered : (n : Node) (from prev prev_term : ℕ) (es : Log) (commit round : ℕ) → Runs servers h i n → AppendIsTrue h from n.term prev prev_term es commit round → Came servers h i (offered n n.role from prev prev_term es commit round)
+  unfolding offered node_accepts
   came_offered n from prev prev_term es commit round r a = go n.role
     where
       other : Came servers h i (cond (matches n prev prev_term) (node_accepts n from prev es commit round) (reply (follows n from) from (No n.term (last n))))

@@ -20,6 +20,7 @@ use Rattle.std.specs.Prelude.{nat_le, nat_lt}
 module _ (servers : ℕ) (h : History) (s : Sound servers h) (i : ℕ) where
   -- 6
   came_agreed : (n : Node) (from matched round : ℕ) → Runs servers h i n → matched ≤ h.acks from n.term → round ≤ h.heard from n.term → Came servers h i (agreed_to n n.role from matched round)
+  unfolding agreed_to after_yes
   came_agreed n from matched round r t tr = go n.role refl
     where
       notes : n.role ≡ Leader → matched ≤ length n.log → Runs servers h i (noted n from matched round)
@@ -64,6 +65,7 @@ module _ (servers : ℕ) (h : History) (s : Sound servers h) (i : ℕ) where
 
   -- 7
   came_declined : (n : Node) (from last' : ℕ) → Runs servers h i n → Came servers h i (declined n n.role from last')
+  unfolding declined
   came_declined n from last' r = go n.role refl
     where
       short : n.role ≡ Leader → of_server n.matched from ≤ length n.log
@@ -102,6 +104,7 @@ module _ (servers : ℕ) (h : History) (s : Sound servers h) (i : ℕ) where
 
 -- a message of the node's own term
 pub came_own : (servers : ℕ) (h : History) → Sound servers h → (i : ℕ) (n : Node) (from : ℕ) (m : Message) → Runs servers h i n → n.term ≡ term_of m → IsTrueOf h from i m → Came servers h i (of_own_term n from m)
+unfolding of_own_term
 came_own servers h s i n from (AskVote t li lt) r e a = came_asked servers h s i n from li lt r (subst (λ z. AskIsTrue h from z li lt) (sym e) a)
 came_own servers h s i n from (Vote t granted) r e a = came_voted servers i h s n from granted r (λ g. ap (h.votes from) e ∙ a g)
 came_own servers h s i n from (Append t prev pt es commit round) r e a = came_offered servers h s i n from prev pt es commit round r (subst (λ z. AppendIsTrue h from z prev pt es commit round) (sym e) a)
@@ -109,6 +112,7 @@ came_own servers h s i n from (Yes t matched round) r e a = came_agreed servers 
 came_own servers h s i n from (No t last') r e a = came_declined servers h s i n from last' r
 
 pub came_lower : (servers : ℕ) (h : History) → Sound servers h → (i : ℕ) (n : Node) (from : ℕ) (m : Message) → Runs servers h i n → Came servers h i (of_lower_term n from m)
+unfolding of_lower_term
 came_lower servers h s i n from (AskVote t li lt) r = came_reply servers h s i n r from (Vote n.term false) (λ e. cc e)
 came_lower servers h s i n from (Vote t granted) r = came_quiet servers h s i n r
 came_lower servers h s i n from (Append t prev pt es commit round) r = came_reply servers h s i n r from (No n.term (last n)) tt
@@ -119,6 +123,7 @@ pub risen_term : (n : Node) (t : ℕ) → n.term ≤ t → (risen n t).term ≡ 
 risen_term n t l = at_bool (λ b. (cond b (record n { term = t; vote = None; role = Follower; leader = None }) n).term ≡ t) (nat_lt n.term t) (λ _. refl) (λ e. let k = lt_tells_not n.term t e in omega arith)
 
 pub came_received : (servers : ℕ) (h : History) → Sound servers h → (i : ℕ) (n : Node) (from : ℕ) (m : Message) → Runs servers h i n → IsTrueOf h from i m → Came servers h i (received n from m)
+unfolding received
 came_received servers h s i n from m r a = at_bool (λ b. Came servers h i (cond b (of_lower_term n from m) (of_own_term (risen n (term_of m)) from m))) (nat_lt (term_of m) n.term)
     (λ _. came_lower servers h s i n from m r)
     (λ e.

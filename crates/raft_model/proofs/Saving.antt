@@ -1,6 +1,6 @@
 -- A step leaves a sound history too where the store fails in its midst.
 use Rattle.std.proofs.Common.{ℕ, Bool, None, Some, [], ap, arith, cond, false, inl, inr, length, max, min, refl, subst, suc, sym, true, ◌++◌, ◌+◌, ◌-◌, ◌∙◌, ◌∷◌, ◌≡◌, ◌⊎◌}
-use Rattle.raft_model.specs.Rules.{accepts, Beat, Input, Probe, Propose, Receive, Timeout, after_yes, agreed_to, append_all, append_to, appended, ask_all, beats, candidate, counted, declined, does, done, follows, has_room, is_refused, is_up_to_date, leading, leads, matches, may_vote, noop, noted, of_lower_term, of_own_term, offered, probes, proposal, proposes, received, risen, stands, term_of, timed_out, voted, with_commit, with_voter}
+use Rattle.raft_model.specs.Rules.{accepts, Beat, Input, Probe, Propose, Receive, Timeout, after_yes, agreed_to, append_all, append_to, appended, ask_all, beats, candidate, counted, declined, does, done, follows, has_room, is_refused, is_up_to_date, leading, leads, matches, may_vote, noop, noted, of_lower_term, of_own_term, offered, probes, proposal, proposes, received, risen, stands, term_of, timed_out, voted, with_commit, with_voter, asked}
 use Rattle.raft_model.proofs.Sound.{kept_of, GoesOn, IsTrueOf, Runs, HasBegun}
 use Rattle.cat_model.specs.declared.command.Command.{Command}
 use Rattle.cat_model.specs.declared.command.Entry.{Entry}
@@ -20,13 +20,16 @@ use Rattle.raft_model.proofs.Voting.{appended_role, came_ask_all, came_leads, ca
 use Rattle.raft_model.specs.Limits.{is_full}
 use Rattle.raft_model.specs.Log.{Log, accepted}
 use Rattle.raft_model.specs.Node.{Done, Kept, Node, last, of_server, quiet, reply}
-use Rattle.raft_model.specs.Quorum.{IsMajority, is_majority, members}
+use Rattle.raft_model.specs.Quorum.{IsMajority, is_majority, members, count}
 use Rattle.raft_model.specs.Step.{HasVoteOf}
 use Rattle.raft_model.specs.declared.message.Message.{Message}
 use Rattle.raft_model.specs.declared.message.Message.TheVariants.{Append, AskVote, No, Vote, Yes}
 use Rattle.std.specs.Prelude.{nat_le, nat_lt, ◌&&◌, ◌==◌, ◌^◌}
+use Rattle.raft_model.proofs.Agreement.{led}
+use Rattle.raft_model.specs.Runs.{fresh}
 
 came_candidate : (servers : ℕ) (h : History) → Sound servers h → (i : ℕ) (n : Node) → Runs servers h i n → n.role ≡ Candidate → n.votes ≡ n.id ∷ [] → Came servers h i (candidate n)
+unfolding candidate
 came_candidate servers h s i n r stands own = at_bool (λ b. Came servers h i (cond b (leads n) (ask_all n))) (n.servers == 1)
     (λ e. came_leads servers i h s n r stands (alone (eq_tells n.servers 1 e)))
     (λ _. came_ask_all servers h s i n r stands)
@@ -68,15 +71,19 @@ appended_same : (n : Node) (e : Entry) → HasVoteOf n (appended n e)
 appended_same n e = at_bool (λ b. HasVoteOf n (cond b (record n { log = n.log ++ e ∷ []; commit = length (n.log ++ e ∷ []) }) (record n { log = n.log ++ e ∷ [] }))) (n.servers == 1) (λ _. (refl, refl)) (λ _. (refl, refl))
 
 leads_same : (n : Node) → HasVoteOf n (leads n).node
+unfolding leads
 leads_same n = at_bool (λ b. HasVoteOf n (cond b (leading n) (appended (leading n) (noop n.term)))) (is_full n.log) (λ _. (refl, refl)) (λ _. appended_same (leading n) (noop n.term))
 
 candidate_same : (n : Node) → HasVoteOf n (candidate n).node
+unfolding candidate
 candidate_same n = at_bool (λ b. HasVoteOf n (cond b (leads n) (ask_all n)).node) (n.servers == 1) (λ _. leads_same n) (λ _. (refl, refl))
 
 counted_same : (n : Node) → HasVoteOf n (counted n).node
+unfolding counted
 counted_same n = at_bool (λ b. HasVoteOf n (cond b (leads n) (quiet n)).node) (is_majority n.servers (members n.votes)) (λ _. leads_same n) (λ _. (refl, refl))
 
 voted_same : (n : Node) (from : ℕ) (g : Bool) (r : Role) → HasVoteOf n (voted n from g r).node
+unfolding voted
 voted_same n from true Candidate = counted_same (record n { votes = with_voter n.votes from })
 voted_same n from true Follower = (refl, refl)
 voted_same n from true Leader = (refl, refl)
@@ -85,20 +92,24 @@ voted_same n from false Follower = (refl, refl)
 voted_same n from false Leader = (refl, refl)
 
 accepts_same : (n : Node) (from prev : ℕ) (es : Log) (commit round : ℕ) → HasVoteOf n (accepts n from prev es commit round).node
+unfolding accepts
 accepts_same n from prev es commit round = at_bool (λ b. HasVoteOf n (cond b (quiet (follows n from))
     (reply (record (follows n from) { log = accepted n.log prev es; commit = max n.commit (min commit (prev + length es)) }) from (Yes n.term (prev + length es) round))).node)
     (is_refused n (accepted n.log prev es)) (λ _. (refl, refl)) (λ _. (refl, refl))
 
 offered_same : (n : Node) (r : Role) (from prev pt : ℕ) (es : Log) (commit round : ℕ) → HasVoteOf n (offered n r from prev pt es commit round).node
+unfolding offered
 offered_same n Leader from prev pt es commit round = (refl, refl)
 offered_same n Follower from prev pt es commit round = at_bool (λ b. HasVoteOf n (cond b (accepts n from prev es commit round) (reply (follows n from) from (No n.term (last n)))).node) (matches n prev pt) (λ _. accepts_same n from prev es commit round) (λ _. (refl, refl))
 offered_same n Candidate from prev pt es commit round = at_bool (λ b. HasVoteOf n (cond b (accepts n from prev es commit round) (reply (follows n from) from (No n.term (last n)))).node) (matches n prev pt) (λ _. accepts_same n from prev es commit round) (λ _. (refl, refl))
 
 after_yes_same : (old n : Node) (from : ℕ) → HasVoteOf n (after_yes old n from).node
+unfolding after_yes
 after_yes_same old n from = at_bool (λ b. HasVoteOf n (cond b (append_all n) (cond (nat_le (of_server n.next from) (last n)) (reply n from (append_to n from)) (quiet n))).node) (nat_lt old.commit n.commit)
     (λ _. (refl, refl)) (λ _. at_bool (λ b. HasVoteOf n (cond b (reply n from (append_to n from)) (quiet n)).node) (nat_le (of_server n.next from) (last n)) (λ _. (refl, refl)) (λ _. (refl, refl)))
 
 agreed_same : (n : Node) (r : Role) (from matched round : ℕ) → HasVoteOf n (agreed_to n r from matched round).node
+unfolding agreed_to
 agreed_same n Follower from matched round = (refl, refl)
 agreed_same n Candidate from matched round = (refl, refl)
 agreed_same n Leader from matched round =
@@ -106,11 +117,13 @@ agreed_same n Leader from matched round =
     at_bool (λ b. HasVoteOf n (cond b (after_yes n m from) (quiet n)).node) (nat_le matched (last n)) (λ _. after_yes_same n m from) (λ _. (refl, refl))
 
 declined_same : (n : Node) (r : Role) (from k : ℕ) → HasVoteOf n (declined n r from k).node
+unfolding declined
 declined_same n Leader from k = (refl, refl)
 declined_same n Follower from k = (refl, refl)
 declined_same n Candidate from k = (refl, refl)
 
 own_one : (n : Node) (from : ℕ) (m : Message) → One n (of_own_term n from m).node
+unfolding of_own_term asked
 own_one n from (AskVote t li lt) = at_bool (λ b. One n (cond b (reply (record n { vote = Some from }) from (Vote n.term true)) (reply n from (Vote n.term false))).node) (may_vote n.vote from && is_up_to_date lt li n.log) (λ _. inl refl) (λ _. inl refl)
 own_one n from (Vote t g) = inr (voted_same n from g n.role)
 own_one n from (Append t prev pt es commit round) = inr (offered_same n n.role from prev pt es commit round)
@@ -118,6 +131,7 @@ own_one n from (Yes t matched round) = inr (agreed_same n n.role from matched ro
 own_one n from (No t k) = inr (declined_same n n.role from k)
 
 lower_same : (n : Node) (from : ℕ) (m : Message) → HasVoteOf n (of_lower_term n from m).node
+unfolding of_lower_term
 lower_same n from (AskVote t li lt) = (refl, refl)
 lower_same n from (Vote t g) = (refl, refl)
 lower_same n from (Append t prev pt es commit round) = (refl, refl)
@@ -136,6 +150,7 @@ pub record Steps (servers : ℕ) (h : History) (i : ℕ) (n : Node) (d : Done) :
   pub half : Half servers h i (half_kept n d.node)
 
 steps_received : (servers : ℕ) (h : History) → Sound servers h → (i : ℕ) (n : Node) (from : ℕ) (m : Message) → Runs servers h i n → IsTrueOf h from i m → Steps servers h i n (received n from m)
+unfolding received
 steps_received servers h s i n from m r a = at_bool (λ b. Steps servers h i n (cond b (of_lower_term n from m) (of_own_term (risen n (term_of m)) from m))) (nat_lt (term_of m) n.term)
     (λ _. let c = came_lower servers h s i n from m r in record { whole = c; half = half_one servers h s i n (of_lower_term n from m) r c (inr (lower_same n from m)) })
     (λ e.
@@ -148,6 +163,7 @@ steps_received servers h s i n from m r a = at_bool (λ b. Steps servers h i n (
     })
 
 steps_candidate : (servers : ℕ) (h : History) → Sound servers h → (i : ℕ) (n : Node) → Runs servers h i n → Steps servers h i n (candidate (stands n))
+unfolding candidate
 steps_candidate servers h s i n r =
     let up = came_stands servers h s i n r in
     let c = came_candidate servers up.after up.sound i (stands n) up.runs refl refl in
@@ -160,6 +176,7 @@ steps_quiet : (servers : ℕ) (h : History) → Sound servers h → (i : ℕ) (n
 steps_quiet servers h s i n r = record { whole = came_quiet servers h s i n r; half = half_here servers h s i n r }
 
 steps_timed_out : (servers : ℕ) (h : History) → Sound servers h → (i : ℕ) (n : Node) → Runs servers h i n → (role : Role) → Steps servers h i n (timed_out n role)
+unfolding timed_out
 steps_timed_out servers h s i n r Leader = steps_quiet servers h s i n r
 steps_timed_out servers h s i n r Follower = at_bool (λ b. Steps servers h i n (cond b (candidate (stands n)) (quiet n))) (nat_lt n.term (2 ^ 64 - 1)) (λ _. steps_candidate servers h s i n r) (λ _. steps_quiet servers h s i n r)
 steps_timed_out servers h s i n r Candidate = at_bool (λ b. Steps servers h i n (cond b (candidate (stands n)) (quiet n))) (nat_lt n.term (2 ^ 64 - 1)) (λ _. steps_candidate servers h s i n r) (λ _. steps_quiet servers h s i n r)
@@ -168,11 +185,13 @@ steps_append_all : (servers : ℕ) (h : History) → Sound servers h → (i : �
 steps_append_all servers h s i n r lead = record { whole = came_append_all servers h s i n r lead; half = half_here servers h s i n r }
 
 steps_beats : (servers : ℕ) (h : History) → Sound servers h → (i : ℕ) (n : Node) → Runs servers h i n → (role : Role) → n.role ≡ role → Steps servers h i n (beats n role)
+unfolding beats
 steps_beats servers h s i n r Leader e = steps_append_all servers h s i n r e
 steps_beats servers h s i n r Follower e = steps_quiet servers h s i n r
 steps_beats servers h s i n r Candidate e = steps_quiet servers h s i n r
 
 steps_proposes : (servers : ℕ) (h : History) → Sound servers h → (i : ℕ) (n : Node) → Runs servers h i n → (number : ℕ) (command : Command) → HasBegun n → (n.role ≡ Leader → IsNewNumber h number) → (role : Role) → n.role ≡ role → Steps servers h i n (proposes n role number command)
+unfolding proposes
 steps_proposes servers h s i n r number command begun fresh Follower e = steps_quiet servers h s i n r
 steps_proposes servers h s i n r number command begun fresh Candidate e = steps_quiet servers h s i n r
 steps_proposes servers h s i n r number command begun fresh Leader lead =
@@ -186,6 +205,7 @@ steps_proposes servers h s i n r number command begun fresh Leader lead =
         record { whole = w; half = half_one servers h s i n (append_all (appended n e)) r w (inr (appended_same n e)) }
 
 steps_probes : (servers : ℕ) (h : History) → Sound servers h → (i : ℕ) (n : Node) → Runs servers h i n → (role : Role) → n.role ≡ role → Steps servers h i n (probes n role)
+unfolding probes
 steps_probes servers h s i n r Follower e = steps_quiet servers h s i n r
 steps_probes servers h s i n r Candidate e = steps_quiet servers h s i n r
 steps_probes servers h s i n r Leader lead =
@@ -228,6 +248,7 @@ IsTrueInput h i n (Propose number command) = n.role ≡ Leader → IsNewNumber h
 IsTrueInput h i n input = Unit {0}
 
 steps_does : (servers : ℕ) (h : History) → Sound servers h → (i : ℕ) (n : Node) (input : Input) → Runs servers h i n → HasBegun n → IsTrueInput h i n input → Steps servers h i n (does n input)
+unfolding does
 steps_does servers h s i n Timeout r _ _ = steps_timed_out servers h s i n r n.role
 steps_does servers h s i n Beat r _ _ = steps_beats servers h s i n r n.role refl
 steps_does servers h s i n (Receive from m) r _ t = steps_received servers h s i n from m r t

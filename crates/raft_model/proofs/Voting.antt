@@ -70,6 +70,7 @@ module _ (servers : ℕ) (h : History) (s : Sound servers h) (i : ℕ) where
   free_from (Some d) c e = inr (ap Some (eq_tells d c e))
 
   pub came_asked : (n : Node) (from li lt : ℕ) → Runs servers h i n → AskIsTrue h from n.term li lt → Came servers h i (asked n from li lt)
+  unfolding asked
   came_asked n from li lt r a = at_bool (λ b. Came servers h i (cond b (reply (record n { vote = Some from }) from (Vote n.term true)) (reply n from (Vote n.term false)))) (may_vote n.vote from && is_up_to_date lt li n.log)
       (λ e. let q = and_tells (may_vote n.vote from) (is_up_to_date lt li n.log) e in granted (free_from n.vote from q.0) (up_tells lt li n.log q.1))
       (λ _. came_reply servers h s i n r from (Vote n.term false) (λ e. cc e))
@@ -138,6 +139,7 @@ appended_role n e = at_bool (λ b. (cond b (record n { log = n.log ++ e ∷ []; 
 
 module _ (servers : ℕ) (i : ℕ) where
   pub came_leads : (h : History) → Sound servers h → (n : Node) → Runs servers h i n → n.role ≡ Candidate → IsMajority servers (members n.votes) → Came servers h i (leads n)
+  unfolding leads
   came_leads h s n r stands most =
       let a = came_leading servers h s i n r stands most in
       then servers h i (leading n) (leads n) a (leads_up n (commit_long servers h s i n r)) (at_bool (λ b. Came servers a.after i (append_all (cond b (leading n) (appended (leading n) (noop n.term)))))
@@ -152,11 +154,13 @@ module _ (servers : ℕ) (i : ℕ) where
           (came_append_all servers b.after b.sound i (appended m (noop m.term)) b.runs (appended_role m (noop m.term) ∙ lead))
 
   pub came_counted : (h : History) → Sound servers h → (n : Node) → Runs servers h i n → n.role ≡ Candidate → Came servers h i (counted n)
+  unfolding counted
   came_counted h s n r stands = at_bool (λ b. Came servers h i (cond b (leads n) (quiet n))) (is_majority n.servers (members n.votes))
       (λ e. came_leads h s n r stands (subst (λ z. z < 2 * count (members n.votes) z) r.count (lt_tells n.servers (2 * count (members n.votes) n.servers) e)))
       (λ _. came_quiet servers h s i n r)
 
   pub came_voted : (h : History) → Sound servers h → (n : Node) (from : ℕ) (granted : Bool) → Runs servers h i n → (granted ≡ true → h.votes from n.term ≡ Some i) → Came servers h i (voted n from granted n.role)
+  unfolding voted
   came_voted h s n from granted r t = go granted n.role refl t
     where
       more : n.role ≡ Candidate → h.votes from n.term ≡ Some i → Runs servers h i (record n { votes = with_voter n.votes from })

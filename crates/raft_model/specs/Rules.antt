@@ -63,7 +63,7 @@ abbrev pub noop : ℕ → Entry
 noop term = record { term = term; number = 0; command = Noop }
 
 -- It appends a Noop with number 0, unless its log is full in entries, and sends Append to all others.
-abbrev pub leads : Node → Done
+unfoldable pub leads : Node → Done
 leads n = append_all (if is_full n.log then leading n else appended (leading n) (noop n.term))
 
 -- A timeout: the next term, a vote for itself, candidate, no known leader.
@@ -74,10 +74,10 @@ abbrev pub ask_all : Node → Done
 ask_all n = record { node = n; sent = to_others n.id (λ peer. AskVote n.term (last n) (last_term n.log)) n.servers }
 
 -- It asks all others for their votes. A single server leads at once.
-abbrev pub candidate : Node → Done
+unfoldable pub candidate : Node → Done
 candidate n = if n.servers == 1 then leads n else ask_all n
 
-abbrev pub timed_out : Node → Role → Done
+unfoldable pub timed_out : Node → Role → Done
 timed_out n Leader = quiet n
 timed_out n role = if nat_lt n.term (2 ^ 64 - 1) then candidate (stands n) else quiet n
 
@@ -90,21 +90,21 @@ is_up_to_date t n log = nat_lt (last_term log) t || (last_term log == t && nat_l
 
 -- An AskVote of the own term is granted exactly where there is no vote or one for the sender, and the sender's
 -- last entry is not smaller than the node's own, terms compared first.
-abbrev pub asked : Node → ℕ → ℕ → ℕ → Done
+unfoldable pub asked : Node → ℕ → ℕ → ℕ → Done
 asked n from last_index last_term =
     if may_vote n.vote from && is_up_to_date last_term last_index n.log
     then reply (record n { vote = Some from }) from (Vote n.term true)
     else reply n from (Vote n.term false)
 
 -- A candidate that has a majority's votes leads.
-abbrev pub counted : Node → Done
+unfoldable pub counted : Node → Done
 counted n = if is_majority n.servers (members n.votes) then leads n else quiet n
 
 abbrev pub with_voter : List ℕ → ℕ → List ℕ
 with_voter votes from = if members votes from then votes else votes ++ from ∷ []
 
 -- A granted Vote of the own term is counted by a candidate, once per voter.
-abbrev pub voted : Node → ℕ → Bool → Role → Done
+unfoldable pub voted : Node → ℕ → Bool → Role → Done
 voted n from true Candidate = counted (record n { votes = with_voter n.votes from })
 voted n from granted role = quiet n
 
@@ -128,7 +128,7 @@ follows n from = record n { role = Follower; leader = Some from }
 
 -- The commit becomes the greater of itself and the smaller of the message's commit and the last index that the
 -- message tells of.
-abbrev pub accepts : Node → ℕ → ℕ → Log → ℕ → ℕ → Done
+unfoldable pub accepts : Node → ℕ → ℕ → Log → ℕ → ℕ → Done
 accepts n from prev entries commit round =
     let new = accepted n.log prev entries in
     if is_refused n new
@@ -138,7 +138,7 @@ accepts n from prev entries commit round =
 
 -- An Append of the own term: a leader ignores it. Any other follows the sender, and answers No where it has no
 -- entry prev of that term.
-abbrev pub offered : Node → Role → ℕ → ℕ → ℕ → Log → ℕ → ℕ → Done
+unfoldable pub offered : Node → Role → ℕ → ℕ → ℕ → Log → ℕ → ℕ → Done
 offered n Leader from prev prev_term entries commit round = quiet n
 offered n role from prev prev_term entries commit round =
     if matches n prev prev_term
@@ -146,7 +146,7 @@ offered n role from prev prev_term entries commit round =
     else reply (follows n from) from (No n.term (last n))
 
 -- Where the commit rose, Append goes to all others, else to the sender where it lacks entries.
-abbrev pub after_yes : Node → Node → ℕ → Done
+unfoldable pub after_yes : Node → Node → ℕ → Done
 after_yes old n from =
     if nat_lt old.commit n.commit then append_all n
     else if nat_le (of_server n.next from) (last n) then reply n from (append_to n from)
@@ -161,7 +161,7 @@ noted n from matched round = record n {
 }
 
 -- A Yes of the own term at a leader, with matched not above its last.
-abbrev pub agreed_to : Node → Role → ℕ → ℕ → ℕ → Done
+unfoldable pub agreed_to : Node → Role → ℕ → ℕ → ℕ → Done
 agreed_to n Leader from matched round =
     if nat_le matched (last n) then after_yes n (with_commit (noted n from matched round)) from else quiet n
 agreed_to n role from matched round = quiet n
@@ -173,11 +173,11 @@ stepped_back n from last = record n {
 }
 
 -- A No of the own term at a leader: Append goes to the sender.
-abbrev pub declined : Node → Role → ℕ → ℕ → Done
+unfoldable pub declined : Node → Role → ℕ → ℕ → Done
 declined n Leader from last = let new = stepped_back n from last in reply new from (append_to new from)
 declined n role from last = quiet n
 
-abbrev pub of_own_term : Node → ℕ → Message → Done
+unfoldable pub of_own_term : Node → ℕ → Message → Done
 of_own_term n from (AskVote term last_index last_term) = asked n from last_index last_term
 of_own_term n from (Vote term granted) = voted n from granted n.role
 of_own_term n from (Append term prev prev_term entries commit round) = offered n n.role from prev prev_term entries commit round
@@ -186,7 +186,7 @@ of_own_term n from (No term last) = declined n n.role from last
 
 -- Of a lower term an AskVote is answered Vote not granted, an Append No, both with the own term, and others are
 -- ignored.
-abbrev pub of_lower_term : Node → ℕ → Message → Done
+unfoldable pub of_lower_term : Node → ℕ → Message → Done
 of_lower_term n from (AskVote term last_index last_term) = reply n from (Vote n.term false)
 of_lower_term n from (Append term prev prev_term entries commit round) = reply n from (No n.term (last n))
 of_lower_term n from message = quiet n
@@ -198,13 +198,13 @@ term_of (Append term prev prev_term entries commit round) = term
 term_of (Yes term matched round) = term
 term_of (No term last) = term
 
-abbrev pub received : Node → ℕ → Message → Done
+unfoldable pub received : Node → ℕ → Message → Done
 received n from message =
     if nat_lt (term_of message) n.term then of_lower_term n from message
     else of_own_term (risen n (term_of message)) from message
 
 -- A leader's heartbeat.
-abbrev pub beats : Node → Role → Done
+unfoldable pub beats : Node → Role → Done
 beats n Leader = append_all n
 beats n role = quiet n
 
@@ -216,12 +216,12 @@ abbrev pub has_room : Node → ℕ → Command → Bool
 has_room n number command = keeps_limits (n.log ++ proposal n number command ∷ [])
 
 -- A proposal at a leader whose log has room for it is appended, and Append goes to all others.
-abbrev pub proposes : Node → Role → ℕ → Command → Done
+unfoldable pub proposes : Node → Role → ℕ → Command → Done
 proposes n Leader number command = if has_room n number command then append_all (appended n (proposal n number command)) else quiet n
 proposes n role number command = quiet n
 
 -- A probe at a leader begins the next round, and Append goes to all others.
-abbrev pub probes : Node → Role → Done
+unfoldable pub probes : Node → Role → Done
 probes n Leader = append_all (record n { round = n.round + 1 })
 probes n role = quiet n
 
@@ -246,7 +246,7 @@ pub data Input : Type 0 where
   Propose : (number : ℕ) (command : Command) → Input
   Probe : Input
 
-abbrev pub does : Node → Input → Done
+unfoldable pub does : Node → Input → Done
 does n Timeout = timed_out n n.role
 does n Beat = beats n n.role
 does n (Receive from message) = received n from message
