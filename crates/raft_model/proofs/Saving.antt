@@ -138,7 +138,7 @@ lower_same n from (Append t prev pt es commit round) = (refl, refl)
 lower_same n from (Yes t matched round) = (refl, refl)
 lower_same n from (No t k) = (refl, refl)
 
-risen_log : (n : Node) (t : ℕ) → (risen n t).log ≡ n.log
+pub risen_log : (n : Node) (t : ℕ) → (risen n t).log ≡ n.log
 risen_log n t = at_bool (λ b. (cond b (record n { term = t; vote = None; role = Follower; leader = None }) n).log ≡ n.log) (nat_lt n.term t) (λ _. refl) (λ _. refl)
 
 half_after : (servers : ℕ) (h : History) (i : ℕ) (n m : Node) (d : Done) (a : Came servers h i (quiet m)) → m.log ≡ n.log → Half servers a.after i (half_kept m d.node) → Half servers h i (half_kept n d.node)
