@@ -5,11 +5,12 @@ use Rattle.raft_model.proofs.Places.{is_placed, leader_begins, stands_once}
 use Rattle.raft_model.proofs.Rounds.{shows_agreed}
 use Rattle.raft_model.proofs.Starts.{reached_sound}
 use Rattle.raft_model.proofs.Worlds.{agreement, reach_goes, step_goes}
-use Rattle.raft_model.specs.Facts.{IsLeading, IsPlaced, IsReady, ShowsAgreed, StandsOnce, next_round}
+use Rattle.raft_model.specs.Facts.{IsLeading, IsPlaced, IsReady, ShowsAgreed, StandsOnce, next_round, HasOneLeader, KeepsVotes, HasMatchingLogs}
 use Rattle.raft_model.specs.Log.{entry_at, last_term, HasNumbersOnce, IsWellFormed}
 use Rattle.raft_model.specs.Node.{Node}
 use Rattle.raft_model.specs.World.{Agrees, IsReached, IsServer, Move, Reaches, World, WorldStep, IsOfFirstRun}
 use Rattle.raft_model.proofs.Forming.{agreed_well_formed, numbers_once}
+use Rattle.raft_model.proofs.Paper.{keeps_votes, logs_match, one_leader}
 
 pub agrees : (w : World) → IsReached w → Agrees w
 agrees w r = agreement w (reached_sound w r)
@@ -37,3 +38,12 @@ first_run w f = numbers_once w f
 
 pub begins : (w : World) → IsReached w → (i : ℕ) (n : Node) → IsServer w i n → IsLeading n → last_term w.agreed ≤ n.term → take (length w.agreed) n.log ≡ w.agreed
 begins w r i n at lead = leader_begins w (reached_sound w r) i n at lead.0 lead.1
+
+pub leads_alone : (w : World) → IsReached w → HasOneLeader w
+leads_alone w r = one_leader w (reached_sound w r)
+
+pub matching : (w : World) → IsReached w → HasMatchingLogs w
+matching w r = logs_match w (reached_sound w r)
+
+pub keeping : (w w' : World) → IsReached w → Reaches w w' → KeepsVotes w w'
+keeping w w' r = keeps_votes w (reached_sound w r) w'

@@ -47,3 +47,17 @@ abbrev pub StandsOnce : World → World → Type 0
 StandsOnce w w' =
     (x y : Log) (m k : ℕ) → IsLogOf w x → IsLogOf w' y → 0 < m → m ≤ length x → 0 < k → k ≤ length y
     → term_at m x ≡ term_at k y → number_at m x ≡ number_at k y → number_at m x ≢ 0 → m ≡ k
+
+-- A term has one leader.
+abbrev pub HasOneLeader : World → Type 0
+HasOneLeader w = (i j : ℕ) (n m : Node) → IsServer w i n → IsServer w j m → IsLeading n → IsLeading m → n.term ≡ m.term → i ≡ j
+
+-- Logs match: two logs that have one term at one index are the same up to it.
+abbrev pub HasMatchingLogs : World → Type 0
+HasMatchingLogs w = (x y : Log) (m : ℕ) → IsLogOf w x → IsLogOf w y → m ≤ length x → m ≤ length y → term_at m x ≡ term_at m y → take m x ≡ take m y
+
+-- From one world to a later one a server's kept term never falls, and its vote in a term stays.
+abbrev pub KeepsVotes : World → World → Type 0
+KeepsVotes w w' =
+    (i : ℕ) (n n' : Node) (kept kept' : Kept) → IsServer w i n → IsServer w' i n' → n.store.contents ≡ Some kept → n'.store.contents ≡ Some kept'
+    → (kept.term ≤ kept'.term) × ((c : ℕ) → kept.term ≡ kept'.term → kept.vote ≡ Some c → kept'.vote ≡ Some c)

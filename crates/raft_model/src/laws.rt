@@ -2,13 +2,16 @@
 //! reached from empty stores, or from the stores of an earlier run, whatever is lost, repeated, reordered or
 //! restarted, and whichever store calls fail.
 
-ghost use Rattle.std.specs.Prelude.{◌≡◌, ◌≤◌, ℕ, length, take, false};
+ghost use Rattle.std.specs.Prelude.{List, ◌≡◌, ◌≤◌, ℕ, length, take, false};
 ghost use Rattle.cat_model.specs.declared.command.Entry.{Entry};
 ghost use Rattle.raft_model.specs.Log.{entry_at, last_term, IsWellFormed, HasNumbersOnce};
 ghost use Rattle.raft_model.specs.Node.{Node};
+ghost use Rattle.raft_model.specs.declared.message.Sent.{Sent};
+ghost use Rattle.raft_model.specs.Rules.{Input};
+ghost use Rattle.raft_model.specs.Step.{Works, NodeStep};
 ghost use Rattle.raft_model.specs.Runs.{ElectionRow, CountsRow};
 ghost use Rattle.raft_model.specs.World.{World, Move, WorldStep, Reaches, IsReached, IsOfFirstRun, IsServer, Agrees};
-ghost use Rattle.raft_model.specs.Facts.{IsLeading, IsReady, IsPlaced, ShowsAgreed, StandsOnce, next_round};
+ghost use Rattle.raft_model.specs.Facts.{HasOneLeader, HasMatchingLogs, KeepsVotes, IsLeading, IsReady, IsPlaced, ShowsAgreed, StandsOnce, next_round};
 
 /// Agreement: each server has committed a front of the agreed log.
 #[tactic(auto, using(crate::proofs::Theorems::agrees))]
@@ -63,6 +66,27 @@ pub fn agreed_is_well_formed()
 #[tactic(auto, using(crate::proofs::Theorems::first_run))]
 pub fn numbers_of_a_first_run()
     ensures { (w : World) → IsOfFirstRun w → HasNumbersOnce w.agreed }
+{}
+
+/// A term has one leader.
+pub fn a_term_has_one_leader()
+    ensures { (w : World) → IsReached w → HasOneLeader w }
+{}
+
+/// Logs that have one term at one index are the same up to it.
+pub fn logs_match()
+    ensures { (w : World) → IsReached w → HasMatchingLogs w }
+{}
+
+/// A server's kept term never falls, and its vote in a term stays, also over restarts.
+pub fn votes_are_kept()
+    ensures { (w w' : World) → IsReached w → Reaches w w' → KeepsVotes w w' }
+{}
+
+/// Where nothing is armed, each input has a step in which the store works.
+#[tactic(auto, using(crate::proofs::Deciding::has_step))]
+pub fn inputs_have_steps()
+    ensures { (old : Node) (input : Input) → old.store.armed ≡ 0 → (new : Node) × (sent : List Sent) × NodeStep Works old input new sent }
 {}
 
 /// The first election of three servers, as node 1 sees it.
