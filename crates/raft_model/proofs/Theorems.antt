@@ -8,7 +8,7 @@ use Rattle.raft_model.proofs.Worlds.{agreement, reach_goes, step_goes}
 use Rattle.raft_model.specs.Facts.{IsLeading, IsPlaced, IsReady, ShowsAgreed, StandsOnce, next_round, HasOneLeader, KeepsVotes, HasMatchingLogs}
 use Rattle.raft_model.specs.Log.{entry_at, last_term, HasNumbersOnce, IsWellFormed}
 use Rattle.raft_model.specs.Node.{Node}
-use Rattle.raft_model.specs.World.{Agrees, IsReached, IsServer, Move, Reaches, World, WorldStep, IsOfFirstRun}
+use Rattle.raft_model.specs.World.{step, Agrees, IsReached, IsServer, Move, Reaches, World, WorldStep, IsOfFirstRun}
 use Rattle.raft_model.proofs.Forming.{agreed_well_formed, numbers_once}
 use Rattle.raft_model.proofs.Paper.{keeps_votes, logs_match, one_leader}
 
@@ -47,3 +47,7 @@ matching w r = logs_match w (reached_sound w r)
 
 pub keeping : (w w' : World) → IsReached w → Reaches w w' → KeepsVotes w w'
 keeping w w' r = keeps_votes w (reached_sound w r) w'
+
+-- what a call that is a step of the world promises
+pub after_step : (w w' : World) (move : Move) → WorldStep w move w' → IsReached w → Agrees w' × IsReached w' × (take (length w.agreed) w'.agreed ≡ w.agreed)
+after_step w w' move e r = (agrees w' (step move r e), step move r e, grows w w' move r e)
