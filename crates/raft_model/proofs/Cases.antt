@@ -1,13 +1,12 @@
 -- Single steps of each rule, computed.
-use Rattle.std.proofs.Common.{◌≡◌, ℕ, List, [], ◌∷◌, length, replicate, Some, None, true, false, refl}
-use Rattle.cat_model.specs.declared.command.Entry.{Entry}
-use Rattle.cat_model.specs.declared.reply.Role.TheVariants.{Follower, Candidate, Leader}
+use Rattle.std.proofs.Common.{◌≡◌, ℕ, [], ◌∷◌, length, replicate, Some, true, false, refl}
+use Rattle.cat_model.specs.declared.reply.Role.TheVariants.{Candidate, Leader}
 use Rattle.cat_model.specs.declared.command.Command.TheVariants.{Noop}
 use Rattle.cat_model.specs.Spelling.{tagged}
 use Rattle.raft_model.specs.declared.message.Message.TheVariants.{AskVote, Vote, Append, Yes, No}
 use Rattle.raft_model.specs.Limits.{batch}
 use Rattle.raft_model.specs.Node.{Node, begun}
-use Rattle.raft_model.specs.Rules.{Timeout, Beat, Receive, Propose, Probe, done, does, timed_out, candidate, received, of_own_term, of_lower_term, asked, voted, counted, leads, offered, accepts, agreed_to, after_yes, declined, beats, proposes, probes, noop, is_confirmed}
+use Rattle.raft_model.specs.Rules.{Timeout, Receive, Propose, Probe, done, does, timed_out, candidate, received, of_own_term, of_lower_term, asked, voted, counted, leads, offered, accepts, agreed_to, after_yes, declined, proposes, probes, noop, is_confirmed}
 use Rattle.raft_model.specs.World.{nothing_kept}
 use Rattle.raft_model.specs.Runs.{empty_store}
 
@@ -86,8 +85,10 @@ unfolding done does received of_own_term declined tagged
 steps_back = refl
 
 -- a proposal goes to all others; a probe begins a round
-proposed : done leader (Propose 7 Noop) ≡ record { node = record leader { log = noop 2 ∷ noop 2 ∷ noop 3 ∷ record { term = 3; number = 7; command = Noop } ∷ [] };
-    sent = record { to = 2; message = Append 3 3 3 (record { term = 3; number = 7; command = Noop } ∷ []) 0 0 } ∷ record { to = 3; message = Append 3 3 3 (record { term = 3; number = 7; command = Noop } ∷ []) 0 0 } ∷ [] }
+proposed : done leader (Propose 7 Noop) ≡ record {
+  node = record leader { log = noop 2 ∷ noop 2 ∷ noop 3 ∷ record { term = 3; number = 7; command = Noop } ∷ [] };
+  sent = record { to = 2; message = Append 3 3 3 (record { term = 3; number = 7; command = Noop } ∷ []) 0 0 } ∷ record { to = 3; message = Append 3 3 3 (record { term = 3; number = 7; command = Noop } ∷ []) 0 0 } ∷ [];
+}
 unfolding done does proposes
 proposed = refl
 

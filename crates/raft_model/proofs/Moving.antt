@@ -135,7 +135,7 @@ keep_vote term term' vote vote' log e f = ap (λ t. keep t vote log) (sym e) ∙
 pub changed_some : (change : Kept → Kept) (old new : Option Kept) (kept : Kept) → new ≡ changed change old → old ≡ Some kept → new ≡ Some (change kept)
 changed_some change old new kept e f = e ∙ ap (changed change) f
 
-vote_saved : (old new : Node) (before after : Store) → before.contents ≡ Some (kept_of old) → VoteSaved old new before after → after.contents ≡ Some (half_kept old new)
+pub vote_saved : (old new : Node) (before after : Store) → before.contents ≡ Some (kept_of old) → VoteSaved old new before after → after.contents ≡ Some (half_kept old new)
 vote_saved old new before after k (inl (same, e)) = ap (λ (s : Store). s.contents) e ∙ k ∙ ap Some (keep_vote old.term new.term old.vote new.vote old.log same.0 same.1)
 vote_saved old new before after k (inr (un, c)) = changed_some (with_vote new.term new.vote) before.contents after.contents (kept_of old) c.contents k
 

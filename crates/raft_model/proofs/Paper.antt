@@ -26,12 +26,13 @@ pub logs_match : (w : World) → IsSound w → HasMatchingLogs w
 logs_match w s x y m ax ay lx ly e = log_follows w s x ax m lx ∙ ap (λ t. take m (s.history.ledger t)) e ∙ sym (log_follows w s y ay m ly)
 
 pub keeps_votes : (w : World) → IsSound w → (w' : World) → Reaches w w' → KeepsVotes w w'
-keeps_votes w s w' reach i n n' kept kept' at at' told told' =
-    (let a = g.terms i in let x = ap (λ (z : Kept). z.term) q in let y = ap (λ (z : Kept). z.term) q' in let u = d.term in let v = d'.term in omega arith,
-     λ c t v.
-    let e : s.history.votes i kept.term ≡ Some c = subst (λ (z : Kept). s.history.votes i z.term ≡ z.vote) q d.vote ∙ v in
-    let f : g.sound.history.votes i kept'.term ≡ kept'.vote = subst (λ (z : Kept). g.sound.history.votes i z.term ≡ z.vote) q' d'.vote in
-    sym f ∙ ap (g.sound.history.votes i) (sym t) ∙ g.votes i kept.term c e)
+keeps_votes w s w' reach i n n' kept kept' at at' told told' = (
+  let a = g.terms i in let x = ap (λ (z : Kept). z.term) q in let y = ap (λ (z : Kept). z.term) q' in let u = d.term in let v = d'.term in omega arith,
+  λ c t v.
+      let e : s.history.votes i kept.term ≡ Some c = subst (λ (z : Kept). s.history.votes i z.term ≡ z.vote) q d.vote ∙ v in
+      let f : g.sound.history.votes i kept'.term ≡ kept'.vote = subst (λ (z : Kept). g.sound.history.votes i z.term ≡ z.vote) q' d'.vote in
+      sym f ∙ ap (g.sound.history.votes i) (sym t) ∙ g.votes i kept.term c e,
+)
   where
     g : Goes w s w'
     g = reach_goes w w' reach s

@@ -20,12 +20,11 @@ use Rattle.raft_model.proofs.Voting.{appended_role, came_ask_all, came_leads, ca
 use Rattle.raft_model.specs.Limits.{is_full}
 use Rattle.raft_model.specs.Log.{Log, accepted}
 use Rattle.raft_model.specs.Node.{Done, Kept, Node, last, of_server, quiet, reply}
-use Rattle.raft_model.specs.Quorum.{IsMajority, is_majority, members, count}
+use Rattle.raft_model.specs.Quorum.{IsMajority, is_majority, members}
 use Rattle.raft_model.specs.Step.{HasVoteOf}
 use Rattle.raft_model.specs.declared.message.Message.{Message}
 use Rattle.raft_model.specs.declared.message.Message.TheVariants.{Append, AskVote, No, Vote, Yes}
 use Rattle.std.specs.Prelude.{nat_le, nat_lt, ◌&&◌, ◌==◌, ◌^◌}
-use Rattle.raft_model.proofs.Agreement.{led}
 use Rattle.raft_model.specs.Runs.{fresh}
 
 came_candidate : (servers : ℕ) (h : History) → Sound servers h → (i : ℕ) (n : Node) → Runs servers h i n → n.role ≡ Candidate → n.votes ≡ n.id ∷ [] → Came servers h i (candidate n)

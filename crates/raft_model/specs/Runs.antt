@@ -1,9 +1,9 @@
 -- Runs in which each store works: they compute, from a start with empty stores.
-use Rattle.std.specs.Prelude.{◌≡◌, ℕ, true, zero, suc, ◌-◌, List, [], ◌∷◌, replicate, get_or, Some, None}
+use Rattle.std.specs.Prelude.{◌≡◌, ℕ, true, zero, suc, List, [], ◌∷◌, replicate, get_or, Some, None, nat_lt, nat_le, ◌&&◌, Bool, length, if◌then◌else◌}
 use Rattle.raft_model.specs.Node.{Store, Node, Done, begun}
 use Rattle.raft_model.specs.declared.message.Message.TheVariants.{AskVote, Vote, Append, Yes}
 use Rattle.raft_model.specs.Rules.{Input, Timeout, Receive, done, noop}
-use Rattle.raft_model.specs.World.{World, Packet, after, without, nothing_kept}
+use Rattle.raft_model.specs.World.{World, Packet, after, without, nothing_kept, IsReached}
 
 abbrev pub empty_store : Store
 empty_store = record { contents = Some nothing_kept; armed = 0; faults = 0 }
@@ -23,23 +23,30 @@ fresh servers = record {
   agreed = [];
 }
 
--- the node with its values saved
-abbrev pub saved : Node → Node
-saved n = record n { store = record n.store { contents = Some (record { term = n.term; vote = n.vote; log = n.log }) } }
+-- a node after a step, with its values saved
+abbrev pub saved : Node → Node → Node
+saved old new = record new { store = record old.store { contents = Some (record { term = new.term; vote = new.vote; log = new.log }) } }
 
 abbrev pub server : World → ℕ → Node
-server w i = get_or w.nodes (i - 1) (begun 0 0 empty_store nothing_kept)
+server w zero = begun 0 0 empty_store nothing_kept
+server w (suc i) = get_or w.nodes i (begun 0 0 empty_store nothing_kept)
+
+abbrev pub is_server : World → ℕ → Bool
+is_server w i = nat_lt 0 i && nat_le i (length w.nodes)
 
 -- the world once server i is given this input
 unfoldable pub given : World → ℕ → Input → World
-given w i input = after w i input (saved (done (server w i) input).node) (done (server w i) input).sent
+given w i input = after w i input (saved (server w i) (done (server w i) input).node) (done (server w i) input).sent
+
+-- the world without a message
+abbrev pub dropped : World → ℕ → World
+dropped w k = record w { bag = record { packets = without k w.bag.packets; last = w.bag.last } }
 
 -- the message of the lowest number is delivered and dropped
 unfoldable pub first_delivered : World → List Packet → World
 first_delivered w [] = w
 first_delivered w (p ∷ ps) =
-    let new = given w p.to (Receive p.from p.message) in
-    record new { bag = record { packets = without p.number new.bag.packets; last = new.bag.last } }
+    if is_server w p.to then dropped (given w p.to (Receive p.from p.message)) p.number else w
 
 -- so many of these pairs
 unfoldable pub settled : ℕ → World → World
@@ -71,8 +78,9 @@ abbrev pub commits_of : List Node → List ℕ
 commits_of [] = []
 commits_of (n ∷ ns) = n.commit ∷ commits_of ns
 
--- Twelve messages were sent and all are delivered, and index 1 is committed everywhere.
+-- That world is reached: twelve messages were sent and all are delivered, and index 1 is committed everywhere.
 pub record CountsRow : Type 0 where
+  pub reached : IsReached after_election
   pub last : after_election.bag.last ≡ 12
   pub delivered : after_election.bag.packets ≡ []
   pub commits : commits_of after_election.nodes ≡ 1 ∷ 1 ∷ 1 ∷ []

@@ -9,7 +9,7 @@ ghost use Rattle.raft_model.specs.Node.{Node};
 ghost use Rattle.raft_model.specs.declared.message.Sent.{Sent};
 ghost use Rattle.raft_model.specs.Rules.{Input};
 ghost use Rattle.raft_model.specs.Step.{Works, NodeStep};
-ghost use Rattle.raft_model.specs.Runs.{ElectionRow, CountsRow};
+ghost use Rattle.raft_model.specs.Runs.{ElectionRow, CountsRow, fresh};
 ghost use Rattle.raft_model.specs.World.{World, Move, WorldStep, Reaches, IsReached, IsOfFirstRun, IsServer, Agrees};
 ghost use Rattle.raft_model.specs.Facts.{HasOneLeader, HasMatchingLogs, KeepsVotes, IsLeading, IsReady, IsPlaced, ShowsAgreed, StandsOnce, next_round};
 
@@ -87,6 +87,12 @@ pub fn votes_are_kept()
 #[tactic(auto, using(crate::proofs::Deciding::has_step))]
 pub fn inputs_have_steps()
     ensures { (old : Node) (input : Input) → old.store.armed ≡ 0 → (new : Node) × (sent : List Sent) × NodeStep Works old input new sent }
+{}
+
+/// Servers that begin with empty stores make a reached world.
+#[tactic(auto, using(crate::proofs::Reaching::fresh_reached))]
+pub fn fresh_worlds_are_reached()
+    ensures { (servers : ℕ) → IsReached (fresh servers) }
 {}
 
 /// The first election of three servers, as node 1 sees it.
