@@ -1,2 +1,4 @@
 pub mod Causes
 pub mod InMemory
+pub mod Keepers
+pub mod KeepersInMemory

@@ -2,8 +2,11 @@
 //! std reader and writer.
 #![tactic(auto)]
 
+mod copies;
 mod failing;
 mod faults;
+mod keeper;
+mod mem_keeper;
 mod mem_sink;
 mod mem_source;
 mod sink;
@@ -12,6 +15,8 @@ mod source;
 mod tests;
 
 pub use faults::{Failed, KeepFail};
+pub use keeper::{Keeper, Kept};
+pub use mem_keeper::{MemKeeper, SureKeeper};
 pub use mem_sink::{MemSink, SureSink};
 pub use mem_source::{MemSource, SureSource};
 pub use sink::{Sink, Writing};

@@ -1,5 +1,8 @@
-use crate::{Failed, KeepFail, MemSink, MemSource, Reading, Sink, Source, SureSink, SureSource, Writing};
-use cat_model::{Bytes, List};
+use crate::{
+    KeepFail, Keeper, MemKeeper, MemSink, MemSource, Reading, Sink, Source, SureKeeper, SureSink, SureSource, Writing,
+};
+use cat_model::{Bytes, Command, Entry, List};
+use std::alloc::Global;
 use std::io;
 use std::io::{ErrorKind, Read, Write};
 use std::process::Abort;
@@ -31,7 +34,7 @@ fn expect_reads<S: Source>(rt: &impl Abort, source: &mut S, expected: &[Option<&
         let mut room = [0u8; 3];
         match (source.read(&mut room), want) {
             (Ok(count), Some(text)) => assert_eq!(rt; &room[..count], text.as_bytes()),
-            (Err(Failed), None) => {}
+            (Err(_), None) => {}
             _ => assert!(rt; false),
         }
     }
@@ -85,5 +88,64 @@ fn adapters(rt: HostRuntime) -> Result<(), Fail> {
     let mut short = Writing::new(room.as_mut_slice());
     expect_writes(&rt, &mut short, &[("ab", Ok(2)), ("cd", Ok(1)), ("d", Ok(0))]);
     expect_writes(&rt, &mut Writing::new(Broken), &[("ab", Err(KeepFail::Failed))]);
+    Ok(())
+}
+
+// Entries with these numbers, all of term 1.
+fn entries(alloc: Global, numbers: &[u64]) -> Result<List<Entry>, Fail> {
+    let mut list = List::new(alloc);
+    for number in numbers {
+        list.push(Entry {
+            term: 1,
+            number: *number,
+            command: Command::Reap,
+        })?;
+    }
+    Ok(list)
+}
+
+// Loads, and expects this term, vote and numbers of entries.
+fn expect_kept<K: Keeper>(rt: &impl Abort, alloc: Global, keeper: &mut K, term: u64, vote: Option<u32>, numbers: &[u64]) {
+    let Ok(kept) = keeper.load(alloc) else {
+        assert!(rt; false, "the load failed");
+        return;
+    };
+    assert_eq!(rt; kept.term, term);
+    assert_eq!(rt; kept.vote, vote);
+    assert_eq!(rt; kept.log.len(), numbers.len());
+    for (entry, number) in kept.log.as_slice().iter().zip(numbers) {
+        assert_eq!(rt; entry.number, *number);
+    }
+}
+
+#[test]
+fn armed_keeper(rt: HostRuntime) -> Result<(), Fail> {
+    let mut keeper = SureKeeper::new(rt.alloc());
+    expect_kept(&rt, rt.alloc(), &mut keeper, 0, None, &[]);
+    keeper.store_from(rt.alloc(), 1, &entries(rt.alloc(), &[7, 8])?)?;
+    keeper.save_vote(rt.alloc(), 3, Some(2))?;
+    expect_kept(&rt, rt.alloc(), &mut keeper, 3, Some(2), &[7, 8]);
+    keeper.fail_at(2);
+    keeper.store_from(rt.alloc(), 2, &entries(rt.alloc(), &[9])?)?;
+    assert_eq!(rt; keeper.save_vote(rt.alloc(), 4, None), Err(KeepFail::Failed));
+    expect_kept(&rt, rt.alloc(), &mut keeper, 3, Some(2), &[7, 9]);
+    keeper.fail_at(1);
+    keeper.fail_at(0);
+    let kept = keeper.load(rt.alloc())?;
+    expect_kept(&rt, rt.alloc(), &mut SureKeeper::holding(kept), 3, Some(2), &[7, 9]);
+    Ok(())
+}
+
+#[test]
+fn faulty_keeper(rt: HostRuntime) -> Result<(), Fail> {
+    let mut keeper = MemKeeper::new(rt.alloc(), call_two(&rt)?);
+    keeper.store_from(rt.alloc(), 1, &entries(rt.alloc(), &[7])?)?;
+    let more = entries(rt.alloc(), &[8])?;
+    assert_eq!(rt; keeper.store_from(rt.alloc(), 2, &more), Err(KeepFail::Failed));
+    keeper.save_vote(rt.alloc(), 1, Some(1))?;
+    expect_kept(&rt, rt.alloc(), &mut keeper, 1, Some(1), &[7]);
+    keeper.fail_at(1);
+    assert_eq!(rt; keeper.load(rt.alloc()).err(), Some(KeepFail::Failed));
+    expect_kept(&rt, rt.alloc(), &mut keeper, 1, Some(1), &[7]);
     Ok(())
 }
