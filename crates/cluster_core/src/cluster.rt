@@ -133,7 +133,7 @@ impl Cluster {
 
     /// Makes the event's step. What it gives waits in the tray. `steps` counts the queries that are evaluated, also
     /// where memory then runs out; all else is as before then.
-    #[tactic(auto, unfolding(cluster_model::specs::Cluster::after, cluster_model::specs::Cluster::outs_of, cluster_model::specs::Cluster::evaluations_of,))]
+    #[tactic(auto, unfolding(cluster_model::specs::Cluster::after, cluster_model::specs::Cluster::outs_of, cluster_model::specs::Cluster::evaluations_of))]
     pub fn step<L: Ledger>(
         &mut self,
         alloc: Global,

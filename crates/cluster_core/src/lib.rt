@@ -5,5 +5,7 @@ mod body;
 mod cluster;
 mod fitting;
 mod rows;
+#[cfg(test)]
+mod tests;
 
 pub use cluster::Cluster;
