@@ -18,15 +18,15 @@ use Rattle.cat_model.specs.Bounds.{IsId, IsListOf}
 use Rattle.cat_model.proofs.Formats.{Field, fronts, field_from_back}
 
 -- a first byte below 128 is the number, one from 128 on has the low seven bits
-low_byte : (k n : ℕ) → n < 128 → number_within (suc k) n ≡ n ∷ []
+pub low_byte : (k n : ℕ) → n < 128 → number_within (suc k) n ≡ n ∷ []
 unfolding number_within
 low_byte k n h = grind (arith, ltb-false)
 
-high_byte : (k n : ℕ) → 128 ≤ n → number_within (suc k) n ≡ (128 + n % 128) ∷ number_within k (n / 128)
+pub high_byte : (k n : ℕ) → 128 ≤ n → number_within (suc k) n ≡ (128 + n % 128) ∷ number_within k (n / 128)
 unfolding number_within
 high_byte k n h = grind (arith, ltb-true)
 
-number_end : (n : ℕ) → number_within 0 n ≡ n ∷ []
+pub number_end : (n : ℕ) → number_within 0 n ≡ n ∷ []
 unfolding number_within
 number_end n = refl
 
@@ -178,6 +178,7 @@ eight n m r s h g e =
     (sym (from_be_bytes-to_be_bytes_8 n h) ∙ ap (from_be_bytes w64) one.0 ∙ from_be_bytes-to_be_bytes_8 m g, one.1)
 
 pub id_field : Field id_bytes IsId
+unfolding id_bytes
 id_field = record {
   unique = λ x y r s v w e.
       let high = eight (x / 2 ^ 64) (y / 2 ^ 64) (to_be_bytes w64 (x % 2 ^ 64) ++ r) (to_be_bytes w64 (y % 2 ^ 64) ++ s) (omega arith) (omega arith)

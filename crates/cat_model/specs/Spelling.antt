@@ -41,7 +41,7 @@ flag_bytes false = 0 ∷ []
 flag_bytes true = 1 ∷ []
 
 -- an identifier: sixteen bytes, the most significant first
-abbrev pub id_bytes : ℕ → List ℕ
+unfoldable pub id_bytes : ℕ → List ℕ
 id_bytes id = to_be_bytes w64 (id / 2 ^ 64) ++ to_be_bytes w64 (id % 2 ^ 64)
 
 abbrev pub status_bytes : Status → List ℕ

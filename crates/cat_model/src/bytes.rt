@@ -1,4 +1,4 @@
-ghost use Rattle.std.specs.Prelude.{◌≡◌, IfOk, length};
+ghost use Rattle.std.specs.Prelude.{◌≡◌, ◌++◌, IfOk, OnErr, OnOk, length};
 
 use crate::Memory;
 use std::alloc::Global;
@@ -37,6 +37,15 @@ impl Bytes {
         ensures { result.now ≡ self.now }
     {
         self.vec.as_slice()
+    }
+
+    /// Puts more bytes last. After want of memory these are as before.
+    pub fn extend(&mut self, more: &[u8]) -> Result<(), Memory>
+        ensures ok { OnOk result (self.new ≡ self.old ++ more.now) }
+        ensures err { OnErr result (self.new ≡ self.old) }
+    {
+        self.vec.extend_from_slice(more)?;
+        Ok(())
     }
 
     /// The vector of these bytes, which takes no memory.
