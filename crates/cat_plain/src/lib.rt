@@ -1,0 +1,7 @@
+//! The catalog as a plain, slow program over lists: each function computes a definition of `cat_model` and its
+//! contract says so. Faster programs are compared with it.
+#![tactic(auto)]
+
+mod kv;
+mod lists;
+mod texts;
