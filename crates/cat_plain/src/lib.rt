@@ -4,4 +4,6 @@
 
 mod kv;
 mod lists;
+mod register;
+mod tables;
 mod texts;

@@ -2,7 +2,8 @@
 
 ghost use Rattle.std.specs.Prelude.{◌≡◌, ◌∷◌, ◌++◌, Bool, Option, Result, Ok, IfOk, filter, map};
 ghost use Rattle.std.specs.List.{filter_map};
-ghost use Rattle.std.specs.Fn.{FnReturnsAt};
+ghost use Rattle.std.specs.Fn.{FnReturnsAt, FnReturnsAtPair};
+ghost use Rattle.std.specs.Cmp.Lexicographic.{pointwise};
 
 use cat_model::{List, Memory};
 use std::alloc::Global;
@@ -64,4 +65,33 @@ pub(crate) fn copied<T: Clone>(alloc: Global, items: &[T]) -> Result<List<T>, Me
     ensures { IfOk result (λ l. l ≡ items.now) }
 {
     Ok(List::from(items.to_vec(alloc)?))
+}
+
+/// The one list and then the other.
+pub(crate) fn joined<T: Drop>(first: List<T>, second: List<T>) -> Result<List<T>, Memory>
+    ensures { IfOk result (λ l. l ≡ first ++ second) }
+{
+    let mut all = first.into_vec();
+    all.append(&mut second.into_vec())?;
+    Ok(List::from(all))
+}
+
+/// Whether the lists are as long and each pair is the same.
+pub(crate) fn all_same<T, F: Fn(&T, &T) -> bool>(first: &[T], second: &[T], same: F) -> bool
+    requires { F.IsAlwaysCallable same }
+    ensures { (e : T → T → Bool) → ((x y : T) (b : Bool) → FnReturnsAtPair F.Fn same x y b → b ≡ e x y) → result ≡ pointwise e first.now second.now }
+{
+    let mut left = first;
+    let mut right = second;
+    while let Some((x, more)) = left.split_first() {
+        let Some((y, rest)) = right.split_first() else {
+            return false;
+        };
+        if !same(x, y) {
+            return false;
+        }
+        left = more;
+        right = rest;
+    }
+    right.is_empty()
 }

@@ -1,9 +1,11 @@
 //! Tests on texts and the other small values of rows.
 
 ghost use Rattle.std.specs.Prelude.{◌≡◌};
-ghost use Rattle.cat_model.specs.Keys.{text_cmp, same_text, has_prefix, same_option, is_empty};
+ghost use Rattle.cat_model.specs.Keys.{text_cmp, pair_cmp, same_text, same_texts, has_prefix, same_option, is_empty};
+ghost use Rattle.cat_model.specs.Same.{same_bool, same_status, same_behavior};
 
-use cat_model::Text;
+use crate::lists::all_same;
+use cat_model::{Behavior, Status, Text, Texts};
 use std::cmp::Ordering;
 
 pub(crate) fn compare(a: &Text, b: &Text) -> Ordering
@@ -12,10 +14,23 @@ pub(crate) fn compare(a: &Text, b: &Text) -> Ordering
     a.as_str().cmp(b.as_str())
 }
 
+/// By the node and then by the ID.
+pub(crate) fn compare_pairs(node: &Text, id: &Text, other_node: &Text, other_id: &Text) -> Ordering
+    ensures { result ≡ pair_cmp (node.now, id.now) (other_node.now, other_id.now) }
+{
+    compare(node, other_node).then(compare(id, other_id))
+}
+
 pub(crate) fn is_same(a: &Text, b: &Text) -> bool
     ensures { result ≡ same_text a.now b.now }
 {
     a.as_str() == b.as_str()
+}
+
+pub(crate) fn are_same(a: &Texts, b: &Texts) -> bool
+    ensures { result ≡ same_texts a.now b.now }
+{
+    all_same(a.as_slice(), b.as_slice(), |x, y| is_same(x, y))
 }
 
 /// Whether the text begins with the prefix.
@@ -39,4 +54,30 @@ pub(crate) fn is_same_option(a: Option<u128>, b: Option<u128>) -> bool
         (Some(a), Some(b)) => a == b,
         _ => false,
     }
+}
+
+pub(crate) fn is_same_flag(a: bool, b: bool) -> bool
+    ensures { result ≡ same_bool a b }
+{
+    a == b
+}
+
+pub(crate) fn is_same_status(a: Status, b: Status) -> bool
+    ensures { result ≡ same_status a b }
+{
+    matches!(
+        (a, b),
+        (Status::Passing, Status::Passing)
+            | (Status::Warning, Status::Warning)
+            | (Status::Critical, Status::Critical)
+    )
+}
+
+pub(crate) fn is_same_behavior(a: Behavior, b: Behavior) -> bool
+    ensures { result ≡ same_behavior a b }
+{
+    matches!(
+        (a, b),
+        (Behavior::Release, Behavior::Release) | (Behavior::Delete, Behavior::Delete)
+    )
 }

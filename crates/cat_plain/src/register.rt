@@ -1,0 +1,208 @@
+//! Registration and its undoing.
+
+ghost use Rattle.std.specs.Prelude.{◌≡◌, ℕ, IfOk, not};
+ghost use Rattle.std.specs.List.{list_any};
+ghost use Rattle.cat_model.specs.Same.{alike_nodes, alike_services, alike_checks};
+ghost use Rattle.cat_model.specs.Machine.{put_node, put_service, put_given, put_check, put_checks, last_of_each, has_service, register, deregister, deregister_service, deregister_check, deregister_node};
+
+use crate::lists::{copied, kept};
+use crate::tables::{Tables, find_check, find_node, find_service, place_check, place_node, place_service};
+use crate::texts::{are_same, is_blank, is_same, is_same_flag, is_same_status};
+use cat_model::{Applied, CheckRow, List, Memory, NewCheck, NewService, NodeRow, Refuse, ServiceRow, Text};
+use std::alloc::Global;
+
+fn are_alike_nodes(a: &NodeRow, b: &NodeRow) -> bool
+    ensures { result ≡ alike_nodes a.now b.now }
+{
+    is_same(&a.node, &b.node) && is_same(&a.address, &b.address)
+}
+
+fn are_alike_services(a: &ServiceRow, b: &ServiceRow) -> bool
+    ensures { result ≡ alike_services a.now b.now }
+{
+    is_same(&a.node, &b.node)
+        && is_same(&a.id, &b.id)
+        && is_same(&a.name, &b.name)
+        && are_same(&a.tags, &b.tags)
+        && is_same(&a.address, &b.address)
+        && a.port == b.port
+        && is_same_flag(a.tag_override, b.tag_override)
+}
+
+fn are_alike_checks(a: &CheckRow, b: &CheckRow) -> bool
+    ensures { result ≡ alike_checks a.now b.now }
+{
+    is_same(&a.node, &b.node)
+        && is_same(&a.id, &b.id)
+        && is_same(&a.name, &b.name)
+        && is_same_status(a.status, b.status)
+        && is_same(&a.notes, &b.notes)
+        && is_same(&a.output, &b.output)
+        && is_same(&a.service, &b.service)
+}
+
+fn set_node(alloc: Global, position: u64, node: &Text, address: &Text, rows: &[NodeRow]) -> Result<List<NodeRow>, Memory>
+    ensures { IfOk result (λ l. l ≡ put_node position node.now address.now rows.now) }
+{
+    let new = NodeRow {
+        node: node.clone()?,
+        address: address.clone()?,
+        create: position,
+        modify: position,
+    };
+    let Some(old) = find_node(node, rows) else {
+        return place_node(alloc, new, rows);
+    };
+    if are_alike_nodes(old, &new) {
+        return copied(alloc, rows);
+    }
+    let create = old.create;
+    place_node(alloc, NodeRow { create, ..new }, rows)
+}
+
+fn set_service(alloc: Global, position: u64, node: &Text, s: &NewService, rows: &[ServiceRow]) -> Result<List<ServiceRow>, Memory>
+    ensures { IfOk result (λ l. l ≡ put_service position node.now s.now rows.now) }
+{
+    let new = ServiceRow {
+        node: node.clone()?,
+        id: s.id.clone()?,
+        name: s.name.clone()?,
+        tags: s.tags.clone()?,
+        address: s.address.clone()?,
+        port: s.port,
+        tag_override: s.tag_override,
+        create: position,
+        modify: position,
+    };
+    let Some(old) = find_service(node, &s.id, rows) else {
+        return place_service(alloc, new, rows);
+    };
+    if are_alike_services(old, &new) {
+        return copied(alloc, rows);
+    }
+    let create = old.create;
+    place_service(alloc, ServiceRow { create, ..new }, rows)
+}
+
+fn set_given(alloc: Global, position: u64, node: &Text, service: &Option<NewService>, rows: &[ServiceRow]) -> Result<List<ServiceRow>, Memory>
+    ensures { IfOk result (λ l. l ≡ put_given position node.now service.now rows.now) }
+{
+    match service {
+        None => copied(alloc, rows),
+        Some(s) => set_service(alloc, position, node, s, rows),
+    }
+}
+
+fn set_check(alloc: Global, position: u64, node: &Text, c: &NewCheck, rows: &[CheckRow]) -> Result<List<CheckRow>, Memory>
+    ensures { IfOk result (λ l. l ≡ put_check position node.now c.now rows.now) }
+{
+    let new = CheckRow {
+        node: node.clone()?,
+        id: c.id.clone()?,
+        name: c.name.clone()?,
+        status: c.status,
+        notes: c.notes.clone()?,
+        output: c.output.clone()?,
+        service: c.service.clone()?,
+        create: position,
+        modify: position,
+    };
+    let Some(old) = find_check(node, &c.id, rows) else {
+        return place_check(alloc, new, rows);
+    };
+    if are_alike_checks(old, &new) {
+        return copied(alloc, rows);
+    }
+    let create = old.create;
+    place_check(alloc, CheckRow { create, ..new }, rows)
+}
+
+fn set_checks(alloc: Global, position: u64, node: &Text, checks: &[NewCheck], rows: &[CheckRow]) -> Result<List<CheckRow>, Memory>
+    ensures { IfOk result (λ l. l ≡ put_checks position node.now checks.now rows.now) }
+{
+    let mut done = copied(alloc, rows)?;
+    let mut left = checks;
+    while let Some((check, rest)) = left.split_first() {
+        done = set_check(alloc, position, node, check, done.as_slice())?;
+        left = rest;
+    }
+    Ok(done)
+}
+
+/// Of the checks with equal IDs the last one.
+fn counting(alloc: Global, checks: &[NewCheck]) -> Result<List<NewCheck>, Memory>
+    ensures { IfOk result (λ l. l ≡ last_of_each checks.now) }
+{
+    let mut found = List::new(alloc);
+    let mut left = checks;
+    while let Some((check, rest)) = left.split_first() {
+        if !rest.iter().any(|later| is_same(&check.id, &later.id)) {
+            found.push(check.clone()?)?;
+        }
+        left = rest;
+    }
+    Ok(found)
+}
+
+/// Whether the check's service is empty or one of the node.
+fn serves(node: &Text, rows: &[ServiceRow], c: &NewCheck) -> bool
+    ensures { result ≡ has_service node.now rows.now c.now }
+{
+    is_blank(&c.service) || find_service(node, &c.service, rows).is_some()
+}
+
+#[tactic(auto, unfolding(cat_model::specs::Machine::register, cat_model::specs::Machine::unless))]
+pub(crate) fn register(alloc: Global, position: u64, node: &Text, address: &Text, service: &Option<NewService>, checks: &[NewCheck], tables: &Tables) -> Result<(Tables, Applied), Memory>
+    ensures { IfOk result (λ step. step ≡ register position node.now address.now service.now checks.now tables.now) }
+{
+    let mut next = tables.copy(alloc)?;
+    let services = set_given(alloc, position, node, service, tables.services.as_slice())?;
+    let checks = counting(alloc, checks)?;
+    if checks.as_slice().iter().any(|c| !serves(node, services.as_slice(), c)) {
+        return Ok((next, Applied::Refused(Refuse::MissingService)));
+    }
+    next.nodes = set_node(alloc, position, node, address, tables.nodes.as_slice())?;
+    next.services = services;
+    next.checks = set_checks(alloc, position, node, checks.as_slice(), tables.checks.as_slice())?;
+    Ok((next, Applied::Yes))
+}
+
+fn remove_service(alloc: Global, node: &Text, id: &Text, tables: &Tables) -> Result<Tables, Memory>
+    ensures { IfOk result (λ next. next ≡ deregister_service node.now id.now tables.now) }
+{
+    let mut next = tables.copy(alloc)?;
+    next.services = kept(alloc, tables.services.as_slice(), |r| !(is_same(&r.node, node) && is_same(&r.id, id)))?;
+    next.checks = kept(alloc, tables.checks.as_slice(), |r| !(is_same(&r.node, node) && is_same(&r.service, id)))?;
+    Ok(next)
+}
+
+fn remove_check(alloc: Global, node: &Text, id: &Text, tables: &Tables) -> Result<Tables, Memory>
+    ensures { IfOk result (λ next. next ≡ deregister_check node.now id.now tables.now) }
+{
+    let mut next = tables.copy(alloc)?;
+    next.checks = kept(alloc, tables.checks.as_slice(), |r| !(is_same(&r.node, node) && is_same(&r.id, id)))?;
+    Ok(next)
+}
+
+fn remove_node(alloc: Global, node: &Text, tables: &Tables) -> Result<Tables, Memory>
+    ensures { IfOk result (λ next. next ≡ deregister_node node.now tables.now) }
+{
+    let mut next = tables.copy(alloc)?;
+    next.nodes = kept(alloc, tables.nodes.as_slice(), |r| !is_same(&r.node, node))?;
+    next.services = kept(alloc, tables.services.as_slice(), |r| !is_same(&r.node, node))?;
+    next.checks = kept(alloc, tables.checks.as_slice(), |r| !is_same(&r.node, node))?;
+    Ok(next)
+}
+
+#[tactic(auto, unfolding(cat_model::specs::Machine::deregister))]
+pub(crate) fn deregister(alloc: Global, node: &Text, service: &Text, check: &Text, tables: &Tables) -> Result<Tables, Memory>
+    ensures { IfOk result (λ next. next ≡ deregister node.now service.now check.now tables.now) }
+{
+    if !is_blank(service) {
+        return remove_service(alloc, node, service, tables);
+    }
+    if !is_blank(check) {
+        return remove_check(alloc, node, check, tables);
+    }
+    remove_node(alloc, node, tables)
+}
