@@ -5,5 +5,6 @@
 mod kv;
 mod lists;
 mod register;
+mod sessions;
 mod tables;
 mod texts;

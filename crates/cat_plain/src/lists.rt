@@ -95,3 +95,11 @@ pub(crate) fn all_same<T, F: Fn(&T, &T) -> bool>(first: &[T], second: &[T], same
     }
     right.is_empty()
 }
+
+/// A copy of this item.
+pub(crate) fn copy_of<T: Clone>(item: &T) -> Result<T, Memory>
+    requires { (x y : T) → T.is_clone x y → y ≡ x }
+    ensures { IfOk result (λ copy. copy ≡ item.now) }
+{
+    Ok(item.clone()?)
+}

@@ -2,10 +2,11 @@
 
 ghost use Rattle.std.specs.Prelude.{◌≡◌, ℕ, IfOk, not};
 ghost use Rattle.std.specs.List.{list_any};
+ghost use Rattle.cat_model.specs.Keys.{same_text};
 ghost use Rattle.cat_model.specs.Same.{alike_nodes, alike_services, alike_checks};
 ghost use Rattle.cat_model.specs.Machine.{put_node, put_service, put_given, put_check, put_checks, last_of_each, has_service, register, deregister, deregister_service, deregister_check, deregister_node};
 
-use crate::lists::{copied, kept};
+use crate::lists::{copied, copy_of, kept};
 use crate::tables::{Tables, find_check, find_node, find_service, place_check, place_node, place_service};
 use crate::texts::{are_same, is_blank, is_same, is_same_flag, is_same_status};
 use cat_model::{Applied, CheckRow, List, Memory, NewCheck, NewService, NodeRow, Refuse, ServiceRow, Text};
@@ -129,6 +130,13 @@ fn set_checks(alloc: Global, position: u64, node: &Text, checks: &[NewCheck], ro
     Ok(done)
 }
 
+/// Whether a check with this ID is among these.
+fn has_id(check: &NewCheck, checks: &[NewCheck]) -> bool
+    ensures { result ≡ list_any (λ d. same_text check.now.id d.id) checks.now }
+{
+    checks.iter().any(|other| is_same(&check.id, &other.id))
+}
+
 /// Of the checks with equal IDs the last one.
 fn counting(alloc: Global, checks: &[NewCheck]) -> Result<List<NewCheck>, Memory>
     ensures { IfOk result (λ l. l ≡ last_of_each checks.now) }
@@ -136,8 +144,8 @@ fn counting(alloc: Global, checks: &[NewCheck]) -> Result<List<NewCheck>, Memory
     let mut found = List::new(alloc);
     let mut left = checks;
     while let Some((check, rest)) = left.split_first() {
-        if !rest.iter().any(|later| is_same(&check.id, &later.id)) {
-            found.push(check.clone()?)?;
+        if !has_id(check, rest) {
+            found.push(copy_of(check)?)?;
         }
         left = rest;
     }
@@ -151,19 +159,26 @@ fn serves(node: &Text, rows: &[ServiceRow], c: &NewCheck) -> bool
     is_blank(&c.service) || find_service(node, &c.service, rows).is_some()
 }
 
+/// Whether the service of some check is missing.
+fn lacks_service(node: &Text, rows: &[ServiceRow], checks: &[NewCheck]) -> bool
+    ensures { result ≡ list_any (λ c. not (has_service node.now rows.now c)) checks.now }
+{
+    checks.iter().any(|c| !serves(node, rows, c))
+}
+
 #[tactic(auto, unfolding(cat_model::specs::Machine::register, cat_model::specs::Machine::unless))]
 pub(crate) fn register(alloc: Global, position: u64, node: &Text, address: &Text, service: &Option<NewService>, checks: &[NewCheck], tables: &Tables) -> Result<(Tables, Applied), Memory>
     ensures { IfOk result (λ step. step ≡ register position node.now address.now service.now checks.now tables.now) }
 {
     let mut next = tables.copy(alloc)?;
-    let services = set_given(alloc, position, node, service, tables.services.as_slice())?;
+    let services = set_given(alloc, position, node, service, next.services.as_slice())?;
     let checks = counting(alloc, checks)?;
-    if checks.as_slice().iter().any(|c| !serves(node, services.as_slice(), c)) {
+    if lacks_service(node, services.as_slice(), checks.as_slice()) {
         return Ok((next, Applied::Refused(Refuse::MissingService)));
     }
-    next.nodes = set_node(alloc, position, node, address, tables.nodes.as_slice())?;
+    next.nodes = set_node(alloc, position, node, address, next.nodes.as_slice())?;
     next.services = services;
-    next.checks = set_checks(alloc, position, node, checks.as_slice(), tables.checks.as_slice())?;
+    next.checks = set_checks(alloc, position, node, checks.as_slice(), next.checks.as_slice())?;
     Ok((next, Applied::Yes))
 }
 
