@@ -11,6 +11,7 @@ use cat_model::{Bytes, KvRow, List, Memory, Text};
 use std::alloc::Global;
 
 /// What is written of a key at a position of the log.
+#[derive(Clone, Copy)]
 pub(crate) struct Writing<'a> {
     pub(crate) position: u64,
     pub(crate) key: &'a Text,
@@ -34,7 +35,7 @@ fn put(alloc: Global, new: KvRow, rows: &[KvRow]) -> Result<List<KvRow>, Memory>
     around(smaller, new, greater)
 }
 
-fn holder_of(row: Option<&KvRow>) -> Option<u128>
+pub(crate) fn holder_of(row: Option<&KvRow>) -> Option<u128>
     ensures { result ≡ holder (option_copied row.entry) }
 {
     row.and_then(|r| r.session)

@@ -4,7 +4,9 @@
 
 mod kv;
 mod lists;
+mod queries;
 mod register;
 mod sessions;
 mod tables;
 mod texts;
+mod txn;
