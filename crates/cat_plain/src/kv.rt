@@ -2,10 +2,10 @@
 
 ghost use Rattle.std.specs.Prelude.{◌≡◌, IfOk};
 ghost use Rattle.std.specs.Option.{option_copied};
-ghost use Rattle.cat_model.specs.Catalog.{kv_at};
 ghost use Rattle.cat_model.specs.Kv.{put_kv, write_kv, kv_set, kv_cas, kv_lock, kv_unlock, kv_delete, kv_delete_tree, kv_delete_cas, holder, locks, index_fits};
 
 use crate::lists::{around, copied, kept};
+use crate::tables::find_key;
 use crate::texts::{begins, compare, is_same_option};
 use cat_model::{Bytes, KvRow, List, Memory, Text};
 use std::alloc::Global;
@@ -17,13 +17,6 @@ pub(crate) struct Writing<'a> {
     pub(crate) key: &'a Text,
     pub(crate) value: &'a Bytes,
     pub(crate) flags: u64,
-}
-
-/// The row of a key.
-pub(crate) fn find<'a>(key: &Text, rows: &'a [KvRow]) -> Option<&'a KvRow>
-    ensures { option_copied result ≡ kv_at key.now rows.now }
-{
-    rows.iter().find(|r| compare(key, &r.key).is_eq())
 }
 
 #[tactic(auto, unfolding(cat_model::specs::Tables::put))]
@@ -53,7 +46,7 @@ fn locks_of(row: Option<&KvRow>) -> u64
 fn write(alloc: Global, w: &Writing, session: Option<u128>, lock_index: u64, rows: &[KvRow]) -> Result<List<KvRow>, Memory>
     ensures { IfOk result (λ l. l ≡ write_kv w.now.position w.now.key.now w.now.value.now w.now.flags session lock_index rows.now) }
 {
-    let create = match find(w.key, rows) {
+    let create = match find_key(w.key, rows) {
         Some(old) => old.create,
         None => w.position,
     };
@@ -73,7 +66,7 @@ fn write(alloc: Global, w: &Writing, session: Option<u128>, lock_index: u64, row
 pub(crate) fn set(alloc: Global, w: &Writing, rows: &[KvRow]) -> Result<List<KvRow>, Memory>
     ensures { IfOk result (λ l. l ≡ kv_set w.now.position w.now.key.now w.now.value.now w.now.flags rows.now) }
 {
-    let old = find(w.key, rows);
+    let old = find_key(w.key, rows);
     write(alloc, w, holder_of(old), locks_of(old), rows)
 }
 
@@ -92,7 +85,7 @@ fn fits(index: u64, row: Option<&KvRow>) -> bool
 pub(crate) fn cas(alloc: Global, w: &Writing, index: u64, rows: &[KvRow]) -> Result<Option<List<KvRow>>, Memory>
     ensures { IfOk result (λ o. o ≡ kv_cas w.now.position w.now.key.now w.now.value.now w.now.flags index rows.now) }
 {
-    if !fits(index, find(w.key, rows)) {
+    if !fits(index, find_key(w.key, rows)) {
         return Ok(None);
     }
     Ok(Some(set(alloc, w, rows)?))
@@ -104,7 +97,7 @@ pub(crate) fn cas(alloc: Global, w: &Writing, index: u64, rows: &[KvRow]) -> Res
 pub(crate) fn lock(alloc: Global, w: &Writing, session: u128, rows: &[KvRow]) -> Result<Option<List<KvRow>>, Memory>
     ensures { IfOk result (λ o. o ≡ kv_lock w.now.position w.now.key.now w.now.value.now w.now.flags session rows.now) }
 {
-    let old = find(w.key, rows);
+    let old = find_key(w.key, rows);
     let held = holder_of(old);
     let count = locks_of(old);
     if is_same_option(held, None) {
@@ -124,7 +117,7 @@ pub(crate) fn lock(alloc: Global, w: &Writing, session: u128, rows: &[KvRow]) ->
 pub(crate) fn unlock(alloc: Global, w: &Writing, session: u128, rows: &[KvRow]) -> Result<Option<List<KvRow>>, Memory>
     ensures { IfOk result (λ o. o ≡ kv_unlock w.now.position w.now.key.now w.now.value.now w.now.flags session rows.now) }
 {
-    let old = find(w.key, rows);
+    let old = find_key(w.key, rows);
     if !is_same_option(holder_of(old), Some(session)) {
         return Ok(None);
     }
@@ -150,7 +143,7 @@ pub(crate) fn delete_tree(alloc: Global, prefix: &Text, rows: &[KvRow]) -> Resul
 pub(crate) fn delete_cas(alloc: Global, key: &Text, index: u64, rows: &[KvRow]) -> Result<Option<List<KvRow>>, Memory>
     ensures { IfOk result (λ o. o ≡ kv_delete_cas key.now index rows.now) }
 {
-    let old = find(key, rows);
+    let old = find_key(key, rows);
     if old.is_none() {
         return Ok(Some(copied(alloc, rows)?));
     }

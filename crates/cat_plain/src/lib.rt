@@ -2,11 +2,17 @@
 //! contract says so. Faster programs are compared with it.
 #![tactic(auto)]
 
+mod act;
+pub mod alike;
+mod commands;
 mod kv;
-mod lists;
+pub mod lists;
+mod plain;
 mod queries;
 mod register;
 mod sessions;
-mod tables;
-mod texts;
+pub mod tables;
+pub mod texts;
 mod txn;
+
+pub use plain::Plain;

@@ -9,7 +9,7 @@ use cat_model::{List, Memory};
 use std::alloc::Global;
 
 /// The items that pass the test.
-pub(crate) fn kept<T: Clone, F: Fn(&T) -> bool>(alloc: Global, items: &[T], test: F) -> Result<List<T>, Memory>
+pub fn kept<T: Clone, F: Fn(&T) -> bool>(alloc: Global, items: &[T], test: F) -> Result<List<T>, Memory>
     requires clones { (x y : T) → T.is_clone x y → y ≡ x }
     requires callable { F.IsAlwaysCallable test }
     ensures { IfOk result (λ l. (p : T → Bool) → ((x : T) (b : Bool) → FnReturnsAt F.Fn test x b → b ≡ p x) → l ≡ filter p items.now) }
@@ -24,7 +24,7 @@ pub(crate) fn kept<T: Clone, F: Fn(&T) -> bool>(alloc: Global, items: &[T], test
 }
 
 /// What is made of each item.
-pub(crate) fn made<T, U: Drop, F: Fn(&T) -> Result<U, Memory>>(alloc: Global, items: &[T], make: F) -> Result<List<U>, Memory>
+pub fn made<T, U: Drop, F: Fn(&T) -> Result<U, Memory>>(alloc: Global, items: &[T], make: F) -> Result<List<U>, Memory>
     requires { F.IsAlwaysCallable make }
     ensures { IfOk result (λ l. (f : T → U) → ((x : T) (y : U) → FnReturnsAt F.Fn make x (Ok y) → y ≡ f x) → l ≡ map f items.now) }
 {
@@ -36,7 +36,7 @@ pub(crate) fn made<T, U: Drop, F: Fn(&T) -> Result<U, Memory>>(alloc: Global, it
 }
 
 /// What is made of those items of which something is.
-pub(crate) fn chosen<T, U: Drop, F: Fn(&T) -> Result<Option<U>, Memory>>(alloc: Global, items: &[T], make: F) -> Result<List<U>, Memory>
+pub fn chosen<T, U: Drop, F: Fn(&T) -> Result<Option<U>, Memory>>(alloc: Global, items: &[T], make: F) -> Result<List<U>, Memory>
     requires { F.IsAlwaysCallable make }
     ensures { IfOk result (λ l. (f : T → Option U) → ((x : T) (y : Option U) → FnReturnsAt F.Fn make x (Ok y) → y ≡ f x) → l ≡ filter_map f items.now) }
 {
@@ -50,7 +50,7 @@ pub(crate) fn chosen<T, U: Drop, F: Fn(&T) -> Result<Option<U>, Memory>>(alloc: 
 }
 
 /// The smaller items, the new one and the greater ones.
-pub(crate) fn around<T: Drop>(smaller: List<T>, new: T, greater: List<T>) -> Result<List<T>, Memory>
+pub fn around<T: Drop>(smaller: List<T>, new: T, greater: List<T>) -> Result<List<T>, Memory>
     ensures { IfOk result (λ l. l ≡ smaller ++ new ∷ greater) }
 {
     let mut all = smaller.into_vec();
@@ -60,7 +60,7 @@ pub(crate) fn around<T: Drop>(smaller: List<T>, new: T, greater: List<T>) -> Res
 }
 
 /// A copy of these items.
-pub(crate) fn copied<T: Clone>(alloc: Global, items: &[T]) -> Result<List<T>, Memory>
+pub fn copied<T: Clone>(alloc: Global, items: &[T]) -> Result<List<T>, Memory>
     requires { (x y : T) → T.is_clone x y → y ≡ x }
     ensures { IfOk result (λ l. l ≡ items.now) }
 {
@@ -68,7 +68,7 @@ pub(crate) fn copied<T: Clone>(alloc: Global, items: &[T]) -> Result<List<T>, Me
 }
 
 /// The one list and then the other.
-pub(crate) fn joined<T: Drop>(first: List<T>, second: List<T>) -> Result<List<T>, Memory>
+pub fn joined<T: Drop>(first: List<T>, second: List<T>) -> Result<List<T>, Memory>
     ensures { IfOk result (λ l. l ≡ first ++ second) }
 {
     let mut all = first.into_vec();
@@ -77,7 +77,7 @@ pub(crate) fn joined<T: Drop>(first: List<T>, second: List<T>) -> Result<List<T>
 }
 
 /// Whether the lists are as long and each pair is the same.
-pub(crate) fn all_same<T, F: Fn(&T, &T) -> bool>(first: &[T], second: &[T], same: F) -> bool
+pub fn all_same<T, F: Fn(&T, &T) -> bool>(first: &[T], second: &[T], same: F) -> bool
     requires { F.IsAlwaysCallable same }
     ensures { (e : T → T → Bool) → ((x y : T) (b : Bool) → FnReturnsAtPair F.Fn same x y b → b ≡ e x y) → result ≡ pointwise e first.now second.now }
 {
@@ -97,7 +97,7 @@ pub(crate) fn all_same<T, F: Fn(&T, &T) -> bool>(first: &[T], second: &[T], same
 }
 
 /// A copy of this item.
-pub(crate) fn copy_of<T: Clone>(item: &T) -> Result<T, Memory>
+pub fn copy_of<T: Clone>(item: &T) -> Result<T, Memory>
     requires { (x y : T) → T.is_clone x y → y ≡ x }
     ensures { IfOk result (λ copy. copy ≡ item.now) }
 {

@@ -1,6 +1,8 @@
 //! Prepared queries: their setting and deletion.
 
 ghost use Rattle.std.specs.Prelude.{◌≡◌, [], ◌∷◌, ◌&&◌, IfOk, is_some, not, nat_eq};
+ghost use Rattle.std.specs.List.{list_any};
+ghost use Rattle.cat_model.specs.Keys.{same_text};
 ghost use Rattle.std.specs.Option.{option_copied};
 ghost use Rattle.cat_model.specs.Catalog.{query_at};
 ghost use Rattle.cat_model.specs.Tables.{without};
@@ -21,11 +23,18 @@ fn is_known(tables: &Tables, session: Option<u128>) -> bool
     }
 }
 
+/// Whether another query has the same name.
+fn has_twin(query: &QueryRow, rows: &[QueryRow]) -> bool
+    ensures { result ≡ list_any (λ r. not (nat_eq r.id query.now.id) && same_text r.name query.now.name) rows.now }
+{
+    rows.iter().any(|r| !(r.id == query.id) && is_same(&r.name, &query.name))
+}
+
 /// Whether another query has the same name, which is not empty.
 fn is_name_taken(query: &QueryRow, rows: &[QueryRow]) -> bool
     ensures { result ≡ other_has_name query.now rows.now }
 {
-    !is_blank(&query.name) && rows.iter().any(|r| !(r.id == query.id) && is_same(&r.name, &query.name))
+    !is_blank(&query.name) && has_twin(query, rows)
 }
 
 fn refused(create: bool, query: &QueryRow, tables: &Tables) -> Option<Refuse>

@@ -3,44 +3,14 @@
 ghost use Rattle.std.specs.Prelude.{◌≡◌, ℕ, IfOk, not};
 ghost use Rattle.std.specs.List.{list_any};
 ghost use Rattle.cat_model.specs.Keys.{same_text};
-ghost use Rattle.cat_model.specs.Same.{alike_nodes, alike_services, alike_checks};
 ghost use Rattle.cat_model.specs.Machine.{put_node, put_service, put_given, put_check, put_checks, last_of_each, has_service, register, deregister, deregister_service, deregister_check, deregister_node};
 
+use crate::alike::{are_alike_checks, are_alike_nodes, are_alike_services};
 use crate::lists::{copied, copy_of, kept};
 use crate::tables::{Tables, find_check, find_node, find_service, place_check, place_node, place_service};
-use crate::texts::{are_same, is_blank, is_same, is_same_flag, is_same_status};
+use crate::texts::{is_blank, is_same};
 use cat_model::{Applied, CheckRow, List, Memory, NewCheck, NewService, NodeRow, Refuse, ServiceRow, Text};
 use std::alloc::Global;
-
-fn are_alike_nodes(a: &NodeRow, b: &NodeRow) -> bool
-    ensures { result ≡ alike_nodes a.now b.now }
-{
-    is_same(&a.node, &b.node) && is_same(&a.address, &b.address)
-}
-
-fn are_alike_services(a: &ServiceRow, b: &ServiceRow) -> bool
-    ensures { result ≡ alike_services a.now b.now }
-{
-    is_same(&a.node, &b.node)
-        && is_same(&a.id, &b.id)
-        && is_same(&a.name, &b.name)
-        && are_same(&a.tags, &b.tags)
-        && is_same(&a.address, &b.address)
-        && a.port == b.port
-        && is_same_flag(a.tag_override, b.tag_override)
-}
-
-fn are_alike_checks(a: &CheckRow, b: &CheckRow) -> bool
-    ensures { result ≡ alike_checks a.now b.now }
-{
-    is_same(&a.node, &b.node)
-        && is_same(&a.id, &b.id)
-        && is_same(&a.name, &b.name)
-        && is_same_status(a.status, b.status)
-        && is_same(&a.notes, &b.notes)
-        && is_same(&a.output, &b.output)
-        && is_same(&a.service, &b.service)
-}
 
 fn set_node(alloc: Global, position: u64, node: &Text, address: &Text, rows: &[NodeRow]) -> Result<List<NodeRow>, Memory>
     ensures { IfOk result (λ l. l ≡ put_node position node.now address.now rows.now) }

@@ -8,7 +8,7 @@ ghost use Rattle.cat_plain.specs.Txns.{run_of};
 
 use crate::kv::{self, Writing};
 use crate::lists::{copied, copy_of, joined, kept, made};
-use crate::tables::find_session;
+use crate::tables::{find_key, find_session};
 use crate::texts::{begins, is_same_option};
 use cat_model::{Bytes, KvRow, List, Memory, SessionRow, Text, TxnOp, TxnResult, Verb};
 use std::alloc::Global;
@@ -58,7 +58,7 @@ fn gives(alloc: Global, key: &Text, done: Option<List<KvRow>>) -> Result<Outcome
     let Some(rows) = done else {
         return Ok(None);
     };
-    let results = results_of(alloc, kv::find(key, rows.as_slice()))?;
+    let results = results_of(alloc, find_key(key, rows.as_slice()))?;
     Ok(Some((rows, results)))
 }
 
@@ -105,11 +105,19 @@ fn get_or_empty(alloc: Global, key: &Text, rows: &[KvRow], row: Option<&KvRow>) 
     shows(alloc, rows, TxnResult { row, with_value })
 }
 
+/// The rows as results with their values.
+#[tactic(auto, using(crate::proofs::Results::each_is))]
+fn all_with_value(alloc: Global, rows: &[KvRow]) -> Result<List<TxnResult>, Memory>
+    ensures { IfOk result (λ l. l ≡ each_with_value rows.now) }
+{
+    made(alloc, rows, |r| with_value(r))
+}
+
 fn get_tree(alloc: Global, prefix: &Text, rows: &[KvRow]) -> Result<Outcome, Memory>
     ensures { IfOk result (λ o. o ≡ Some (rows.now, each_with_value (filter (λ r. has_prefix prefix.now r.key) rows.now))) }
 {
     let under = kept(alloc, rows, |r| begins(prefix, &r.key))?;
-    let results = made(alloc, under.as_slice(), |r| with_value(r))?;
+    let results = all_with_value(alloc, under.as_slice())?;
     Ok(Some((copied(alloc, rows)?, results)))
 }
 
@@ -176,7 +184,7 @@ fn unlock(alloc: Global, position: u64, op: &TxnOp, rows: &[KvRow]) -> Result<Ou
 fn check_index(alloc: Global, op: &TxnOp, rows: &[KvRow]) -> Result<Outcome, Memory>
     ensures { IfOk result (λ o. o ≡ operate 0 [] Verb.CheckIndex op.now rows.now) }
 {
-    match kv::find(&op.key, rows) {
+    match find_key(&op.key, rows) {
         None => Ok(None),
         Some(row) => {
             if row.modify != op.index {
@@ -190,7 +198,7 @@ fn check_index(alloc: Global, op: &TxnOp, rows: &[KvRow]) -> Result<Outcome, Mem
 fn check_session(alloc: Global, op: &TxnOp, rows: &[KvRow]) -> Result<Outcome, Memory>
     ensures { IfOk result (λ o. o ≡ operate 0 [] Verb.CheckSession op.now rows.now) }
 {
-    if !is_held_by(op.session, kv::find(&op.key, rows)) {
+    if !is_held_by(op.session, find_key(&op.key, rows)) {
         return Ok(None);
     }
     gives(alloc, &op.key, Some(copied(alloc, rows)?))
@@ -199,7 +207,7 @@ fn check_session(alloc: Global, op: &TxnOp, rows: &[KvRow]) -> Result<Outcome, M
 fn check_not_exists(alloc: Global, op: &TxnOp, rows: &[KvRow]) -> Result<Outcome, Memory>
     ensures { IfOk result (λ o. o ≡ operate 0 [] Verb.CheckNotExists op.now rows.now) }
 {
-    if kv::find(&op.key, rows).is_some() {
+    if find_key(&op.key, rows).is_some() {
         return Ok(None);
     }
     Ok(gives_nothing(alloc, Some(copied(alloc, rows)?)))
@@ -208,7 +216,7 @@ fn check_not_exists(alloc: Global, op: &TxnOp, rows: &[KvRow]) -> Result<Outcome
 fn operate(alloc: Global, position: u64, sessions: &[SessionRow], op: &TxnOp, rows: &[KvRow]) -> Result<Outcome, Memory>
     ensures { IfOk result (λ o. o ≡ operate position sessions.now op.now.verb op.now rows.now) }
 {
-    let row = kv::find(&op.key, rows);
+    let row = find_key(&op.key, rows);
     match op.verb {
         Verb::Set => set(alloc, position, op, rows),
         Verb::Cas => cas(alloc, position, op, rows),
