@@ -8,13 +8,10 @@ use crate::kv::{self, Writing};
 use crate::queries::{self, deleted};
 use crate::register::deregister;
 use crate::sessions;
-use crate::tables::{Tables, find_session};
+use crate::tables::{Step, Tables, find_session};
 use crate::txn::{self, Ending};
 use cat_model::{Applied, KvRow, List, Memory, QueryRow, Refuse, SessionRow, Text, TxnOp};
 use std::alloc::Global;
-
-/// A catalog with an answer.
-pub(crate) type Step = (Tables, Applied);
 
 fn with_kv(alloc: Global, tables: &Tables, rows: List<KvRow>) -> Result<Step, Memory>
     ensures { IfOk result (λ step. step ≡ on_kv tables.now rows) }
@@ -49,7 +46,12 @@ pub(crate) fn set_key(alloc: Global, w: &Writing, tables: &Tables) -> Result<Ste
 }
 
 #[tactic(auto, unfolding(cat_model::specs::Machine::act))]
-pub(crate) fn check_and_set(alloc: Global, w: &Writing, index: u64, tables: &Tables) -> Result<Step, Memory>
+pub(crate) fn check_and_set(
+    alloc: Global,
+    w: &Writing,
+    index: u64,
+    tables: &Tables,
+) -> Result<Step, Memory>
     ensures { IfOk result (λ step. step ≡ act w.now.position (KvCas w.now.key.now w.now.flags w.now.value.now index) tables.now) }
 {
     let done = kv::cas(alloc, w, index, tables.kv.as_slice())?;
@@ -57,7 +59,12 @@ pub(crate) fn check_and_set(alloc: Global, w: &Writing, index: u64, tables: &Tab
 }
 
 #[tactic(auto, unfolding(cat_model::specs::Machine::act, cat_model::specs::Machine::unless))]
-pub(crate) fn lock_key(alloc: Global, w: &Writing, session: u128, tables: &Tables) -> Result<Step, Memory>
+pub(crate) fn lock_key(
+    alloc: Global,
+    w: &Writing,
+    session: u128,
+    tables: &Tables,
+) -> Result<Step, Memory>
     ensures { IfOk result (λ step. step ≡ act w.now.position (KvLock w.now.key.now w.now.flags w.now.value.now session) tables.now) }
 {
     if find_session(session, tables.sessions.as_slice()).is_none() {
@@ -68,7 +75,12 @@ pub(crate) fn lock_key(alloc: Global, w: &Writing, session: u128, tables: &Table
 }
 
 #[tactic(auto, unfolding(cat_model::specs::Machine::act))]
-pub(crate) fn unlock_key(alloc: Global, w: &Writing, session: u128, tables: &Tables) -> Result<Step, Memory>
+pub(crate) fn unlock_key(
+    alloc: Global,
+    w: &Writing,
+    session: u128,
+    tables: &Tables,
+) -> Result<Step, Memory>
     ensures { IfOk result (λ step. step ≡ act w.now.position (KvUnlock w.now.key.now w.now.flags w.now.value.now session) tables.now) }
 {
     let done = kv::unlock(alloc, w, session, tables.kv.as_slice())?;
@@ -76,7 +88,12 @@ pub(crate) fn unlock_key(alloc: Global, w: &Writing, session: u128, tables: &Tab
 }
 
 #[tactic(auto, unfolding(cat_model::specs::Machine::act))]
-pub(crate) fn delete_key(alloc: Global, position: u64, key: &Text, tables: &Tables) -> Result<Step, Memory>
+pub(crate) fn delete_key(
+    alloc: Global,
+    position: u64,
+    key: &Text,
+    tables: &Tables,
+) -> Result<Step, Memory>
     ensures { IfOk result (λ step. step ≡ act position (KvDelete key.now) tables.now) }
 {
     let rows = kv::delete(alloc, key, tables.kv.as_slice())?;
@@ -84,7 +101,13 @@ pub(crate) fn delete_key(alloc: Global, position: u64, key: &Text, tables: &Tabl
 }
 
 #[tactic(auto, unfolding(cat_model::specs::Machine::act))]
-pub(crate) fn check_and_delete(alloc: Global, position: u64, key: &Text, index: u64, tables: &Tables) -> Result<Step, Memory>
+pub(crate) fn check_and_delete(
+    alloc: Global,
+    position: u64,
+    key: &Text,
+    index: u64,
+    tables: &Tables,
+) -> Result<Step, Memory>
     ensures { IfOk result (λ step. step ≡ act position (KvDeleteCas key.now index) tables.now) }
 {
     let done = kv::delete_cas(alloc, key, index, tables.kv.as_slice())?;
@@ -92,7 +115,12 @@ pub(crate) fn check_and_delete(alloc: Global, position: u64, key: &Text, index: 
 }
 
 #[tactic(auto, unfolding(cat_model::specs::Machine::act))]
-pub(crate) fn delete_keys(alloc: Global, position: u64, prefix: &Text, tables: &Tables) -> Result<Step, Memory>
+pub(crate) fn delete_keys(
+    alloc: Global,
+    position: u64,
+    prefix: &Text,
+    tables: &Tables,
+) -> Result<Step, Memory>
     ensures { IfOk result (λ step. step ≡ act position (KvDeleteTree prefix.now) tables.now) }
 {
     let rows = kv::delete_tree(alloc, prefix, tables.kv.as_slice())?;
@@ -100,10 +128,21 @@ pub(crate) fn delete_keys(alloc: Global, position: u64, prefix: &Text, tables: &
 }
 
 #[tactic(auto, unfolding(cat_model::specs::Machine::act))]
-pub(crate) fn transact(alloc: Global, position: u64, ops: &List<TxnOp>, tables: &Tables) -> Result<Step, Memory>
+pub(crate) fn transact(
+    alloc: Global,
+    position: u64,
+    ops: &List<TxnOp>,
+    tables: &Tables,
+) -> Result<Step, Memory>
     ensures { IfOk result (λ step. step ≡ act position (Txn ops.now) tables.now) }
 {
-    let ending = txn::run(alloc, position, tables.sessions.as_slice(), ops.as_slice(), tables.kv.as_slice())?;
+    let ending = txn::run(
+        alloc,
+        position,
+        tables.sessions.as_slice(),
+        ops.as_slice(),
+        tables.kv.as_slice(),
+    )?;
     let mut next = tables.copy(alloc)?;
     match ending {
         Ending::Went(rows, results) => {
@@ -115,14 +154,29 @@ pub(crate) fn transact(alloc: Global, position: u64, ops: &List<TxnOp>, tables: 
 }
 
 #[tactic(auto, unfolding(cat_model::specs::Machine::act))]
-pub(crate) fn remove(alloc: Global, position: u64, node: &Text, service: &Text, check: &Text, tables: &Tables) -> Result<Step, Memory>
+pub(crate) fn remove(
+    alloc: Global,
+    position: u64,
+    node: &Text,
+    service: &Text,
+    check: &Text,
+    tables: &Tables,
+) -> Result<Step, Memory>
     ensures { IfOk result (λ step. step ≡ act position (Deregister node.now service.now check.now) tables.now) }
 {
-    Ok((deregister(alloc, node, service, check, tables)?, Applied::Yes))
+    Ok((
+        deregister(alloc, node, service, check, tables)?,
+        Applied::Yes,
+    ))
 }
 
 #[tactic(auto, unfolding(cat_model::specs::Machine::act))]
-pub(crate) fn delete_query(alloc: Global, position: u64, id: u128, tables: &Tables) -> Result<Step, Memory>
+pub(crate) fn delete_query(
+    alloc: Global,
+    position: u64,
+    id: u128,
+    tables: &Tables,
+) -> Result<Step, Memory>
     ensures { IfOk result (λ step. step ≡ act position (QueryDelete id) tables.now) }
 {
     let mut next = tables.copy(alloc)?;
@@ -141,7 +195,12 @@ pub(crate) fn create_session(alloc: Global, s: SessionRow, tables: &Tables) -> R
 
 /// Sets the query of this row, whose `create` and `modify` are the position.
 #[tactic(auto, unfolding(cat_model::specs::Machine::act))]
-pub(crate) fn set_query(alloc: Global, create: bool, q: QueryRow, tables: &Tables) -> Result<Step, Memory>
+pub(crate) fn set_query(
+    alloc: Global,
+    create: bool,
+    q: QueryRow,
+    tables: &Tables,
+) -> Result<Step, Memory>
     requires { q.create ≡ q.modify }
     ensures { IfOk result (λ step. step ≡ act q.modify (QuerySet q.id create q.name q.session q.service q.only_passing q.tags q.dns_ttl_ms) tables.now) }
 {

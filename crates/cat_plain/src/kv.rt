@@ -43,7 +43,13 @@ fn locks_of(row: Option<&KvRow>) -> u64
 
 /// The rows with the key written, held by this session with this lock index.
 #[tactic(auto, unfolding(cat_model::specs::Kv::write_kv))]
-fn write(alloc: Global, w: &Writing, session: Option<u128>, lock_index: u64, rows: &[KvRow]) -> Result<List<KvRow>, Memory>
+fn write(
+    alloc: Global,
+    w: &Writing,
+    session: Option<u128>,
+    lock_index: u64,
+    rows: &[KvRow],
+) -> Result<List<KvRow>, Memory>
     ensures { IfOk result (λ l. l ≡ write_kv w.now.position w.now.key.now w.now.value.now w.now.flags session lock_index rows.now) }
 {
     let create = match find_key(w.key, rows) {
@@ -82,7 +88,12 @@ fn fits(index: u64, row: Option<&KvRow>) -> bool
 
 /// The rows where the check-and-set goes through.
 #[tactic(auto, unfolding(cat_model::specs::Kv::kv_cas))]
-pub(crate) fn cas(alloc: Global, w: &Writing, index: u64, rows: &[KvRow]) -> Result<Option<List<KvRow>>, Memory>
+pub(crate) fn cas(
+    alloc: Global,
+    w: &Writing,
+    index: u64,
+    rows: &[KvRow],
+) -> Result<Option<List<KvRow>>, Memory>
     ensures { IfOk result (λ o. o ≡ kv_cas w.now.position w.now.key.now w.now.value.now w.now.flags index rows.now) }
 {
     if !fits(index, find_key(w.key, rows)) {
@@ -94,7 +105,12 @@ pub(crate) fn cas(alloc: Global, w: &Writing, index: u64, rows: &[KvRow]) -> Res
 /// The rows with the lock acquired or kept, where no other session holds it. A row is acquired at most `u64::MAX`
 /// times, and then never again for want of memory.
 #[tactic(auto, unfolding(cat_model::specs::Kv::kv_lock))]
-pub(crate) fn lock(alloc: Global, w: &Writing, session: u128, rows: &[KvRow]) -> Result<Option<List<KvRow>>, Memory>
+pub(crate) fn lock(
+    alloc: Global,
+    w: &Writing,
+    session: u128,
+    rows: &[KvRow],
+) -> Result<Option<List<KvRow>>, Memory>
     ensures { IfOk result (λ o. o ≡ kv_lock w.now.position w.now.key.now w.now.value.now w.now.flags session rows.now) }
 {
     let old = find_key(w.key, rows);
@@ -114,7 +130,12 @@ pub(crate) fn lock(alloc: Global, w: &Writing, session: u128, rows: &[KvRow]) ->
 
 /// The rows with the lock released, where the session holds it.
 #[tactic(auto, unfolding(cat_model::specs::Kv::kv_unlock))]
-pub(crate) fn unlock(alloc: Global, w: &Writing, session: u128, rows: &[KvRow]) -> Result<Option<List<KvRow>>, Memory>
+pub(crate) fn unlock(
+    alloc: Global,
+    w: &Writing,
+    session: u128,
+    rows: &[KvRow],
+) -> Result<Option<List<KvRow>>, Memory>
     ensures { IfOk result (λ o. o ≡ kv_unlock w.now.position w.now.key.now w.now.value.now w.now.flags session rows.now) }
 {
     let old = find_key(w.key, rows);
@@ -132,7 +153,11 @@ pub(crate) fn delete(alloc: Global, key: &Text, rows: &[KvRow]) -> Result<List<K
 }
 
 #[tactic(auto, unfolding(cat_model::specs::Kv::kv_delete_tree))]
-pub(crate) fn delete_tree(alloc: Global, prefix: &Text, rows: &[KvRow]) -> Result<List<KvRow>, Memory>
+pub(crate) fn delete_tree(
+    alloc: Global,
+    prefix: &Text,
+    rows: &[KvRow],
+) -> Result<List<KvRow>, Memory>
     ensures { IfOk result (λ l. l ≡ kv_delete_tree prefix.now rows.now) }
 {
     kept(alloc, rows, |r| !begins(prefix, &r.key))
@@ -140,7 +165,12 @@ pub(crate) fn delete_tree(alloc: Global, prefix: &Text, rows: &[KvRow]) -> Resul
 
 /// The rows without the key, where it was last written at this index. An absent key is no failure.
 #[tactic(auto, unfolding(cat_model::specs::Kv::kv_delete_cas))]
-pub(crate) fn delete_cas(alloc: Global, key: &Text, index: u64, rows: &[KvRow]) -> Result<Option<List<KvRow>>, Memory>
+pub(crate) fn delete_cas(
+    alloc: Global,
+    key: &Text,
+    index: u64,
+    rows: &[KvRow],
+) -> Result<Option<List<KvRow>>, Memory>
     ensures { IfOk result (λ o. o ≡ kv_delete_cas key.now index rows.now) }
 {
     let old = find_key(key, rows);

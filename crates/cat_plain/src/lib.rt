@@ -2,7 +2,7 @@
 //! contract says so. Faster programs are compared with it.
 #![tactic(auto)]
 
-mod act;
+pub mod act;
 pub mod alike;
 mod commands;
 mod kv;

@@ -9,7 +9,11 @@ use cat_model::{List, Memory};
 use std::alloc::Global;
 
 /// The items that pass the test.
-pub fn kept<T: Clone, F: Fn(&T) -> bool>(alloc: Global, items: &[T], test: F) -> Result<List<T>, Memory>
+pub fn kept<T: Clone, F: Fn(&T) -> bool>(
+    alloc: Global,
+    items: &[T],
+    test: F,
+) -> Result<List<T>, Memory>
     requires clones { (x y : T) → T.is_clone x y → y ≡ x }
     requires callable { F.IsAlwaysCallable test }
     ensures { IfOk result (λ l. (p : T → Bool) → ((x : T) (b : Bool) → FnReturnsAt F.Fn test x b → b ≡ p x) → l ≡ filter p items.now) }
@@ -24,7 +28,11 @@ pub fn kept<T: Clone, F: Fn(&T) -> bool>(alloc: Global, items: &[T], test: F) ->
 }
 
 /// What is made of each item.
-pub fn made<T, U: Drop, F: Fn(&T) -> Result<U, Memory>>(alloc: Global, items: &[T], make: F) -> Result<List<U>, Memory>
+pub fn made<T, U: Drop, F: Fn(&T) -> Result<U, Memory>>(
+    alloc: Global,
+    items: &[T],
+    make: F,
+) -> Result<List<U>, Memory>
     requires { F.IsAlwaysCallable make }
     ensures { IfOk result (λ l. (f : T → U) → ((x : T) (y : U) → FnReturnsAt F.Fn make x (Ok y) → y ≡ f x) → l ≡ map f items.now) }
 {
@@ -36,7 +44,11 @@ pub fn made<T, U: Drop, F: Fn(&T) -> Result<U, Memory>>(alloc: Global, items: &[
 }
 
 /// What is made of those items of which something is.
-pub fn chosen<T, U: Drop, F: Fn(&T) -> Result<Option<U>, Memory>>(alloc: Global, items: &[T], make: F) -> Result<List<U>, Memory>
+pub fn chosen<T, U: Drop, F: Fn(&T) -> Result<Option<U>, Memory>>(
+    alloc: Global,
+    items: &[T],
+    make: F,
+) -> Result<List<U>, Memory>
     requires { F.IsAlwaysCallable make }
     ensures { IfOk result (λ l. (f : T → Option U) → ((x : T) (y : Option U) → FnReturnsAt F.Fn make x (Ok y) → y ≡ f x) → l ≡ filter_map f items.now) }
 {

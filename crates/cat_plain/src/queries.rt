@@ -27,7 +27,8 @@ fn is_known(tables: &Tables, session: Option<u128>) -> bool
 fn has_twin(query: &QueryRow, rows: &[QueryRow]) -> bool
     ensures { result ≡ list_any (λ r. not (nat_eq r.id query.now.id) && same_text r.name query.now.name) rows.now }
 {
-    rows.iter().any(|r| !(r.id == query.id) && is_same(&r.name, &query.name))
+    rows.iter()
+        .any(|r| !(r.id == query.id) && is_same(&r.name, &query.name))
 }
 
 /// Whether another query has the same name, which is not empty.
@@ -64,14 +65,22 @@ fn first_made(position: u64, old: Option<&QueryRow>) -> u64
 
 /// Sets the query, which has its position as `create`.
 #[tactic(auto, unfolding(cat_model::specs::Machine::set_query, cat_model::specs::Machine::unless))]
-pub(crate) fn set(alloc: Global, create: bool, query: QueryRow, tables: &Tables) -> Result<(Tables, Applied), Memory>
+pub(crate) fn set(
+    alloc: Global,
+    create: bool,
+    query: QueryRow,
+    tables: &Tables,
+) -> Result<(Tables, Applied), Memory>
     ensures { IfOk result (λ step. step ≡ set_query create query tables.now) }
 {
     let mut next = tables.copy(alloc)?;
     if let Some(refusal) = refused(create, &query, tables) {
         return Ok((next, Applied::Refused(refusal)));
     }
-    let create = first_made(query.create, find_query(query.id, tables.queries.as_slice()));
+    let create = first_made(
+        query.create,
+        find_query(query.id, tables.queries.as_slice()),
+    );
     next.queries = place_query(alloc, QueryRow { create, ..query }, next.queries.as_slice())?;
     Ok((next, Applied::Done))
 }

@@ -7,12 +7,22 @@ ghost use Rattle.cat_model.specs.Machine.{put_node, put_service, put_given, put_
 
 use crate::alike::{are_alike_checks, are_alike_nodes, are_alike_services};
 use crate::lists::{copied, copy_of, kept};
-use crate::tables::{Tables, find_check, find_node, find_service, place_check, place_node, place_service};
+use crate::tables::{
+    Tables, find_check, find_node, find_service, place_check, place_node, place_service,
+};
 use crate::texts::{is_blank, is_same};
-use cat_model::{Applied, CheckRow, List, Memory, NewCheck, NewService, NodeRow, Refuse, ServiceRow, Text};
+use cat_model::{
+    Applied, CheckRow, List, Memory, NewCheck, NewService, NodeRow, Refuse, ServiceRow, Text,
+};
 use std::alloc::Global;
 
-fn set_node(alloc: Global, position: u64, node: &Text, address: &Text, rows: &[NodeRow]) -> Result<List<NodeRow>, Memory>
+fn set_node(
+    alloc: Global,
+    position: u64,
+    node: &Text,
+    address: &Text,
+    rows: &[NodeRow],
+) -> Result<List<NodeRow>, Memory>
     ensures { IfOk result (λ l. l ≡ put_node position node.now address.now rows.now) }
 {
     let new = NodeRow {
@@ -31,7 +41,13 @@ fn set_node(alloc: Global, position: u64, node: &Text, address: &Text, rows: &[N
     place_node(alloc, NodeRow { create, ..new }, rows)
 }
 
-fn set_service(alloc: Global, position: u64, node: &Text, s: &NewService, rows: &[ServiceRow]) -> Result<List<ServiceRow>, Memory>
+fn set_service(
+    alloc: Global,
+    position: u64,
+    node: &Text,
+    s: &NewService,
+    rows: &[ServiceRow],
+) -> Result<List<ServiceRow>, Memory>
     ensures { IfOk result (λ l. l ≡ put_service position node.now s.now rows.now) }
 {
     let new = ServiceRow {
@@ -55,7 +71,13 @@ fn set_service(alloc: Global, position: u64, node: &Text, s: &NewService, rows: 
     place_service(alloc, ServiceRow { create, ..new }, rows)
 }
 
-fn set_given(alloc: Global, position: u64, node: &Text, service: &Option<NewService>, rows: &[ServiceRow]) -> Result<List<ServiceRow>, Memory>
+fn set_given(
+    alloc: Global,
+    position: u64,
+    node: &Text,
+    service: &Option<NewService>,
+    rows: &[ServiceRow],
+) -> Result<List<ServiceRow>, Memory>
     ensures { IfOk result (λ l. l ≡ put_given position node.now service.now rows.now) }
 {
     match service {
@@ -64,7 +86,13 @@ fn set_given(alloc: Global, position: u64, node: &Text, service: &Option<NewServ
     }
 }
 
-fn set_check(alloc: Global, position: u64, node: &Text, c: &NewCheck, rows: &[CheckRow]) -> Result<List<CheckRow>, Memory>
+fn set_check(
+    alloc: Global,
+    position: u64,
+    node: &Text,
+    c: &NewCheck,
+    rows: &[CheckRow],
+) -> Result<List<CheckRow>, Memory>
     ensures { IfOk result (λ l. l ≡ put_check position node.now c.now rows.now) }
 {
     let new = CheckRow {
@@ -88,7 +116,13 @@ fn set_check(alloc: Global, position: u64, node: &Text, c: &NewCheck, rows: &[Ch
     place_check(alloc, CheckRow { create, ..new }, rows)
 }
 
-fn set_checks(alloc: Global, position: u64, node: &Text, checks: &[NewCheck], rows: &[CheckRow]) -> Result<List<CheckRow>, Memory>
+fn set_checks(
+    alloc: Global,
+    position: u64,
+    node: &Text,
+    checks: &[NewCheck],
+    rows: &[CheckRow],
+) -> Result<List<CheckRow>, Memory>
     ensures { IfOk result (λ l. l ≡ put_checks position node.now checks.now rows.now) }
 {
     let mut done = copied(alloc, rows)?;
@@ -137,7 +171,15 @@ fn lacks_service(node: &Text, rows: &[ServiceRow], checks: &[NewCheck]) -> bool
 }
 
 #[tactic(auto, unfolding(cat_model::specs::Machine::register, cat_model::specs::Machine::unless))]
-pub(crate) fn register(alloc: Global, position: u64, node: &Text, address: &Text, service: &Option<NewService>, checks: &[NewCheck], tables: &Tables) -> Result<(Tables, Applied), Memory>
+pub(crate) fn register(
+    alloc: Global,
+    position: u64,
+    node: &Text,
+    address: &Text,
+    service: &Option<NewService>,
+    checks: &[NewCheck],
+    tables: &Tables,
+) -> Result<(Tables, Applied), Memory>
     ensures { IfOk result (λ step. step ≡ register position node.now address.now service.now checks.now tables.now) }
 {
     let mut next = tables.copy(alloc)?;
@@ -148,7 +190,13 @@ pub(crate) fn register(alloc: Global, position: u64, node: &Text, address: &Text
     }
     next.nodes = set_node(alloc, position, node, address, next.nodes.as_slice())?;
     next.services = services;
-    next.checks = set_checks(alloc, position, node, checks.as_slice(), next.checks.as_slice())?;
+    next.checks = set_checks(
+        alloc,
+        position,
+        node,
+        checks.as_slice(),
+        next.checks.as_slice(),
+    )?;
     Ok((next, Applied::Yes))
 }
 
@@ -156,8 +204,16 @@ fn remove_service(alloc: Global, node: &Text, id: &Text, tables: &Tables) -> Res
     ensures { IfOk result (λ next. next ≡ deregister_service node.now id.now tables.now) }
 {
     let mut next = tables.copy(alloc)?;
-    next.services = kept(alloc, tables.services.as_slice(), |r| !(is_same(&r.node, node) && is_same(&r.id, id)))?;
-    next.checks = kept(alloc, tables.checks.as_slice(), |r| !(is_same(&r.node, node) && is_same(&r.service, id)))?;
+    next.services = kept(
+        alloc,
+        tables.services.as_slice(),
+        |r| !(is_same(&r.node, node) && is_same(&r.id, id)),
+    )?;
+    next.checks = kept(
+        alloc,
+        tables.checks.as_slice(),
+        |r| !(is_same(&r.node, node) && is_same(&r.service, id)),
+    )?;
     Ok(next)
 }
 
@@ -165,7 +221,11 @@ fn remove_check(alloc: Global, node: &Text, id: &Text, tables: &Tables) -> Resul
     ensures { IfOk result (λ next. next ≡ deregister_check node.now id.now tables.now) }
 {
     let mut next = tables.copy(alloc)?;
-    next.checks = kept(alloc, tables.checks.as_slice(), |r| !(is_same(&r.node, node) && is_same(&r.id, id)))?;
+    next.checks = kept(
+        alloc,
+        tables.checks.as_slice(),
+        |r| !(is_same(&r.node, node) && is_same(&r.id, id)),
+    )?;
     Ok(next)
 }
 
@@ -174,13 +234,23 @@ fn remove_node(alloc: Global, node: &Text, tables: &Tables) -> Result<Tables, Me
 {
     let mut next = tables.copy(alloc)?;
     next.nodes = kept(alloc, tables.nodes.as_slice(), |r| !is_same(&r.node, node))?;
-    next.services = kept(alloc, tables.services.as_slice(), |r| !is_same(&r.node, node))?;
+    next.services = kept(
+        alloc,
+        tables.services.as_slice(),
+        |r| !is_same(&r.node, node),
+    )?;
     next.checks = kept(alloc, tables.checks.as_slice(), |r| !is_same(&r.node, node))?;
     Ok(next)
 }
 
 #[tactic(auto, unfolding(cat_model::specs::Machine::deregister))]
-pub(crate) fn deregister(alloc: Global, node: &Text, service: &Text, check: &Text, tables: &Tables) -> Result<Tables, Memory>
+pub(crate) fn deregister(
+    alloc: Global,
+    node: &Text,
+    service: &Text,
+    check: &Text,
+    tables: &Tables,
+) -> Result<Tables, Memory>
     ensures { IfOk result (λ next. next ≡ deregister node.now service.now check.now tables.now) }
 {
     if !is_blank(service) {

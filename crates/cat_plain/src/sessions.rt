@@ -9,7 +9,9 @@ ghost use Rattle.cat_model.specs.Machine.{check_refusal, checks_refusal, create_
 use crate::lists::{chosen, copy_of, kept};
 use crate::tables::{Tables, find_check, find_node, find_session, place_session};
 use crate::texts::is_same_status;
-use cat_model::{Applied, Behavior, CheckRow, Command, KvRow, List, Memory, Refuse, SessionRow, Status, Text};
+use cat_model::{
+    Applied, Behavior, CheckRow, Command, KvRow, List, Memory, Refuse, SessionRow, Status, Text,
+};
 use std::alloc::Global;
 
 /// The first of these checks of the node that is missing or critical.
@@ -40,11 +42,19 @@ fn refused_session(session: &SessionRow, tables: &Tables) -> Option<Refuse>
     if find_node(&session.node, tables.nodes.as_slice()).is_none() {
         return Some(Refuse::MissingNode);
     }
-    refused_check(&session.node, session.checks.as_slice(), tables.checks.as_slice())
+    refused_check(
+        &session.node,
+        session.checks.as_slice(),
+        tables.checks.as_slice(),
+    )
 }
 
 #[tactic(auto, unfolding(cat_model::specs::Machine::create_session, cat_model::specs::Machine::unless))]
-pub(crate) fn create(alloc: Global, session: SessionRow, tables: &Tables) -> Result<(Tables, Applied), Memory>
+pub(crate) fn create(
+    alloc: Global,
+    session: SessionRow,
+    tables: &Tables,
+) -> Result<(Tables, Applied), Memory>
     ensures { IfOk result (λ step. step ≡ create_session session tables.now) }
 {
     let mut next = tables.copy(alloc)?;
@@ -61,7 +71,12 @@ fn is_broken(tables: &Tables, session: &SessionRow) -> bool
     ensures { result ≡ broken tables.now session.now }
 {
     find_node(&session.node, tables.nodes.as_slice()).is_none()
-        || refused_check(&session.node, session.checks.as_slice(), tables.checks.as_slice()).is_some()
+        || refused_check(
+            &session.node,
+            session.checks.as_slice(),
+            tables.checks.as_slice(),
+        )
+        .is_some()
 }
 
 fn is_named(command: &Command, session: &SessionRow) -> bool
@@ -80,10 +95,18 @@ fn is_over(command: &Command, tables: &Tables, session: &SessionRow) -> bool
 }
 
 /// The sessions that end after the command.
-pub(crate) fn ended(alloc: Global, command: &Command, tables: &Tables) -> Result<List<SessionRow>, Memory>
+pub(crate) fn ended(
+    alloc: Global,
+    command: &Command,
+    tables: &Tables,
+) -> Result<List<SessionRow>, Memory>
     ensures { IfOk result (λ gone. gone ≡ filter (ends command.now tables.now) tables.now.sessions) }
 {
-    kept(alloc, tables.sessions.as_slice(), |s| is_over(command, tables, s))
+    kept(
+        alloc,
+        tables.sessions.as_slice(),
+        |s| is_over(command, tables, s),
+    )
 }
 
 fn holder_among(gone: &[SessionRow], session: Option<u128>) -> Option<&SessionRow>
@@ -93,7 +116,11 @@ fn holder_among(gone: &[SessionRow], session: Option<u128>) -> Option<&SessionRo
 }
 
 /// The row after the session ended: as it was, released or none.
-fn row_after(position: u64, row: &KvRow, ended: Option<&SessionRow>) -> Result<Option<KvRow>, Memory>
+fn row_after(
+    position: u64,
+    row: &KvRow,
+    ended: Option<&SessionRow>,
+) -> Result<Option<KvRow>, Memory>
     ensures { IfOk result (λ o. o ≡ freed_row position row.now (option_copied ended.entry)) }
 {
     let Some(session) = ended else {
@@ -122,18 +149,39 @@ fn key_freed(row: &KvRow, ended: Option<&SessionRow>) -> Result<Option<(Text, u6
 }
 
 #[tactic(auto, unfolding(cat_model::specs::Machine::end_sessions))]
-pub(crate) fn end(alloc: Global, position: u64, gone: &[SessionRow], tables: &Tables) -> Result<Tables, Memory>
+pub(crate) fn end(
+    alloc: Global,
+    position: u64,
+    gone: &[SessionRow],
+    tables: &Tables,
+) -> Result<Tables, Memory>
     ensures { IfOk result (λ next. next ≡ end_sessions position gone.now tables.now) }
 {
     let mut next = tables.copy(alloc)?;
-    next.sessions = kept(alloc, tables.sessions.as_slice(), |s| find_session(s.id, gone).is_none())?;
-    next.kv = chosen(alloc, tables.kv.as_slice(), |r| row_after(position, r, holder_among(gone, r.session)))?;
-    next.queries = kept(alloc, tables.queries.as_slice(), |q| holder_among(gone, q.session).is_none())?;
+    next.sessions = kept(
+        alloc,
+        tables.sessions.as_slice(),
+        |s| find_session(s.id, gone).is_none(),
+    )?;
+    next.kv = chosen(
+        alloc,
+        tables.kv.as_slice(),
+        |r| row_after(position, r, holder_among(gone, r.session)),
+    )?;
+    next.queries = kept(
+        alloc,
+        tables.queries.as_slice(),
+        |q| holder_among(gone, q.session).is_none(),
+    )?;
     Ok(next)
 }
 
 /// The keys that these sessions free, with the delays that begin there.
-pub(crate) fn freed_keys(alloc: Global, gone: &[SessionRow], rows: &[KvRow]) -> Result<List<(Text, u64)>, Memory>
+pub(crate) fn freed_keys(
+    alloc: Global,
+    gone: &[SessionRow],
+    rows: &[KvRow],
+) -> Result<List<(Text, u64)>, Memory>
     ensures { IfOk result (λ l. l ≡ filter_map (λ r. freed_key r (ended_holder gone.now r.session)) rows.now) }
 {
     chosen(alloc, rows, |r| key_freed(r, holder_among(gone, r.session)))

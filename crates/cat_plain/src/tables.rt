@@ -9,7 +9,9 @@ ghost use Rattle.std.specs.Ordering.{nat_cmp};
 
 use crate::lists::{around, copied, kept};
 use crate::texts::{compare, compare_pairs};
-use cat_model::{CheckRow, KvRow, List, Memory, NodeRow, QueryRow, ServiceRow, SessionRow, Text};
+use cat_model::{
+    Applied, CheckRow, KvRow, List, Memory, NodeRow, QueryRow, ServiceRow, SessionRow, Text,
+};
 use std::alloc::Global;
 use std::marker::Model;
 
@@ -23,6 +25,9 @@ pub struct Tables {
     pub sessions: List<SessionRow>,
     pub queries: List<QueryRow>,
 }
+
+/// A catalog with an answer.
+pub type Step = (Tables, Applied);
 
 impl Model for Tables {
     ghost use Rattle.cat_model.specs.Catalog.{Catalog};
@@ -69,13 +74,15 @@ pub fn find_node<'a>(node: &Text, rows: &'a [NodeRow]) -> Option<&'a NodeRow>
 pub fn find_service<'a>(node: &Text, id: &Text, rows: &'a [ServiceRow]) -> Option<&'a ServiceRow>
     ensures { option_copied result ≡ service_at (node.now, id.now) rows.now }
 {
-    rows.iter().find(|r| compare_pairs(node, id, &r.node, &r.id).is_eq())
+    rows.iter()
+        .find(|r| compare_pairs(node, id, &r.node, &r.id).is_eq())
 }
 
 pub fn find_check<'a>(node: &Text, id: &Text, rows: &'a [CheckRow]) -> Option<&'a CheckRow>
     ensures { option_copied result ≡ check_at (node.now, id.now) rows.now }
 {
-    rows.iter().find(|r| compare_pairs(node, id, &r.node, &r.id).is_eq())
+    rows.iter()
+        .find(|r| compare_pairs(node, id, &r.node, &r.id).is_eq())
 }
 
 pub fn find_key<'a>(key: &Text, rows: &'a [KvRow]) -> Option<&'a KvRow>
@@ -106,25 +113,53 @@ pub fn place_node(alloc: Global, new: NodeRow, rows: &[NodeRow]) -> Result<List<
 }
 
 #[tactic(auto, unfolding(cat_model::specs::Tables::put))]
-pub fn place_service(alloc: Global, new: ServiceRow, rows: &[ServiceRow]) -> Result<List<ServiceRow>, Memory>
+pub fn place_service(
+    alloc: Global,
+    new: ServiceRow,
+    rows: &[ServiceRow],
+) -> Result<List<ServiceRow>, Memory>
     ensures { IfOk result (λ l. l ≡ put pair_cmp service_key new rows.now) }
 {
-    let smaller = kept(alloc, rows, |r| compare_pairs(&r.node, &r.id, &new.node, &new.id).is_lt())?;
-    let greater = kept(alloc, rows, |r| compare_pairs(&r.node, &r.id, &new.node, &new.id).is_gt())?;
+    let smaller = kept(
+        alloc,
+        rows,
+        |r| compare_pairs(&r.node, &r.id, &new.node, &new.id).is_lt(),
+    )?;
+    let greater = kept(
+        alloc,
+        rows,
+        |r| compare_pairs(&r.node, &r.id, &new.node, &new.id).is_gt(),
+    )?;
     around(smaller, new, greater)
 }
 
 #[tactic(auto, unfolding(cat_model::specs::Tables::put))]
-pub fn place_check(alloc: Global, new: CheckRow, rows: &[CheckRow]) -> Result<List<CheckRow>, Memory>
+pub fn place_check(
+    alloc: Global,
+    new: CheckRow,
+    rows: &[CheckRow],
+) -> Result<List<CheckRow>, Memory>
     ensures { IfOk result (λ l. l ≡ put pair_cmp check_key new rows.now) }
 {
-    let smaller = kept(alloc, rows, |r| compare_pairs(&r.node, &r.id, &new.node, &new.id).is_lt())?;
-    let greater = kept(alloc, rows, |r| compare_pairs(&r.node, &r.id, &new.node, &new.id).is_gt())?;
+    let smaller = kept(
+        alloc,
+        rows,
+        |r| compare_pairs(&r.node, &r.id, &new.node, &new.id).is_lt(),
+    )?;
+    let greater = kept(
+        alloc,
+        rows,
+        |r| compare_pairs(&r.node, &r.id, &new.node, &new.id).is_gt(),
+    )?;
     around(smaller, new, greater)
 }
 
 #[tactic(auto, unfolding(cat_model::specs::Tables::put))]
-pub fn place_session(alloc: Global, new: SessionRow, rows: &[SessionRow]) -> Result<List<SessionRow>, Memory>
+pub fn place_session(
+    alloc: Global,
+    new: SessionRow,
+    rows: &[SessionRow],
+) -> Result<List<SessionRow>, Memory>
     ensures { IfOk result (λ l. l ≡ put nat_cmp session_key new rows.now) }
 {
     let smaller = kept(alloc, rows, |r| r.id.cmp(&new.id).is_lt())?;
@@ -133,7 +168,11 @@ pub fn place_session(alloc: Global, new: SessionRow, rows: &[SessionRow]) -> Res
 }
 
 #[tactic(auto, unfolding(cat_model::specs::Tables::put))]
-pub fn place_query(alloc: Global, new: QueryRow, rows: &[QueryRow]) -> Result<List<QueryRow>, Memory>
+pub fn place_query(
+    alloc: Global,
+    new: QueryRow,
+    rows: &[QueryRow],
+) -> Result<List<QueryRow>, Memory>
     ensures { IfOk result (λ l. l ≡ put nat_cmp query_key new rows.now) }
 {
     let smaller = kept(alloc, rows, |r| r.id.cmp(&new.id).is_lt())?;

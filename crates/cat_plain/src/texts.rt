@@ -37,7 +37,9 @@ pub fn are_same(a: &Texts, b: &Texts) -> bool
 pub fn begins(prefix: &Text, text: &Text) -> bool
     ensures { result ≡ has_prefix prefix.now text.now }
 {
-    text.as_str().as_bytes().starts_with(prefix.as_str().as_bytes())
+    text.as_str()
+        .as_bytes()
+        .starts_with(prefix.as_str().as_bytes())
 }
 
 pub fn is_blank(text: &Text) -> bool

@@ -86,7 +86,12 @@ fn get(alloc: Global, rows: &[KvRow], row: Option<&KvRow>) -> Result<Outcome, Me
     }
 }
 
-fn get_or_empty(alloc: Global, key: &Text, rows: &[KvRow], row: Option<&KvRow>) -> Result<Outcome, Memory>
+fn get_or_empty(
+    alloc: Global,
+    key: &Text,
+    rows: &[KvRow],
+    row: Option<&KvRow>,
+) -> Result<Outcome, Memory>
     ensures { IfOk result (λ o. o ≡ got_or_empty key.now rows.now (option_copied row.entry)) }
 {
     if let Some(row) = row {
@@ -158,7 +163,13 @@ fn cas(alloc: Global, position: u64, op: &TxnOp, rows: &[KvRow]) -> Result<Outco
     gives(alloc, &op.key, done)
 }
 
-fn lock(alloc: Global, position: u64, sessions: &[SessionRow], op: &TxnOp, rows: &[KvRow]) -> Result<Outcome, Memory>
+fn lock(
+    alloc: Global,
+    position: u64,
+    sessions: &[SessionRow],
+    op: &TxnOp,
+    rows: &[KvRow],
+) -> Result<Outcome, Memory>
     ensures { IfOk result (λ o. o ≡ operate position sessions.now Verb.Lock op.now rows.now) }
 {
     let Some(id) = op.session else {
@@ -213,7 +224,13 @@ fn check_not_exists(alloc: Global, op: &TxnOp, rows: &[KvRow]) -> Result<Outcome
     Ok(gives_nothing(alloc, Some(copied(alloc, rows)?)))
 }
 
-fn operate(alloc: Global, position: u64, sessions: &[SessionRow], op: &TxnOp, rows: &[KvRow]) -> Result<Outcome, Memory>
+fn operate(
+    alloc: Global,
+    position: u64,
+    sessions: &[SessionRow],
+    op: &TxnOp,
+    rows: &[KvRow],
+) -> Result<Outcome, Memory>
     ensures { IfOk result (λ o. o ≡ operate position sessions.now op.now.verb op.now rows.now) }
 {
     let row = find_key(&op.key, rows);
@@ -230,13 +247,22 @@ fn operate(alloc: Global, position: u64, sessions: &[SessionRow], op: &TxnOp, ro
         Verb::CheckNotExists => check_not_exists(alloc, op, rows),
         Verb::Delete => Ok(gives_nothing(alloc, Some(kv::delete(alloc, &op.key, rows)?))),
         Verb::DeleteTree => Ok(gives_nothing(alloc, Some(kv::delete_tree(alloc, &op.key, rows)?))),
-        Verb::DeleteCas => Ok(gives_nothing(alloc, kv::delete_cas(alloc, &op.key, op.index, rows)?)),
+        Verb::DeleteCas => Ok(gives_nothing(
+            alloc,
+            kv::delete_cas(alloc, &op.key, op.index, rows)?,
+        )),
     }
 }
 
 /// Does the operations in order, each on what the ones before left, until one fails.
 #[tactic(auto, unfolding(cat_model::specs::Kv::run_ops))]
-pub(crate) fn run(alloc: Global, position: u64, sessions: &[SessionRow], ops: &[TxnOp], rows: &[KvRow]) -> Result<Ending, Memory>
+pub(crate) fn run(
+    alloc: Global,
+    position: u64,
+    sessions: &[SessionRow],
+    ops: &[TxnOp],
+    rows: &[KvRow],
+) -> Result<Ending, Memory>
     ensures { IfOk result (λ e. run_of e ≡ run_ops position sessions.now 0 ops.now rows.now []) }
 {
     let mut done = copied(alloc, rows)?;
