@@ -11,6 +11,8 @@ pub mod Locks
 pub mod KvIndexes
 pub mod Role
 pub mod Spelling
+pub mod LogLimits
+pub mod Keeping
 pub mod Executions
 pub mod Identifiers
 pub mod Log

@@ -2,7 +2,7 @@
 use Rattle.std.specs.Prelude.{ℕ, Bool, List, ◌==◌, ◌||◌}
 use Rattle.cat_outside.specs.Causes.{counted}
 use Rattle.cat_outside.specs.InMemory.{is_listed}
-use Rattle.cat_outside.specs.declared.keeper.Kept.{Kept}
+use Rattle.cat_model.specs.declared.kept.Kept.{Kept}
 
 -- a store whose armed call fails and no other: the number of calls up to that one is `armed`, and 0 is none
 pub record ArmedKeeper : Type 0 where

@@ -15,7 +15,7 @@ mod source;
 mod tests;
 
 pub use faults::{Failed, KeepFail};
-pub use keeper::{Keeper, Kept};
+pub use keeper::Keeper;
 pub use mem_keeper::{MemKeeper, SureKeeper};
 pub use mem_sink::{MemSink, SureSink};
 pub use mem_source::{MemSource, SureSource};

@@ -95,9 +95,7 @@ impl Model for MemSource {
 
     ghost Value = { FaultySupply };
 
-    ghost view = {
-        λ s. record { left = s.sure.left; ends = s.sure.ends; failing = s.failing; calls = s.calls; faults = s.faults }
-    };
+    ghost view = { λ s. record { left = s.sure.left; ends = s.sure.ends; failing = s.failing; calls = s.calls; faults = s.faults } };
 }
 
 impl MemSource {

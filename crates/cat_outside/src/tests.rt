@@ -1,5 +1,6 @@
 use crate::{
-    KeepFail, Keeper, MemKeeper, MemSink, MemSource, Reading, Sink, Source, SureKeeper, SureSink, SureSource, Writing,
+    KeepFail, Keeper, MemKeeper, MemSink, MemSource, Reading, Sink, Source, SureKeeper, SureSink,
+    SureSource, Writing,
 };
 use cat_model::{Bytes, Command, Entry, List};
 use std::alloc::Global;
@@ -41,7 +42,11 @@ fn expect_reads<S: Source>(rt: &impl Abort, source: &mut S, expected: &[Option<&
 }
 
 // Writes each piece and expects its answer, how many bytes were taken.
-fn expect_writes<S: Sink>(rt: &impl Abort, sink: &mut S, expected: &[(&str, Result<usize, KeepFail>)]) {
+fn expect_writes<S: Sink>(
+    rt: &impl Abort,
+    sink: &mut S,
+    expected: &[(&str, Result<usize, KeepFail>)],
+) {
     for (piece, want) in expected {
         assert_eq!(rt; sink.write(piece.as_bytes()), *want);
     }
@@ -71,7 +76,11 @@ fn sinks_in_memory(rt: HostRuntime) -> Result<(), Fail> {
     expect_writes(&rt, &mut sure, &[("ab", Ok(2)), ("", Ok(0)), ("c", Ok(1))]);
     assert_eq!(rt; sure.bytes(), b"abc".as_slice());
     let mut faulty = MemSink::new(rt.alloc(), call_two(&rt)?);
-    expect_writes(&rt, &mut faulty, &[("ab", Ok(2)), ("c", Err(KeepFail::Failed)), ("d", Ok(1))]);
+    expect_writes(
+        &rt,
+        &mut faulty,
+        &[("ab", Ok(2)), ("c", Err(KeepFail::Failed)), ("d", Ok(1))],
+    );
     assert_eq!(rt; faulty.bytes(), b"abd".as_slice());
     Ok(())
 }
@@ -82,12 +91,24 @@ fn adapters(rt: HostRuntime) -> Result<(), Fail> {
     expect_reads(&rt, &mut known, &[Some("hel"), Some("lo"), Some("")]);
     expect_reads(&rt, &mut Reading::new(Broken), &[None, None]);
     let mut written = Vec::new(rt.alloc());
-    expect_writes(&rt, &mut Writing::new(&mut written), &[("ab", Ok(2)), ("c", Ok(1))]);
+    expect_writes(
+        &rt,
+        &mut Writing::new(&mut written),
+        &[("ab", Ok(2)), ("c", Ok(1))],
+    );
     assert_eq!(rt; written.as_slice(), b"abc".as_slice());
     let mut room = [0u8; 3];
     let mut short = Writing::new(room.as_mut_slice());
-    expect_writes(&rt, &mut short, &[("ab", Ok(2)), ("cd", Ok(1)), ("d", Ok(0))]);
-    expect_writes(&rt, &mut Writing::new(Broken), &[("ab", Err(KeepFail::Failed))]);
+    expect_writes(
+        &rt,
+        &mut short,
+        &[("ab", Ok(2)), ("cd", Ok(1)), ("d", Ok(0))],
+    );
+    expect_writes(
+        &rt,
+        &mut Writing::new(Broken),
+        &[("ab", Err(KeepFail::Failed))],
+    );
     Ok(())
 }
 
@@ -105,7 +126,14 @@ fn entries(alloc: Global, numbers: &[u64]) -> Result<List<Entry>, Fail> {
 }
 
 // Loads, and expects this term, vote and numbers of entries.
-fn expect_kept<K: Keeper>(rt: &impl Abort, alloc: Global, keeper: &mut K, term: u64, vote: Option<u32>, numbers: &[u64]) {
+fn expect_kept<K: Keeper>(
+    rt: &impl Abort,
+    alloc: Global,
+    keeper: &mut K,
+    term: u64,
+    vote: Option<u32>,
+    numbers: &[u64],
+) {
     let Ok(kept) = keeper.load(alloc) else {
         assert!(rt; false, "the load failed");
         return;
@@ -127,12 +155,22 @@ fn armed_keeper(rt: HostRuntime) -> Result<(), Fail> {
     expect_kept(&rt, rt.alloc(), &mut keeper, 3, Some(2), &[7, 8]);
     keeper.fail_at(2);
     keeper.store_from(rt.alloc(), 2, &entries(rt.alloc(), &[9])?)?;
-    assert_eq!(rt; keeper.save_vote(rt.alloc(), 4, None), Err(KeepFail::Failed));
+    assert_eq!(rt;
+        keeper.save_vote(rt.alloc(), 4, None),
+        Err(KeepFail::Failed)
+    );
     expect_kept(&rt, rt.alloc(), &mut keeper, 3, Some(2), &[7, 9]);
     keeper.fail_at(1);
     keeper.fail_at(0);
     let kept = keeper.load(rt.alloc())?;
-    expect_kept(&rt, rt.alloc(), &mut SureKeeper::holding(kept), 3, Some(2), &[7, 9]);
+    expect_kept(
+        &rt,
+        rt.alloc(),
+        &mut SureKeeper::holding(kept),
+        3,
+        Some(2),
+        &[7, 9],
+    );
     Ok(())
 }
 
@@ -141,7 +179,10 @@ fn faulty_keeper(rt: HostRuntime) -> Result<(), Fail> {
     let mut keeper = MemKeeper::new(rt.alloc(), call_two(&rt)?);
     keeper.store_from(rt.alloc(), 1, &entries(rt.alloc(), &[7])?)?;
     let more = entries(rt.alloc(), &[8])?;
-    assert_eq!(rt; keeper.store_from(rt.alloc(), 2, &more), Err(KeepFail::Failed));
+    assert_eq!(rt;
+        keeper.store_from(rt.alloc(), 2, &more),
+        Err(KeepFail::Failed)
+    );
     keeper.save_vote(rt.alloc(), 1, Some(1))?;
     expect_kept(&rt, rt.alloc(), &mut keeper, 1, Some(1), &[7]);
     keeper.fail_at(1);

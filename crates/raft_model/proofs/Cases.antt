@@ -2,7 +2,6 @@
 use Rattle.std.proofs.Common.{◌≡◌, ℕ, [], ◌∷◌, length, replicate, Some, true, false, refl}
 use Rattle.cat_model.specs.declared.reply.Role.TheVariants.{Candidate, Leader}
 use Rattle.cat_model.specs.declared.command.Command.TheVariants.{Noop}
-use Rattle.cat_model.specs.Spelling.{tagged}
 use Rattle.raft_model.specs.declared.message.Message.TheVariants.{AskVote, Vote, Append, Yes, No}
 use Rattle.raft_model.specs.Limits.{batch}
 use Rattle.raft_model.specs.Node.{Node, begun}
@@ -81,7 +80,7 @@ above = refl
 
 -- a No steps back to the follower's last index
 steps_back : done leader (Receive 2 (No 3 1)) ≡ record { node = record leader { next = 4 ∷ 2 ∷ 4 ∷ [] }; sent = record { to = 2; message = Append 3 1 2 (noop 2 ∷ noop 3 ∷ []) 0 0 } ∷ [] }
-unfolding done does received of_own_term declined tagged
+unfolding done does received of_own_term declined
 steps_back = refl
 
 -- a proposal goes to all others; a probe begins a round
@@ -129,5 +128,4 @@ once = refl
 
 -- an Append carries at most 64 entries
 sixty_four : length (batch (replicate 70 (noop 1))) ≡ 64
-unfolding tagged
 sixty_four = refl

@@ -3,15 +3,10 @@
 use Rattle.std.specs.Prelude.{ℕ, zero, suc, ◌==◌, Bool, false, List, [], ◌∷◌, ◌++◌, length, take, get_or, set, if◌then◌else◌, Option, None}
 use Rattle.cat_model.specs.declared.reply.Role.{Role}
 use Rattle.cat_model.specs.declared.reply.Role.TheVariants.{Follower}
+pub use Rattle.cat_model.specs.declared.kept.Kept.{Kept}
 use Rattle.raft_model.specs.declared.message.Message.{Message}
 use Rattle.raft_model.specs.declared.message.Sent.{Sent}
 use Rattle.raft_model.specs.Log.{Log}
-
--- what a durable store holds
-pub record Kept : Type 0 where
-  pub term : ℕ
-  pub vote : Option ℕ
-  pub log : Log
 
 -- A durable store. `contents` is none where the store does not tell. The call number `armed` from now on is to
 -- fail, and 0 stands for none. `faults` is its count of failed calls.

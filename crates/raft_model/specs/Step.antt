@@ -2,6 +2,7 @@
 -- finds no memory.
 use Rattle.std.specs.Prelude.{◌≡◌, ◌≢◌, ℕ, ◌+◌, ◌-◌, ◌^◌, ◌≤◌, min, ◌⊎◌, true, false, List, [], Option, Some, None}
 use Rattle.cat_model.specs.declared.reply.Role.TheVariants.{Follower}
+pub use Rattle.cat_model.specs.Keeping.{with_vote}
 use Rattle.raft_model.specs.declared.message.Sent.{Sent}
 use Rattle.raft_model.specs.Log.{Log}
 use Rattle.raft_model.specs.Node.{Kept, Store, Node, begun}
@@ -13,9 +14,6 @@ changed change None = None
 changed change (Some kept) = Some (change kept)
 
 -- `save_vote` replaces term and vote, `store_from` gives the log that then stands, `load` changes nothing
-abbrev pub with_vote : ℕ → Option ℕ → Kept → Kept
-with_vote term vote kept = record kept { term = term; vote = vote }
-
 abbrev pub with_log : Log → Kept → Kept
 with_log log kept = record kept { log = log }
 
