@@ -8,7 +8,8 @@ use Rattle.cluster_model.specs.Replies.{commands_of}
 use Rattle.cluster_model.specs.Cluster.{start, reached, outs_along}
 use Rattle.cluster_model.specs.Legal.{AllFit, AllLegal, AllAnswered, IndexesTell, questions_from}
 use Rattle.catalog_top.specs.declared.outcome.Report.{Report}
-use Rattle.catalog_top.specs.Script.{Played, Refused, script_of}
+use Rattle.catalog_top.specs.declared.reason.Refused.{Refused}
+use Rattle.catalog_top.specs.Script.{Played, script_of}
 use Rattle.catalog_top.specs.Text.{limit_text}
 use Rattle.catalog_top.specs.Limits.{is_too_long, script_text}
 

@@ -1,5 +1,5 @@
 -- A script: its events in order, or its first refused line.
-use Rattle.std.specs.Prelude.{◌≡◌, ℕ, ◌+◌, ◌==◌, nat_lt, nat_le, Bool, true, false, ◌&&◌, if◌then◌else◌, List, [], ◌∷◌, ◌++◌, length, Option, None, Some, Result, Ok, Err, codes}
+use Rattle.std.specs.Prelude.{ℕ, ◌+◌, if◌then◌else◌, List, [], ◌∷◌, ◌++◌, Option, None, Some, codes}
 use Rattle.std.specs.Str.{bytes_eq}
 use Rattle.cat_model.specs.declared.request.Event.{Event}
 use Rattle.cat_model.specs.declared.request.Event.TheVariants.{Timeout, Ask}
@@ -9,14 +9,12 @@ use Rattle.cluster_model.specs.Cluster.{State, start, after, outs_of}
 use Rattle.cluster_model.specs.declared.misfit.Misfit.{Misfit}
 use Rattle.cluster_model.specs.declared.misfit.Misfit.TheVariants.{NoServer, NoAgent, NoMessage, Clock}
 use Rattle.catalog_top.specs.declared.line.Opening.{Opening}
+use Rattle.catalog_top.specs.declared.reason.Refused.{Refused}
+use Rattle.catalog_top.specs.declared.stage.Said.{Said}
+use Rattle.catalog_top.specs.declared.stage.Said.TheVariants.{Nothing, Makes, Refuses}
 use Rattle.catalog_top.specs.declared.reason.Reason.{Reason}
 use Rattle.catalog_top.specs.declared.reason.Reason.TheVariants.{ExpectedCluster, NotBuilt, NoSuchServer, NoSuchAgent}
 use Rattle.catalog_top.specs.Line.{lines_of, is_nothing, word_of, opening_of, event_of}
-
--- a line that is refused, by its number
-pub record Refused : Type 0 where
-  pub line : ℕ
-  pub reason : Reason
 
 abbrev pub reason_of : Misfit → Reason
 reason_of NoServer = NoSuchServer
@@ -37,23 +35,23 @@ stopped c refused = record { state = c; events = []; outs = []; refused = refuse
 abbrev pub preceded : Event → List Out → Played → Played
 preceded event outs p = record p { events = event ∷ p.events; outs = outs ++ p.outs }
 
--- the event of a line, if it has one, or why the line is refused
-abbrev pub fitting : State → Event → Option Misfit → Result (Option Event) Reason
-fitting c event None = Ok (Some event)
-fitting c event (Some why) = Err (reason_of why)
+-- what a line says: nothing, an event that fits, or why it is refused
+abbrev pub fitting : Event → Option Misfit → Said
+fitting event None = Makes event
+fitting event (Some why) = Refuses (reason_of why)
 
-abbrev pub built : State → Option Event → Result (Option Event) Reason
-built c None = Err NotBuilt
-built c (Some event) = fitting c event (misfit c.agents event)
+abbrev pub built : ℕ → Option Event → Said
+built agents None = Refuses NotBuilt
+built agents (Some event) = fitting event (misfit agents event)
 
-abbrev pub said : ℕ → State → List ℕ → Result (Option Event) Reason
-said seed c line = if is_nothing line then Ok None else built c (event_of seed (c.requests + 1) line)
+abbrev pub said : ℕ → State → List ℕ → Said
+said seed c line = if is_nothing line then Nothing else built c.agents (event_of seed (c.requests + 1) line)
 
 -- what a line does, and the lines after it
-abbrev pub followed : State → ℕ → Result (Option Event) Reason → (State → Played) → Played
-followed c number (Ok None) rest = rest c
-followed c number (Ok (Some event)) rest = preceded event (outs_of c event) (rest (after c event))
-followed c number (Err reason) rest = stopped c (Some (record { line = number; reason = reason }))
+abbrev pub followed : State → ℕ → Said → (State → Played) → Played
+followed c number Nothing rest = rest c
+followed c number (Makes event) rest = preceded event (outs_of c event) (rest (after c event))
+followed c number (Refuses reason) rest = stopped c (Some (record { line = number; reason = reason }))
 
 -- the lines after the opening, the first of them with this number
 abbrev pub play : ℕ → State → ℕ → List (List ℕ) → Played

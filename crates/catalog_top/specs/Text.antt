@@ -7,7 +7,8 @@ use Rattle.cat_model.specs.declared.reply.Out as out
 use Rattle.cluster_model.specs.Cluster.{State}
 use Rattle.catalog_top.specs.declared.reason.Reason.{Reason}
 use Rattle.catalog_top.specs.declared.reason.Reason.TheVariants.{ExpectedCluster, NotBuilt, NoSuchServer, NoSuchAgent}
-use Rattle.catalog_top.specs.Script.{Refused, Played}
+use Rattle.catalog_top.specs.declared.reason.Refused.{Refused}
+use Rattle.catalog_top.specs.Script.{Played}
 
 -- a byte of a body: printable ones as they are, but a backslash doubled; any other in two hex digits
 abbrev pub escaped : ℕ → List ℕ
