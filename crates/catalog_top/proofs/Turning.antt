@@ -1,5 +1,5 @@
 -- What a line does to the rest of the run.
-use Rattle.std.proofs.Common.{◌≡◌, ℕ, suc, ◌+◌, length, arith, List, [], ◌∷◌, ◌++◌, sym, ◌∙◌, Option, None, Some, refl, ap}
+use Rattle.std.proofs.Common.{◌≡◌, ℕ, suc, ◌+◌, ◌≤◌, length, arith, List, [], ◌∷◌, ◌++◌, sym, ◌∙◌, Option, None, Some, refl, ap}
 use Rattle.std.proofs.lemmas.Grind.{flat_map-append}
 use Rattle.cluster_model.specs.Cluster.{State, after, outs_of}
 use Rattle.catalog_top.specs.declared.reason.Reason.{Reason}
@@ -52,3 +52,15 @@ pub followed-stopped : (c d : State) (number : ℕ) (why : Reason) (says : Said)
 followed-stopped c d number why Nothing rest h = absurd h
 followed-stopped c d number why (Makes event) rest h = absurd h
 followed-stopped c d number why (Refuses reason) rest h = rw (h.0, h.1) refl
+
+-- a line is one event at most
+pub turned-once : (c d : State) (made : ℕ) (says : Said) → Turns c says d (Made made) → made ≤ 1
+turned-once c d made Nothing h = omega (arith, h.1)
+turned-once c d made (Makes event) h = omega (arith, h.1)
+turned-once c d made (Refuses reason) h = absurd h
+
+-- a line that is refused gives nothing
+pub outs_said-refused : (c d : State) (why : Reason) (says : Said) → Turns c says d (Refused why) → outs_text (outs_said c says) ≡ []
+outs_said-refused c d why Nothing h = absurd h
+outs_said-refused c d why (Makes event) h = absurd h
+outs_said-refused c d why (Refuses reason) h = refl

@@ -1,5 +1,5 @@
 -- What is written so far of a text.
-use Rattle.std.proofs.Common.{◌≡◌, ℕ, List, [], ◌++◌, Option, None, Some, refl, sym, ap, ◌∙◌, append_assoc, append-nil, take, drop, take-append-drop}
+use Rattle.std.proofs.Common.{◌≡◌, ℕ, List, [], ◌++◌, Option, None, Some, refl, sym, ap, ◌∙◌, append_assoc, append-nil, take, drop, take-append-drop, Result, Ok, Err, OnErr}
 use Rattle.std.specs.Io.KnownBytes.{Appends, Keeps}
 use Rattle.std.proofs.KnownBytes.{Appends-nil, Appends-trans, Appends-kept}
 use Rattle.catalog_top.specs.Run.{WritesPart}
@@ -60,3 +60,11 @@ Written-end a b all written = rw written.joined (rw (append-nil written.front) w
 pub Written-part : (a b c : Option (List ℕ)) (all piece later : List ℕ) → Written a b all (piece ++ later) → WritesPart b c piece → WritesPart a c all
 Written-part a b c all piece later written part =
     rw written.joined (part_after a b c written.front (piece ++ later) written.appended (part_front b c piece later part))
+
+pub appends_nothing : (a b c : Option (List ℕ)) (all : List ℕ) → Appends a b all → Appends b c [] → Appends a c all
+appends_nothing a b c all first second = rw (← append-nil all) (Appends-trans a b c all [] first second)
+
+pub part_on_err : {T E : Type 0} (r : Result T E) (a b c : Option (List ℕ)) (text later later' : List ℕ) →
+    later ≡ later' → Appends a b text → OnErr r (WritesPart b c later) → OnErr r (WritesPart a c (text ++ later'))
+part_on_err (Ok x) a b c text later later' e written part = tt
+part_on_err (Err x) a b c text later later' e written part = rw (← e) (part_after a b c text later written part)
