@@ -13,7 +13,7 @@ use Rattle.cat_model.specs.declared.request.Event.TheVariants.{Timeout, Ask}
 use Rattle.cluster_model.specs.declared.misfit.Misfit.{Misfit}
 use Rattle.cluster_model.specs.Events.{is_key, IsTaken, IsBuilt, Fits, misfit}
 use Rattle.cluster_model.specs.Cluster.{State}
-use Rattle.catalog_top.specs.declared.stage.Said.TheVariants.{Nothing, Makes, Refuses}
+use Rattle.catalog_top.specs.declared.stage.Said.TheVariants.{Nothing, Makes}
 use Rattle.catalog_top.specs.Line.{◌>>=◌, is_nothing, word_of, rest_of, strip, number_of, timeout_of, put_of, get_of, request_of, http_of, event_of}
 use Rattle.catalog_top.specs.Script.{fitting, built, said}
 use Rattle.catalog_top.specs.Stage.{IsFitting}

@@ -6,7 +6,7 @@ use Rattle.cat_model.specs.declared.reply.Out.{Out}
 use Rattle.cat_model.specs.declared.command.Entry.{Entry}
 use Rattle.cat_model.specs.Role.{leads}
 use Rattle.cluster_model.specs.Replies.{commands_of}
-use Rattle.cluster_model.specs.Cluster.{State, start, after, outs_of, timed_out, reached, outs_along}
+use Rattle.cluster_model.specs.Cluster.{State, start, after, outs_of, reached, outs_along}
 use Rattle.cluster_model.specs.Legal.{AllFit, AllAnswered, IndexesTell, questions_from}
 use Rattle.cluster_model.proofs.Legality.{run_legal}
 use Rattle.cluster_model.proofs.Answering.{run_answered}
@@ -106,8 +106,8 @@ going-tells p report goes says =
       unanswered = says.unanswered;
       legal = run_legal p.state.agents p.events goes.fit;
       answered =
-        subst (λ (outs : List Out). AllAnswered (questions_from 1 p.events) report.agreed outs) (sym goes.outs)
-        (subst (λ (l : List Entry). AllAnswered (questions_from 1 p.events) l (outs_along (start p.state.agents) p.events)) (sym log)
+          subst (λ (outs : List Out). AllAnswered (questions_from 1 p.events) report.agreed outs) (sym goes.outs)
+          (subst (λ (l : List Entry). AllAnswered (questions_from 1 p.events) l (outs_along (start p.state.agents) p.events)) (sym log)
           (run_answered p.state.agents p.events goes.fit));
       indexes = subst (λ (l : List Entry). IndexesTell (commands_of l)) (sym log) (run_tells p.state.agents p.events goes.fit);
     }

@@ -1,11 +1,10 @@
 -- What a line does to the rest of the run.
-use Rattle.std.proofs.Common.{◌≡◌, ℕ, suc, ◌+◌, ◌≤◌, length, arith, List, [], ◌∷◌, ◌++◌, sym, ◌∙◌, Option, None, Some, refl, ap}
+use Rattle.std.proofs.Common.{◌≡◌, ℕ, suc, ◌+◌, ◌≤◌, length, arith, List, [], ◌++◌, ◌∙◌, Some, refl}
 use Rattle.std.proofs.lemmas.Grind.{flat_map-append}
 use Rattle.cluster_model.specs.Cluster.{State, after, outs_of}
 use Rattle.catalog_top.specs.declared.reason.Reason.{Reason}
 use Rattle.catalog_top.specs.declared.stage.Said.{Said}
 use Rattle.catalog_top.specs.declared.stage.Said.TheVariants.{Nothing, Makes, Refuses}
-use Rattle.catalog_top.specs.declared.stage.Turn.{Turn}
 use Rattle.catalog_top.specs.declared.stage.Turn.TheVariants.{Made, Refused}
 use Rattle.catalog_top.specs.Script.{Played, stopped, followed}
 use Rattle.catalog_top.specs.Stage.{Turns, outs_said}

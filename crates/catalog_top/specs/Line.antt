@@ -1,8 +1,7 @@
 -- The lines of a script, and what one of them says.
-use Rattle.std.specs.Prelude.{ℕ, ◌+◌, ◌-◌, ◌*◌, ◌^◌, ◌==◌, nat_lt, nat_le, nat_eq, Bool, true, false, not, ◌&&◌, ◌||◌, if◌then◌else◌, List, [], ◌∷◌, length, drop, Option, None, Some, Result, Ok, Err, codes}
+use Rattle.std.specs.Prelude.{ℕ, ◌+◌, ◌-◌, ◌*◌, ◌^◌, ◌==◌, nat_le, nat_eq, Bool, true, false, ◌&&◌, if◌then◌else◌, List, [], ◌∷◌, length, drop, Option, None, Some, codes}
 use Rattle.std.specs.Option.{option_or}
-use Rattle.std.specs.List.{starts_with, list_all, before_first, after_first}
-use Rattle.std.specs.Str.{bytes_eq}
+use Rattle.std.specs.List.{starts_with, before_first, after_first}
 use Rattle.cat_model.specs.declared.command.Command.TheVariants.{KvSet}
 use Rattle.cat_model.specs.declared.query.Query.TheVariants.{Key}
 use Rattle.cat_model.specs.declared.request.Mode.TheVariants.{Default}

@@ -1,7 +1,7 @@
 -- What a run did, by its status: what it took of the source, what it wrote, and what it reports. `left` is what the
 -- source has left and `held` what the sink holds, each before the run and, primed, after it; `ends` counts the ends
 -- that the source found.
-use Rattle.std.specs.Prelude.{◌≡◌, ◌⊎◌, ℕ, ◌<◌, ◌≤◌, Bool, true, false, List, [], ◌∷◌, ◌++◌, length, Option, None, Some}
+use Rattle.std.specs.Prelude.{◌≡◌, ◌⊎◌, ℕ, ◌<◌, ◌≤◌, true, false, List, [], ◌∷◌, ◌++◌, length, Option, None, Some}
 use Rattle.std.specs.Io.KnownBytes.{Consumes, Appends, IsAtEnd}
 use Rattle.cat_outside.specs.Causes.{Rose}
 use Rattle.cluster_model.specs.Replies.{commands_of}

@@ -2,7 +2,6 @@
 use Rattle.std.specs.Prelude.{ℕ, ◌+◌, if◌then◌else◌, List, [], ◌∷◌, ◌++◌, Option, None, Some, codes}
 use Rattle.std.specs.Str.{bytes_eq}
 use Rattle.cat_model.specs.declared.request.Event.{Event}
-use Rattle.cat_model.specs.declared.request.Event.TheVariants.{Timeout, Ask}
 use Rattle.cat_model.specs.declared.reply.Out.{Out}
 use Rattle.cluster_model.specs.Events.{misfit}
 use Rattle.cluster_model.specs.Cluster.{State, start, after, outs_of}

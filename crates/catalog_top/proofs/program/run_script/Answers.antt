@@ -1,4 +1,5 @@
-use Rattle.catalog_top.proofs.Runs.{within_bytes, ran_from, refuses_from}
+use Rattle.std.proofs.lemmas.Result.{err_from_is_err_and}
+use Rattle.catalog_top.proofs.Runs.{within_bytes, ran_from, refuses_from, breaks_reading}
 use Rattle.catalog_top.proofs.program.run_script.Goals as goal
 
 pub play_script-requires : goal.play_script-requires
@@ -19,3 +20,8 @@ returns-clause-refused g c = λ three.
     (rw c.deref.ensures.value at c.if-is_too_long.ensures)
     (rw (c.in-None.is, c.deref-2.ensures.value) at c.in_ok-report.ensures.refused)
     (rw c.deref-2.ensures.value at c.in_ok-report.ensures.text)
+
+pub returns-in_err-script-clause-breaks : goal.returns-in_err-script-clause-breaks
+returns-in_err-script-clause-breaks g c =
+    let p = err_from_is_err_and c.from_residual.result c.from_residual.ensures.1 in
+    rw (p.1) (breaks_reading _ _ _ _ _ c.in_err-script.field-0.0 p.0 p.2 c.in_err-script.ensures.part)
