@@ -1,0 +1,67 @@
+-- A script within the limits and without a refused line runs whole.
+use Rattle.std.proofs.Common.{◌≡◌, ◌⊎◌, ℕ, ◌≤◌, Bool, true, false, nat_lt, nat_eq, ◌||◌, cond, List, [], ◌∷◌, ◌++◌, length, length-append, Option, None, Some, ap, ◌∙◌, append-nil, inl, inr, subst, arith}
+use Rattle.std.proofs.lemmas.Bool.Decides.{nat_tests}
+use Rattle.std.specs.Io.KnownBytes.{Consumes, IsAtEnd}
+use Rattle.catalog_top.specs.Line.{lines_of, onto_line}
+use Rattle.catalog_top.specs.Script.{script_of}
+use Rattle.catalog_top.specs.Limits.{is_too_long}
+use Rattle.catalog_top.specs.Run.{RefusesLine, PassesLimit}
+use Rattle.catalog_top.specs.Stops.{IsEnded}
+
+onto_line-more : (b : ℕ) (ls ms : List (List ℕ)) → length ls ≤ length ms → length (onto_line b ls) ≤ length (onto_line b ms)
+onto_line-more b [] [] h = omega arith
+onto_line-more b [] (m ∷ ms) h = omega arith
+onto_line-more b (l ∷ ls) [] h = absurd (omega arith)
+onto_line-more b (l ∷ ls) (m ∷ ms) h = omega arith
+
+first-more : (b : ℕ) (lf : Bool) (ls ms : List (List ℕ)) → length ls ≤ length ms → length (cond lf ([] ∷ ls) (onto_line b ls)) ≤ length (cond lf ([] ∷ ms) (onto_line b ms))
+first-more b true ls ms h = omega arith
+first-more b false ls ms h = onto_line-more b ls ms h
+
+-- more bytes have no fewer lines
+lines_of-more : (a b : List ℕ) → length (lines_of a) ≤ length (lines_of (a ++ b))
+lines_of-more [] b = omega arith
+lines_of-more (x ∷ a) b = first-more x (nat_eq x 10) (lines_of a) (lines_of (a ++ b)) (lines_of-more a b)
+
+limits-more : (n m k l : ℕ) → n ≤ m → k ≤ l → (nat_lt 16777216 m || nat_lt 1048576 l) ≡ false → (nat_lt 16777216 n || nat_lt 1048576 k) ≡ true → ⊥
+limits-more n m k l below fewer short long = grind (arith, nat_tests)
+
+-- a first part of a script within the limits is within them
+too_long-front : (a b : List ℕ) → is_too_long (a ++ b) ≡ false → is_too_long a ≡ true → ⊥
+unfolding is_too_long
+too_long-front a b short long =
+    limits-more (length a) (length (a ++ b)) (length (lines_of a)) (length (lines_of (a ++ b)))
+    (omega (arith, length-append a b)) (lines_of-more a b) short long
+
+-- the bytes that were taken are the first ones of those that the source told
+taken-front : (left' : Option (List ℕ)) (bytes taken : List ℕ) → Consumes (Some bytes) left' taken → (rest : List ℕ) × (bytes ≡ taken ++ rest)
+taken-front None bytes taken took = absurd took
+taken-front (Some rest) bytes taken took = (rest, took)
+
+taken-all : (left' : Option (List ℕ)) (bytes taken : List ℕ) → Consumes (Some bytes) left' taken → IsAtEnd left' → bytes ≡ taken
+taken-all None bytes taken took end = absurd took
+taken-all (Some rest) bytes taken took end = took ∙ ap (λ r. taken ++ r) end ∙ append-nil taken
+
+not_refused : (left' : Option (List ℕ)) (ends ends' : ℕ) (held held' : Option (List ℕ)) (bytes : List ℕ) →
+    RefusesLine (Some bytes) left' ends ends' held held' → (script_of bytes).refused ≡ None → ⊥
+not_refused left' ends ends' held held' bytes refuses whole =
+    let same = taken-all left' bytes refuses.took.bytes refuses.took.consumed refuses.took.at_end in
+    let none : (script_of refuses.took.bytes).refused ≡ None = subst (λ (b : List ℕ). (script_of b).refused ≡ None) same whole in
+    let first = refuses.first in
+    cc
+
+not_past : (left' : Option (List ℕ)) (held held' : Option (List ℕ)) (bytes : List ℕ) →
+    PassesLimit (Some bytes) left' held held' → is_too_long bytes ≡ false → ⊥
+not_past left' held held' bytes passes short =
+    let front = taken-front left' bytes passes.bytes passes.consumed in
+    too_long-front passes.bytes front.0 (subst (λ (b : List ℕ). is_too_long b ≡ false) front.1 short) passes.too_long
+
+pub complete_from : (left left' : Option (List ℕ)) (ends ends' : ℕ) (held held' : Option (List ℕ)) (status : ℕ) (form : Type 0) →
+    IsEnded status → (status ≡ 2 → (form → ⊥)) → (status ≡ 3 → RefusesLine left left' ends ends' held held') → (status ≡ 7 → PassesLimit left left' held held') →
+    (bytes : List ℕ) → form → left ≡ Some bytes → is_too_long bytes ≡ false → (script_of bytes).refused ≡ None → (status ≡ 0) ⊎ (status ≡ 8)
+complete_from left left' ends ends' held held' status form (inl zero) usage refused limit bytes is_form known short whole = inl zero
+complete_from left left' ends ends' held held' status form (inr (inl two)) usage refused limit bytes is_form known short whole = absurd (usage two is_form)
+complete_from left left' ends ends' held held' status form (inr (inr (inl three))) usage refused limit bytes is_form known short whole =
+    absurd (not_refused left' ends ends' held held' bytes (subst (λ (l : Option (List ℕ)). RefusesLine l left' ends ends' held held') known (refused three)) whole)
+complete_from left left' ends ends' held held' status form (inr (inr (inr seven))) usage refused limit bytes is_form known short whole =
+    absurd (not_past left' held held' bytes (subst (λ (l : Option (List ℕ)). PassesLimit l left' held held') known (limit seven)) short)
