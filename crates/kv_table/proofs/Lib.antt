@@ -1,0 +1,4 @@
+pub mod Elements
+pub mod Placing
+pub mod Walking
+pub mod TombLemmas

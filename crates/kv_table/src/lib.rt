@@ -1,0 +1,12 @@
+//! The table of keys: its rows in the order of their keys, the tombstones of removed keys, and the floor that a reap
+//! sets. It can be taken back to how it stood at the last `keep`.
+#![tactic(auto)]
+
+mod rows;
+mod slot;
+mod table;
+#[cfg(test)]
+mod tests;
+mod tombs;
+
+pub use table::KvTable;
