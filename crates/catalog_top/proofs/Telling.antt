@@ -10,6 +10,8 @@ use Rattle.cluster_model.specs.Cluster.{State, start, after, outs_of, reached, o
 use Rattle.cluster_model.specs.Legal.{AllFit, AllAnswered, IndexesTell, questions_from}
 use Rattle.cluster_model.proofs.Legality.{run_legal}
 use Rattle.cluster_model.proofs.Answering.{run_answered}
+use Rattle.cat_model.specs.Log.{IsWellFormed, IsEnteredOnce}
+use Rattle.cluster_model.proofs.Soundness.{run_well_formed, run_entered_once}
 use Rattle.cluster_model.proofs.Indexes.{run_tells}
 use Rattle.cluster_model.proofs.Numbering.{run_counted}
 use Rattle.catalog_top.specs.declared.line.Opening.{Opening}
@@ -109,6 +111,8 @@ going-tells p report goes says =
           subst (λ (outs : List Out). AllAnswered (questions_from 1 p.events) report.agreed outs) (sym goes.outs)
           (subst (λ (l : List Entry). AllAnswered (questions_from 1 p.events) l (outs_along (start p.state.agents) p.events)) (sym log)
           (run_answered p.state.agents p.events goes.fit));
+      formed = subst IsWellFormed (sym log) (run_well_formed p.state.agents p.events goes.fit);
+      once = subst IsEnteredOnce (sym log) (run_entered_once p.state.agents p.events goes.fit);
       indexes = subst (λ (l : List Entry). IndexesTell (commands_of l)) (sym log) (run_tells p.state.agents p.events goes.fit);
     }
 

@@ -4,6 +4,7 @@
 use Rattle.std.specs.Prelude.{◌≡◌, ◌⊎◌, ℕ, ◌<◌, ◌≤◌, true, false, List, [], ◌∷◌, ◌++◌, length, Option, None, Some}
 use Rattle.std.specs.Io.KnownBytes.{Consumes, Appends, IsAtEnd}
 use Rattle.cat_outside.specs.Causes.{Rose}
+use Rattle.cat_model.specs.Log.{IsWellFormed, IsEnteredOnce}
 use Rattle.cluster_model.specs.Replies.{commands_of}
 use Rattle.cluster_model.specs.Cluster.{start, reached, outs_along}
 use Rattle.cluster_model.specs.Legal.{AllFit, AllLegal, AllAnswered, IndexesTell, questions_from}
@@ -23,7 +24,8 @@ pub record TookScript (left left' : Option (List ℕ)) (ends ends' : ℕ) : Type
 
 -- What is reported of a whole script, and what holds of it: its events fit and lead to the cluster, whose agreed log
 -- each server has applied; each request has one reply, which is legal in the cluster of its event and lasts over the
--- agreed log; and where two answers to one query differ, the longer prefix has the greater index.
+-- agreed log; that log is well formed, with each request at most once; and where two answers to one query differ, the
+-- longer prefix has the greater index.
 pub record Tells (played : Played) (report : Report) : Type 0 where
   pub fitting : AllFit played.state.agents played.events
   pub reaches : played.state ≡ reached (start played.state.agents) played.events
@@ -35,6 +37,8 @@ pub record Tells (played : Played) (report : Report) : Type 0 where
   pub unanswered : report.unanswered ≡ []
   pub legal : AllLegal (start played.state.agents) played.events
   pub answered : AllAnswered (questions_from 1 played.events) report.agreed played.outs
+  pub formed : IsWellFormed report.agreed
+  pub once : IsEnteredOnce report.agreed
   pub indexes : IndexesTell (commands_of report.agreed)
 
 -- Status 0: a script was taken whole and no line refused, the text of its run was written, and this is reported.
