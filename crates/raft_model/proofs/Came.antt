@@ -45,7 +45,7 @@ module _ (servers : ℕ) (h : History) (s : Sound servers h) (i : ℕ) where
   pub came_reply : (n : Node) → Runs servers h i n → (to : ℕ) (m : Message) → IsTrueOf h i to m → Came servers h i (reply n to m)
   came_reply n r to m t = record { after = h; goes = goes_nowhere i h; sound = s; runs = r; grew = inl refl; told = (t, tt) }
 
-  -- 1
+  -- a higher term
   pub came_risen : (n : Node) (t : ℕ) → Runs servers h i n → Came servers h i (quiet (risen n t))
   came_risen n t r = at_bool (λ b. Came servers h i (quiet (cond b (record n { term = t; vote = None; role = Follower; leader = None }) n))) (nat_lt n.term t)
       (λ e. let l : h.terms i < t = let q = r.term in let k = lt_tells n.term t e in omega arith in
@@ -102,7 +102,6 @@ module _ (servers : ℕ) (h : History) (s : Sound servers h) (i : ℕ) where
 
   pub commit_long : (n : Node) → Runs servers h i n → n.commit ≤ length n.log
   commit_long n r = agree_length n.commit n.log h.agreed r.commit_agrees r.commit_within
-  -- 8
 
 -- one after the other
 grown_by : (h a b : History) (m k : ℕ) → m ≤ k → (a.agreed ≡ h.agreed) ⊎ (length a.agreed ≤ m) → (b.agreed ≡ a.agreed) ⊎ (length b.agreed ≤ k) → (b.agreed ≡ h.agreed) ⊎ (length b.agreed ≤ k)

@@ -43,7 +43,7 @@ committed_tells n (suc k) = at_bool (λ b. (cond b (suc k) (committed_upto n k) 
     below (inr c) = inr (record { above = c.above; upto = let u = c.upto in omega arith; own = c.own; majority = c.majority })
 
 module _ (servers : ℕ) (h : History) (s : Sound servers h) (i : ℕ) where
-  -- 6, the commit
+  -- what a majority has matched is committed
   commits : (n : Node) (r : Runs servers h i n) → n.role ≡ Leader → (m : ℕ) → Commits n (last n) m → IsCommitted servers h.first h.ledger h.acks n.term m
   commits n r lead m c = record {
     own = behind (cases_lt (length (h.first n.term)) m);
@@ -163,7 +163,7 @@ module _ (servers : ℕ) (h : History) (s : Sound servers h) (i : ℕ) where
             };
           }
 
-  -- 8
+  -- an entry is appended
   pub came_appended : (n : Node) (e : Entry) → Runs servers h i n → n.role ≡ Leader → e.term ≡ n.term → IsNewNumber h e.number → MayFollow n.log e → Came servers h i (quiet (record n { log = n.log ++ e ∷ [] }))
   came_appended n e r lead et fresh may = record {
     after = append i e h;

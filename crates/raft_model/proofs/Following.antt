@@ -54,7 +54,7 @@ module _ (servers : ℕ) (h : History) (s : Sound servers h) (i : ℕ) where
     };
   }
 
-  -- 5
+  -- the entries are accepted
   came_taken : (n : Node) (from prev : ℕ) (es : Log) (commit round : ℕ) (prev_term : ℕ) → Runs servers h i n → AppendIsTrue h from n.term prev prev_term es commit round → prev ≤ length n.log → term_at prev n.log ≡ prev_term →
       keeps_front n.commit n.log (accepted n.log prev es) ≡ true →
       Came servers h i (reply (record (follows n from) { log = accepted n.log prev es; commit = max n.commit (min commit (prev + length es)) }) from (Yes n.term (prev + length es) round))

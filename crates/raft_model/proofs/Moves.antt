@@ -5,7 +5,7 @@ use Rattle.raft_model.specs.Quorum.{Servers, IsMajority}
 use Rattle.cat_model.specs.declared.command.Entry.{Entry}
 use Rattle.raft_model.specs.Log.{Log, term_at, last_term, accepted, IsUpToDate, OpensWithNoop}
 use Rattle.raft_model.proofs.Logs.{agree_below, term_take}
-use Rattle.raft_model.proofs.Election.{at_put, at_put₂, put_up, put_same, put_other, votes_rise, votes_grant, votes_win, same_leader}
+use Rattle.raft_model.proofs.Election.{at_put, at_put₂, put_up, put_other, votes_rise, votes_grant, votes_win, same_leader}
 use Rattle.raft_model.proofs.Accepting.{Accepts, accepts}
 use Rattle.raft_model.proofs.Matching.{Grows, has_grown, follows_take, grows_append, grows_win, ledger_bound, ledgers_win, ledgers_append, logs_rise, logs_stand, logs_set, logs_win, logs_append}
 use Rattle.raft_model.proofs.Acks.{acks_rise, acks_rest, acks_stand, acks_grant, acks_win, acks_append, acks_accept}
@@ -246,12 +246,3 @@ module _ (servers : ℕ) (h : History) (s : Sound servers h) where
     rounds = s.rounds;
     numbers = record { apart = s.numbers.apart; known = λ t m e p l. let k = s.numbers.known t m e p l in omega arith; across = s.numbers.across; leading = s.numbers.leading; unled = s.numbers.unled };
   }
-
--- a timeout: the next term, with the own vote
-pub sound_timeout : (servers : ℕ) (h : History) → Sound servers h → (i : ℕ) → Sound servers (stand i (rise i (suc (h.terms i)) h))
-sound_timeout servers h s i =
-    let up : put h.terms i (suc (h.terms i)) i ≡ suc (h.terms i) = put_same h.terms i (suc (h.terms i)) in
-    sound_stand servers (rise i (suc (h.terms i)) h) (sound_rise servers h s i (suc (h.terms i)) (omega arith)) i
-    (subst (λ z. h.votes i z ≡ None) (sym up) (s.votes.later i (suc (h.terms i)) (omega arith)))
-    (subst (λ z. h.leaders z ≢ Some i) (sym up) (λ e. let q = s.roles.term (suc (h.terms i)) i e in omega arith))
-    (λ n p l. subst (λ z. term_at n (h.logs i) < z) (sym up) (let q = s.logs.bound i n p l in omega arith))

@@ -67,17 +67,6 @@ own_of servers h s t m p l e = at (cases_lt (length (h.first t)) m)
         let q = agree_term m m (h.ledger t) (h.first t) (omega arith) (front_take m (h.first t) (h.ledger t) (s.ledgers.begins t) k) in
         absurd (omega arith)
 
--- Numbers: of two entries of one term in the agreed list, with one number that is not 0, there is just one place.
-pub same_number : (w : World) → IsSound w → (m k : ℕ) → 0 < m → m < k → k ≤ length w.agreed → term_at m w.agreed ≡ term_at k w.agreed → number_at m w.agreed ≡ number_at k w.agreed → number_at m w.agreed ≡ 0
-same_number w s m k p l lk et en =
-    let t = term_at k w.agreed in
-    let f = agreed_follows w s k lk in
-    let a = agree_number m k w.agreed (s.history.ledger t) (omega arith) f in
-    let b = agree_number k k w.agreed (s.history.ledger t) (omega arith) f in
-    let c = agree_term m k w.agreed (s.history.ledger t) (omega arith) f in
-    let ll = agree_length k (s.history.ledger t) w.agreed (sym f) lk in
-    a ∙ s.sound.numbers.apart t m k (own_of (length w.nodes) s.history s.sound t m p (omega arith) (sym c ∙ et)) l ll (sym a ∙ en ∙ b)
-
 -- In a sound world a leader whose term is not below that of the last agreed entry has the agreed list.
 pub leader_begins : (w : World) → IsSound w → (i : ℕ) (n : Node) → IsServer w i n → n.halted ≡ false → n.role ≡ Leader → last_term w.agreed ≤ n.term → take (length w.agreed) n.log ≡ w.agreed
 leader_begins w s i n is up lead l = go (fits_at w s i n is)

@@ -18,7 +18,7 @@ use Rattle.raft_model.specs.declared.message.Message.TheVariants.{Append, AskVot
 use Rattle.std.specs.Prelude.{nat_le, nat_lt}
 
 module _ (servers : ℕ) (h : History) (s : Sound servers h) (i : ℕ) where
-  -- 6
+  -- a Yes
   came_agreed : (n : Node) (from matched round : ℕ) → Runs servers h i n → matched ≤ h.acks from n.term → round ≤ h.heard from n.term → Came servers h i (agreed_to n n.role from matched round)
   unfolding agreed_to after_yes
   came_agreed n from matched round r t tr = go n.role refl
@@ -63,7 +63,7 @@ module _ (servers : ℕ) (h : History) (s : Sound servers h) (i : ℕ) where
       go Follower e = came_quiet servers h s i n r
       go Candidate e = came_quiet servers h s i n r
 
-  -- 7
+  -- a No
   came_declined : (n : Node) (from last' : ℕ) → Runs servers h i n → Came servers h i (declined n n.role from last')
   unfolding declined
   came_declined n from last' r = go n.role refl

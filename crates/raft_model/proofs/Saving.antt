@@ -40,7 +40,7 @@ came_candidate servers h s i n r stands own = at_bool (λ b. Came servers h i (c
         let e : members n.votes 1 ≡ true = ap (λ v. members v 1) own ∙ or_left (1 == n.id) false (eq_is 1 n.id (sym id)) in
         subst (λ z. IsMajority z (members n.votes)) (sym q) (one_leads (members n.votes) e)
 
--- A part of a step, as the keeper holds it.
+-- A part of a step, as the store holds it.
 pub record Half (servers : ℕ) (h : History) (i : ℕ) (k : Kept) : Type 0 where
   pub after : History
   pub goes : GoesOn i h after
@@ -143,7 +143,7 @@ risen_log n t = at_bool (λ b. (cond b (record n { term = t; vote = None; role =
 half_after : (servers : ℕ) (h : History) (i : ℕ) (n m : Node) (d : Done) (a : Came servers h i (quiet m)) → m.log ≡ n.log → Half servers a.after i (half_kept m d.node) → Half servers h i (half_kept n d.node)
 half_after servers h i n m d a e b = record { after = b.after; goes = goes_further i h a.after b.after a.goes b.goes; sound = b.sound; term = b.term; vote = b.vote; log = b.log ∙ e }
 
--- a step, with what the keeper holds in its midst
+-- a step, with what the store holds in its midst
 pub record Steps (servers : ℕ) (h : History) (i : ℕ) (n : Node) (d : Done) : Type 0 where
   pub whole : Came servers h i d
   pub half : Half servers h i (half_kept n d.node)

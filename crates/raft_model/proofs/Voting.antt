@@ -23,7 +23,7 @@ use Rattle.std.specs.Prelude.{◌&&◌, ◌==◌, ◌||◌}
 use Rattle.raft_model.proofs.Rising.{leads_up}
 
 module _ (servers : ℕ) (h : History) (s : Sound servers h) (i : ℕ) where
-  -- 4
+  -- a candidate wins
   pub came_leading : (n : Node) → Runs servers h i n → n.role ≡ Candidate → IsMajority servers (members n.votes) → Came servers h i (quiet (leading n))
   came_leading n r stands most =
       let role : h.roles i ≡ Candidate = r.role ∙ stands in
@@ -64,7 +64,7 @@ module _ (servers : ℕ) (h : History) (s : Sound servers h) (i : ℕ) where
           let k : h.ledger t ≡ h.ledger n.term = ap h.ledger (sym u ∙ q) in
           let k' = ap length k in absurd (omega (arith, d.own, d.there))
 
-  -- 3
+  -- a vote is asked for
   free_from : (v : Option ℕ) (c : ℕ) → may_vote v c ≡ true → (v ≡ None) ⊎ (v ≡ Some c)
   free_from None c e = inl refl
   free_from (Some d) c e = inr (ap Some (eq_tells d c e))
@@ -191,7 +191,7 @@ module _ (servers : ℕ) (i : ℕ) where
       go false Follower e t = came_quiet servers h s i n r
       go false Leader e t = came_quiet servers h s i n r
 
--- 2
+-- a timeout
 pub came_stands : (servers : ℕ) (h : History) → Sound servers h → (i : ℕ) (n : Node) → Runs servers h i n → Came servers h i (quiet (stands n))
 came_stands servers h s i n r =
     let l : h.terms i < suc n.term = let q = r.term in omega arith in
