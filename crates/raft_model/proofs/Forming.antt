@@ -8,7 +8,8 @@ use Rattle.raft_model.proofs.Places.{agreed_follows, own_of}
 use Rattle.raft_model.proofs.Sound.{IsSound}
 use Rattle.raft_model.proofs.Starts.{begins_sound, begins_unspent}
 use Rattle.raft_model.proofs.Worlds.{reach_goes}
-use Rattle.raft_model.specs.Log.{HasNumbersOnce, IsWellFormed, number_at, term_at}
+use Rattle.raft_model.specs.Log.{number_at, term_at}
+use Rattle.raft_model.proofs.Pairs.{HasNumbersOnce, IsOrdered}
 use Rattle.raft_model.specs.World.{IsOfFirstRun, World}
 use Rattle.std.proofs.lemmas.Bool.{cases_lt}
 
@@ -47,7 +48,7 @@ module _ (w : World) (s : IsSound w) where
       let own : length (s.history.first t) < m = subst (λ z. length (s.history.first z) < m) et a.own in
       c ∙ s.sound.numbers.apart t m n own mn b.within (sym c ∙ en ∙ sym b.number)
 
-  pub agreed_well_formed : IsWellFormed w.agreed
+  pub agreed_well_formed : IsOrdered w.agreed
   agreed_well_formed = record {
     opens = opens_follows s.history.ledger s.sound.opens w.agreed (agreed_follows w s);
     rises = rises;

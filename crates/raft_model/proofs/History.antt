@@ -6,7 +6,8 @@ use Rattle.cat_model.specs.declared.reply.Role.TheVariants.{Follower, Candidate,
 use Rattle.raft_model.specs.Quorum.{Servers, IsMajority}
 use Rattle.cat_model.specs.declared.command.Command.TheVariants.{Noop}
 use Rattle.cat_model.specs.declared.command.Entry.{Entry}
-use Rattle.raft_model.specs.Log.{Log, term_at, number_at, accepted, OpensWithNoop}
+use Rattle.raft_model.specs.Log.{Log, term_at, number_at, accepted}
+use Rattle.raft_model.proofs.Pairs.{OpensWithNoop}
 
 -- a function with another value at one place
 abbrev pub put : {A : Type 0} → (ℕ → A) → ℕ → A → ℕ → A

@@ -3,7 +3,8 @@ use Rattle.std.proofs.Common.{◌≡◌, ◌≢◌, ℕ, suc, ◌+◌, ◌<◌, 
 use Rattle.std.proofs.lemmas.List.{take-take, take_all, length-take, length-drop}
 use Rattle.raft_model.specs.Quorum.{Servers, IsMajority}
 use Rattle.cat_model.specs.declared.command.Entry.{Entry}
-use Rattle.raft_model.specs.Log.{Log, term_at, last_term, accepted, IsUpToDate, OpensWithNoop}
+use Rattle.raft_model.specs.Log.{Log, term_at, last_term, accepted, IsUpToDate}
+use Rattle.raft_model.proofs.Pairs.{OpensWithNoop}
 use Rattle.raft_model.proofs.Logs.{agree_below, term_take}
 use Rattle.raft_model.proofs.Election.{at_put, at_put₂, put_up, put_other, votes_rise, votes_grant, votes_win, same_leader}
 use Rattle.raft_model.proofs.Accepting.{Accepts, accepts}

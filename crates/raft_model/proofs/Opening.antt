@@ -3,7 +3,8 @@ use Rattle.std.proofs.Common.{ℕ, [], arith, inl, inr, length, subst, sym, take
 use Rattle.cat_model.specs.declared.command.Command.TheVariants.{Noop}
 use Rattle.cat_model.specs.declared.command.Entry.{Entry}
 use Rattle.raft_model.proofs.History.{Follows, MayFollow}
-use Rattle.raft_model.specs.Log.{Log, OpensWithNoop, term_at}
+use Rattle.raft_model.specs.Log.{Log, term_at}
+use Rattle.raft_model.proofs.Pairs.{OpensWithNoop}
 
 pub opens_push : (x : Log) (e : Entry) → OpensWithNoop x → MayFollow x e → OpensWithNoop (x ++ e ∷ [])
 opens_push [] e o (inl l) = absurd (omega arith)

@@ -6,7 +6,9 @@ use Rattle.raft_model.proofs.Rounds.{shows_agreed}
 use Rattle.raft_model.proofs.Starts.{reached_sound}
 use Rattle.raft_model.proofs.Worlds.{agreement, reach_goes, step_goes}
 use Rattle.raft_model.specs.Facts.{IsLeading, IsPlaced, IsReady, ShowsAgreed, StandsOnce, next_round, HasOneLeader, KeepsVotes, HasMatchingLogs}
-use Rattle.raft_model.specs.Log.{entry_at, last_term, HasNumbersOnce, IsWellFormed}
+use Rattle.cat_model.specs.Log.{IsWellFormed, IsEnteredOnce}
+use Rattle.raft_model.specs.Log.{entry_at, last_term}
+use Rattle.raft_model.proofs.Pairs.{ordered-well_formed, numbers-entered_once}
 use Rattle.raft_model.specs.Node.{Node}
 use Rattle.raft_model.specs.World.{step, Agrees, IsReached, IsServer, Move, Reaches, World, WorldStep, IsOfFirstRun}
 use Rattle.raft_model.proofs.Forming.{agreed_well_formed, numbers_once}
@@ -31,10 +33,10 @@ pub once : (w w' : World) → IsReached w → Reaches w w' → StandsOnce w w'
 once w w' r = stands_once w (reached_sound w r) w'
 
 pub well_formed : (w : World) → IsReached w → IsWellFormed w.agreed
-well_formed w r = agreed_well_formed w (reached_sound w r)
+well_formed w r = ordered-well_formed w.agreed (agreed_well_formed w (reached_sound w r))
 
-pub first_run : (w : World) → IsOfFirstRun w → HasNumbersOnce w.agreed
-first_run w f = numbers_once w f
+pub first_run : (w : World) → IsOfFirstRun w → IsEnteredOnce w.agreed
+first_run w f = numbers-entered_once w.agreed (numbers_once w f)
 
 pub begins : (w : World) → IsReached w → (i : ℕ) (n : Node) → IsServer w i n → IsLeading n → last_term w.agreed ≤ n.term → take (length w.agreed) n.log ≡ w.agreed
 begins w r i n at lead = leader_begins w (reached_sound w r) i n at lead.0 lead.1

@@ -44,19 +44,3 @@ accepted log prev entries = take prev log ++ merged (drop prev log) entries
 -- a log whose last entry has term t and index n is not smaller than this one
 abbrev pub IsUpToDate : ℕ → ℕ → Log → Type 0
 IsUpToDate t n log = (last_term log ≤ t) × (last_term log ≡ t → length log ≤ n)
-
--- the first entry, if there is one, is a leader's own
-abbrev pub OpensWithNoop : Log → Type 0
-OpensWithNoop [] = Unit {0}
-OpensWithNoop (e ∷ es) = (e.number ≡ 0) × (e.command ≡ Noop)
-
--- A well-formed log: the first entry is a Noop with number 0, terms never fall, and no two entries of one term have
--- the same number other than 0.
-pub record IsWellFormed (log : Log) : Type 0 where
-  pub opens : OpensWithNoop log
-  pub rises : (m n : ℕ) → 0 < m → m ≤ n → n ≤ length log → term_at m log ≤ term_at n log
-  pub numbers : (m n : ℕ) → 0 < m → m < n → n ≤ length log → term_at m log ≡ term_at n log → number_at m log ≡ number_at n log → number_at m log ≡ 0
-
--- no two entries have the same number other than 0
-abbrev pub HasNumbersOnce : Log → Type 0
-HasNumbersOnce log = (m n : ℕ) → 0 < m → m < n → n ≤ length log → number_at m log ≡ number_at n log → number_at m log ≡ 0

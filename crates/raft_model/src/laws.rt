@@ -4,7 +4,8 @@
 
 ghost use Rattle.std.specs.Prelude.{List, ◌≡◌, ◌≤◌, ℕ, length, take, false};
 ghost use Rattle.cat_model.specs.declared.command.Entry.{Entry};
-ghost use Rattle.raft_model.specs.Log.{entry_at, last_term, IsWellFormed, HasNumbersOnce};
+ghost use Rattle.cat_model.specs.Log.{IsWellFormed, IsEnteredOnce};
+ghost use Rattle.raft_model.specs.Log.{entry_at, last_term};
 ghost use Rattle.raft_model.specs.Node.{Node};
 ghost use Rattle.raft_model.specs.declared.message.Sent.{Sent};
 ghost use Rattle.raft_model.specs.Rules.{Input};
@@ -65,7 +66,7 @@ pub fn agreed_is_well_formed()
 /// In a run from empty stores no two agreed entries at all have the same number other than 0.
 #[tactic(auto, using(crate::proofs::Theorems::first_run))]
 pub fn numbers_of_a_first_run()
-    ensures { (w : World) → IsOfFirstRun w → HasNumbersOnce w.agreed }
+    ensures { (w : World) → IsOfFirstRun w → IsEnteredOnce w.agreed }
 {}
 
 /// A term has one leader.
