@@ -1,14 +1,13 @@
 -- The plan law: a plan is empty exactly where the catalog is synced.
-use Rattle.std.proofs.Common.{◌≡◌, ◌≢◌, ℕ, ◌+◌, Bool, true, false, not, cond, ◌&&◌, ◌||◌, List, [], ◌∷◌, ◌++◌, refl, sym, ◌∙◌, ap, subst, Option, Some, None, filter, is_some, map, length, ◌⊎◌, inl, inr, arith}
+use Rattle.std.proofs.Common.{◌≡◌, ℕ, Bool, true, false, not, cond, ◌&&◌, ◌||◌, List, [], ◌∷◌, ◌++◌, refl, sym, ◌∙◌, ap, subst, Option, Some, None, filter, is_some, map}
 use Rattle.std.specs.List.{AllByRecursion, list_any}
 use Rattle.std.proofs.lemmas.Bool.{true≢false, false≢true, and_parts}
 use Rattle.std.specs.Ordering.{is_eq}
 use Rattle.cat_model.specs.Keys.{pair_cmp, same_text, is_empty}
 use Rattle.cat_model.specs.Tables.{same_found}
 use Rattle.cat_model.specs.Same.{alike_nodes, alike_services, alike_checks}
-use Rattle.cat_model.specs.Catalog.{Catalog, InOrder, service_key, check_key, node_at, service_at, check_at}
-use Rattle.cat_model.specs.Machine.{apply}
-use Rattle.cat_model.specs.Syncs.{registers_service, registers_checks, all_applied, lacks_node, lacks_service, lacks_check, is_alien_service, is_alien_check, goes_along, is_serf, serf_id, listed, node_plan, services_in_order, checks_in_order, other_checks, plan, plan_of, HasRemote, Synced, IsOfNode, PlanLaw}
+use Rattle.cat_model.specs.Catalog.{Catalog, service_key, check_key, node_at, service_at, check_at}
+use Rattle.cat_model.specs.Syncs.{registers_service, registers_checks, lacks_node, lacks_service, lacks_check, is_alien_service, is_alien_check, goes_along, is_serf, serf_id, listed, node_plan, services_in_order, checks_in_order, other_checks, plan, plan_of, HasRemote, Synced, IsOfNode, PlanLaw}
 use Rattle.cat_model.specs.declared.row.NodeRow.{NodeRow}
 use Rattle.cat_model.specs.declared.row.ServiceRow.{ServiceRow}
 use Rattle.cat_model.specs.declared.row.CheckRow.{CheckRow}
@@ -19,10 +18,8 @@ use Rattle.cat_model.specs.declared.fired.Remote.{Remote}
 use Rattle.cat_model.proofs.SameLemmas.{text_decides}
 use Rattle.cat_model.proofs.TableLemmas.{All-filter, All-weaker, All-filter_test, row_at-filter}
 use Rattle.cat_model.proofs.Pairs.{pair_cmp_total, exact_pair}
-use Rattle.cat_model.proofs.Order.{ChecksAscend}
 use Rattle.cat_model.proofs.InOrder.{row_at-in_order, key_of_found, found_in, found_passes, own_in_order, All-in_order}
-use Rattle.cat_model.proofs.SyncSteps.{node_fits, node_leaves}
-use Rattle.cat_model.proofs.SyncStages.{service_of, check_of, local_service, local_check, remote_service, remote_check, GoodService, GoodCheck, Underway, Moves, stage, LocalService, service_step, LocalServicesGood, LocalCheck, check_step, check_step_where, LocalChecksGood, OfService, Gone, gone_moves, gone_good, gone_checks, alone_step}
+use Rattle.cat_model.proofs.SyncStages.{service_of, check_of, local_service, local_check, remote_service, remote_check}
 
 pub both_pass : {R : Type 0} (P Q : R → Type 0) (rows : List R) → AllByRecursion P rows → AllByRecursion Q rows → AllByRecursion (λ r. P r × Q r) rows
 both_pass P Q [] h g = tt
@@ -83,7 +80,6 @@ module _ (n : NodeRow) (local : Local) (remote : Remote) (k : Catalog) (has : Ha
 
   pub check_nodes : AllByRecursion (λ c. c.node ≡ n.node) remote.checks
   check_nodes = subst (AllByRecursion (λ c. c.node ≡ n.node)) (sym has.checks) (All-weaker (λ c. same_text c.node n.node ≡ true) (λ c. c.node ≡ n.node) (λ c e. (text_decides c.node n.node).0 e) (filter (λ c. same_text c.node n.node) k.checks) (All-filter_test (λ c. same_text c.node n.node) k.checks))
-
 
   -- 1. The rows of the lists that are put in order.
   module _ (mine : IsOfNode n local) where
@@ -158,7 +154,6 @@ module _ (n : NodeRow) (local : Local) (remote : Remote) (k : Catalog) (has : Ha
       nothing_planned : plan_of n local remote ≡ []
       unfolding plan_of
       nothing_planned = λ j. node_none j ++ map (registers_service n) (services_none j) ++ map (λ c. registers_checks n (c ∷ [])) (checks_none j) ++ map (λ s. Deregister n.node s.id []) (gone_none j) ++ map (λ c. Deregister n.node [] c.id) (alone_none j)
-
 
     -- 3. Where the plan is empty the catalog is synced.
     module _ (empty : plan_of n local remote ≡ []) where

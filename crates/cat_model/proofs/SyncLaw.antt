@@ -1,9 +1,9 @@
 -- The sync law: the stages of a plan, one after the other.
 use Rattle.std.proofs.Common.{◌≡◌, ◌≢◌, ℕ, ◌+◌, Bool, true, false, not, cond, ◌&&◌, ◌||◌, List, [], ◌∷◌, ◌++◌, refl, sym, ◌∙◌, ap, subst, Option, Some, None, filter, is_some, map, length, ◌⊎◌, inl, inr, arith}
-use Rattle.std.specs.List.{AllByRecursion, list_any}
+use Rattle.std.specs.List.{AllByRecursion}
 use Rattle.std.proofs.lemmas.Bool.{true≢false, false≢true, and_parts}
 use Rattle.std.specs.Ordering.{is_eq}
-use Rattle.cat_model.specs.Keys.{pair_cmp, same_text, is_empty}
+use Rattle.cat_model.specs.Keys.{pair_cmp, is_empty}
 use Rattle.cat_model.specs.Tables.{same_found}
 use Rattle.cat_model.specs.Same.{alike_nodes, alike_services, alike_checks}
 use Rattle.cat_model.specs.Catalog.{Catalog, InOrder, service_key, check_key, node_at, service_at, check_at}
@@ -17,7 +17,7 @@ use Rattle.cat_model.specs.declared.command.Command.TheVariants.{Deregister}
 use Rattle.cat_model.specs.declared.fired.Local.{Local}
 use Rattle.cat_model.specs.declared.fired.Remote.{Remote}
 use Rattle.cat_model.proofs.SameLemmas.{text_decides}
-use Rattle.cat_model.proofs.TableLemmas.{All-filter, All-weaker, All-filter_test, row_at-filter}
+use Rattle.cat_model.proofs.TableLemmas.{All-filter, All-weaker}
 use Rattle.cat_model.proofs.Pairs.{pair_cmp_total, exact_pair}
 use Rattle.cat_model.proofs.Order.{ChecksAscend}
 use Rattle.cat_model.proofs.InOrder.{row_at-in_order, key_of_found, found_in, found_passes, own_in_order, All-in_order}
