@@ -1,14 +1,14 @@
--- The sync law: the stages of a plan, one after the other, and when a plan is empty.
+-- The sync law: the stages of a plan, one after the other.
 use Rattle.std.proofs.Common.{◌≡◌, ◌≢◌, ℕ, ◌+◌, Bool, true, false, not, cond, ◌&&◌, ◌||◌, List, [], ◌∷◌, ◌++◌, refl, sym, ◌∙◌, ap, subst, Option, Some, None, filter, is_some, map, length, ◌⊎◌, inl, inr, arith}
-use Rattle.std.specs.List.{AllByRecursion, list_any}
+use Rattle.std.specs.List.{AllByRecursion}
 use Rattle.std.proofs.lemmas.Bool.{true≢false, false≢true, and_parts}
 use Rattle.std.specs.Ordering.{is_eq}
-use Rattle.cat_model.specs.Keys.{pair_cmp, same_text, is_empty}
+use Rattle.cat_model.specs.Keys.{pair_cmp, is_empty}
 use Rattle.cat_model.specs.Tables.{same_found}
 use Rattle.cat_model.specs.Same.{alike_nodes, alike_services, alike_checks}
 use Rattle.cat_model.specs.Catalog.{Catalog, InOrder, service_key, check_key, node_at, service_at, check_at}
 use Rattle.cat_model.specs.Machine.{apply}
-use Rattle.cat_model.specs.Syncs.{registers_service, registers_checks, all_applied, lacks_node, lacks_service, lacks_check, is_alien_service, is_alien_check, goes_along, is_serf, serf_id, listed, node_plan, services_in_order, checks_in_order, other_checks, plan, plan_of, HasRemote, Synced, IsSyncable, SyncLaw}
+use Rattle.cat_model.specs.Syncs.{registers_service, registers_checks, all_applied, lacks_node, lacks_service, lacks_check, is_alien_service, is_alien_check, goes_along, is_serf, serf_id, listed, node_plan, services_in_order, checks_in_order, other_checks, plan, plan_of, HasRemote, Synced, IsSyncable}
 use Rattle.cat_model.specs.declared.row.NodeRow.{NodeRow}
 use Rattle.cat_model.specs.declared.row.ServiceRow.{ServiceRow}
 use Rattle.cat_model.specs.declared.row.CheckRow.{CheckRow}
@@ -17,10 +17,11 @@ use Rattle.cat_model.specs.declared.command.Command.TheVariants.{Deregister}
 use Rattle.cat_model.specs.declared.fired.Local.{Local}
 use Rattle.cat_model.specs.declared.fired.Remote.{Remote}
 use Rattle.cat_model.proofs.SameLemmas.{text_decides}
-use Rattle.cat_model.proofs.TableLemmas.{All-filter, All-weaker, All-filter_test, row_at-filter}
+use Rattle.cat_model.proofs.TableLemmas.{All-filter, All-weaker}
 use Rattle.cat_model.proofs.Pairs.{pair_cmp_total, exact_pair}
 use Rattle.cat_model.proofs.Order.{ChecksAscend}
 use Rattle.cat_model.proofs.InOrder.{row_at-in_order, key_of_found, found_in, found_passes, own_in_order, All-in_order}
+use Rattle.cat_model.proofs.PlanLaw.{both_pass, not_true, not_some, some_not, service_is_remote, check_is_remote, service_nodes, check_nodes, planned}
 use Rattle.cat_model.proofs.SyncSteps.{node_fits, node_leaves}
 use Rattle.cat_model.proofs.SyncStages.{service_of, check_of, local_service, local_check, remote_service, remote_check, GoodService, GoodCheck, Underway, Moves, stage, LocalService, service_step, LocalServicesGood, LocalCheck, check_step, check_step_where, LocalChecksGood, OfService, Gone, gone_moves, gone_good, gone_checks, alone_step, services_same, checks_same}
 
@@ -28,26 +29,6 @@ applied_append : (xs ys : List Command) (i : ℕ) (k : Catalog) → all_applied 
 unfolding all_applied
 applied_append [] ys i k = ap (λ m. all_applied m ys k) (omega arith)
 applied_append (x ∷ xs) ys i k = applied_append xs ys (i + 1) (apply i x k).0 ∙ ap (λ m. all_applied m ys (all_applied (i + 1) xs (apply i x k).0)) (omega arith)
-
-both_pass : {R : Type 0} (P Q : R → Type 0) (rows : List R) → AllByRecursion P rows → AllByRecursion Q rows → AllByRecursion (λ r. P r × Q r) rows
-both_pass P Q [] h g = tt
-both_pass P Q (r ∷ rows) h g = ((h.0, g.0), both_pass P Q rows h.1 g.1)
-
-none_pass : {R : Type 0} (test : R → Bool) (rows : List R) → AllByRecursion (λ r. test r ≡ false) rows → filter test rows ≡ []
-none_pass test [] h = refl
-none_pass test (r ∷ rows) h = ap (λ b. cond b (r ∷ filter test rows) (filter test rows)) h.0 ∙ none_pass test rows h.1
-
-not_true : (b : Bool) → not b ≡ false → b ≡ true
-not_true true h = refl
-not_true false h = absurd (true≢false h)
-
-not_some : {A : Type 0} (o : Option A) → not (is_some o) ≡ true → o ≡ None
-not_some None h = refl
-not_some (Some x) h = absurd (false≢true h)
-
-some_not : {A : Type 0} (o : Option A) → not (is_some o) ≡ false → o ≡ None → ⊥
-some_not None h e = true≢false h
-some_not (Some x) h e = true≢false (ap is_some e)
 
 module _ (n : NodeRow) (local : Local) (remote : Remote) (can : IsSyncable n local remote) where
   -- 1. The rows of the lists that are put in order.
@@ -200,16 +181,10 @@ module _ (n : NodeRow) (local : Local) (remote : Remote) (can : IsSyncable n loc
   -- 5. The node and its own check.
   module _ (k : Catalog) (has : HasRemote n.node remote k) (in_order : InOrder k) where
     first_service : (id : List ℕ) → service_of n local remote k id ≡ remote_service n local remote id
-    first_service id = sym (ap (service_at (n.node, id)) has.services ∙ row_at-filter pair_cmp service_key pair_cmp_total exact_pair (λ (p : List ℕ × List ℕ). same_text p.0 n.node) (n.node, id) ((text_decides n.node n.node).1 refl) k.services)
+    first_service = service_is_remote n local remote k has
 
     first_check : (id : List ℕ) → check_of n local remote k id ≡ remote_check n local remote id
-    first_check id = sym (ap (check_at (n.node, id)) has.checks ∙ row_at-filter pair_cmp check_key pair_cmp_total exact_pair (λ (p : List ℕ × List ℕ). same_text p.0 n.node) (n.node, id) ((text_decides n.node n.node).1 refl) k.checks)
-
-    service_nodes : AllByRecursion (λ s. s.node ≡ n.node) remote.services
-    service_nodes = subst (AllByRecursion (λ s. s.node ≡ n.node)) (sym has.services) (All-weaker (λ s. same_text s.node n.node ≡ true) (λ s. s.node ≡ n.node) (λ s e. (text_decides s.node n.node).0 e) (filter (λ s. same_text s.node n.node) k.services) (All-filter_test (λ s. same_text s.node n.node) k.services))
-
-    check_nodes : AllByRecursion (λ c. c.node ≡ n.node) remote.checks
-    check_nodes = subst (AllByRecursion (λ c. c.node ≡ n.node)) (sym has.checks) (All-weaker (λ c. same_text c.node n.node ≡ true) (λ c. c.node ≡ n.node) (λ c e. (text_decides c.node n.node).0 e) (filter (λ c. same_text c.node n.node) k.checks) (All-filter_test (λ c. same_text c.node n.node) k.checks))
+    first_check = check_is_remote n local remote k has
 
     abbrev Begun : Catalog → Type 0
     Begun l = Underway n local remote l × ((c : CheckRow) → local_check n local remote serf_id ≡ Some c → GoodCheck n local remote l serf_id)
@@ -344,11 +319,11 @@ module _ (n : NodeRow) (local : Local) (remote : Remote) (can : IsSyncable n loc
 
       fourth : Moves n local remote k3 k4 × AllByRecursion (Gone n local remote k4) (services_in_order remote.services)
       unfolding k4 gone_part
-      fourth = gone_staged service_nodes check_nodes i3 k3 third.0.underway third.1 k4 refl
+      fourth = gone_staged (service_nodes n local remote k has) (check_nodes n local remote k has) i3 k3 third.0.underway third.1 k4 refl
 
-      fifth : Moves n local remote k4 k5 × AllByRecursion (Alone service_nodes check_nodes k5) (checks_in_order remote.checks)
+      fifth : Moves n local remote k4 k5 × AllByRecursion (Alone (service_nodes n local remote k has) (check_nodes n local remote k has) k5) (checks_in_order remote.checks)
       unfolding k5 alone_part
-      fifth = alone_staged service_nodes check_nodes i4 k4 fourth.0.underway k5 refl
+      fifth = alone_staged (service_nodes n local remote k has) (check_nodes n local remote k has) i4 k4 fourth.0.underway k5 refl
 
       remote_gone : (id : List ℕ) (s : ServiceRow) → remote_service n local remote id ≡ Some s → Gone n local remote k4 s × (id ≡ s.id)
       remote_gone id s e = (
@@ -370,7 +345,7 @@ module _ (n : NodeRow) (local : Local) (remote : Remote) (can : IsSyncable n loc
       alone_end : (id : List ℕ) (c : CheckRow) → remote_check n local remote id ≡ Some c → local_check n local remote id ≡ None → (b : Bool) → goes_along local.services remote.services c ≡ b → GoodCheck n local remote k5 id
       alone_end id c f e false goes =
           let its_id : id ≡ c.id = ap (λ p. p.1) (key_of_found pair_cmp check_key pair_cmp_total exact_pair (n.node, id) remote.checks c f) in
-          let alone : Alone service_nodes check_nodes k5 c = found_in (Alone service_nodes check_nodes k5) (λ r. is_eq (pair_cmp (n.node, id) (check_key r))) (checks_in_order remote.checks) fifth.1 c (row_at-in_order pair_cmp check_key pair_cmp_total exact_pair (n.node, id) remote.checks ∙ f) in
+          let alone : Alone (service_nodes n local remote k has) (check_nodes n local remote k has) k5 c = found_in (Alone (service_nodes n local remote k has) (check_nodes n local remote k has) k5) (λ r. is_eq (pair_cmp (n.node, id) (check_key r))) (checks_in_order remote.checks) fifth.1 c (row_at-in_order pair_cmp check_key pair_cmp_total exact_pair (n.node, id) remote.checks ∙ f) in
           subst (GoodCheck n local remote k5) (sym its_id) (alone (ap (local_check n local remote) (sym its_id) ∙ e) goes)
       alone_end id c f e true goes = go (remote_service n local remote c.service) refl there
         where
@@ -404,67 +379,6 @@ module _ (n : NodeRow) (local : Local) (remote : Remote) (can : IsSyncable n loc
       makes_synced : Synced n local (all_applied i (plan_of n local remote) k)
       makes_synced = subst (Synced n local) (sym at_end) (record { node = fifth.0.underway.node; services = λ id. (services_end id).service_agrees; checks = λ id. (checks_end id).check_agrees })
 
-    -- 7. Where the plan is empty.
-    module _ (synced : Synced n local k) where
-      true_not : (b : Bool) → b ≡ true → not b ≡ false
-      true_not b e = ap not e
-
-      node_none : node_plan n (listed (local_check n local remote serf_id)) remote ≡ []
-      node_none = (λ j. cond (no_node j || list_any (lacks_check remote.checks) (listed (local_check n local remote serf_id))) (registers_checks n (listed (local_check n local remote serf_id)) ∷ []) []) ∙ go (local_check n local remote serf_id) refl
-        where
-          no_node : lacks_node remote.node n ≡ false
-          no_node = ap not (ap (λ o. same_found alike_nodes o (Some n)) has.node ∙ synced.node)
-
-          go : (o : Option CheckRow) → local_check n local remote serf_id ≡ o → cond (list_any (lacks_check remote.checks) (listed o)) (registers_checks n (listed o) ∷ []) [] ≡ []
-          go None e = refl
-          go (Some c) e = ap (λ b. cond (b || false) (registers_checks n (c ∷ []) ∷ []) []) (true_not (same_found alike_checks (check_at (c.node, c.id) remote.checks) (Some c)) agrees)
-            where
-              agrees : same_found alike_checks (check_at (check_key c) remote.checks) (Some c) ≡ true
-              agrees = (λ j. same_found alike_checks ((ap (λ p. check_at p remote.checks) (sym (its_key c e)) ∙ sym (first_check serf_id)) j) (sym e j)) ∙ synced.checks serf_id
-
-      services_none : filter (lacks_service remote.services) (services_in_order local.services) ≡ []
-      services_none = none_pass (lacks_service remote.services) (services_in_order local.services) (All-weaker (LocalService n local remote) (λ s. lacks_service remote.services s ≡ false)
-          (λ s own. true_not _ ((λ j. same_found alike_services ((ap (λ x. service_at (x, s.id) remote.services) own.0 ∙ sym (first_service s.id)) j) (sym own.1 j)) ∙ synced.services s.id)) (services_in_order local.services) services_own)
-
-      checks_none : filter (lacks_check remote.checks) (other_checks local) ≡ []
-      checks_none = none_pass (lacks_check remote.checks) (other_checks local) (All-weaker (LocalCheck n local remote) (λ c. lacks_check remote.checks c ≡ false)
-          (λ c own. true_not _ ((λ j. same_found alike_checks ((ap (λ x. check_at (x, c.id) remote.checks) own.0 ∙ sym (first_check c.id)) j) (sym own.1 j)) ∙ synced.checks c.id)) (other_checks local)
-          (All-filter (LocalCheck n local remote) (λ c. not (is_serf c)) (checks_in_order local.checks) checks_own))
-
-      is_local : {R : Type 0} (alike : R → R → Bool) (x : R) (o : Option R) → same_found alike (Some x) o ≡ true → not (is_some o) ≡ false
-      is_local alike x None h = absurd (false≢true h)
-      is_local alike x (Some y) h = refl
-
-      own_remote_services : AllByRecursion (λ s. (s.node ≡ n.node) × (service_at (s.node, s.id) remote.services ≡ Some s)) (services_in_order remote.services)
-      own_remote_services = both_pass (λ s. s.node ≡ n.node) (λ s. service_at (s.node, s.id) remote.services ≡ Some s) (services_in_order remote.services)
-          (All-in_order pair_cmp service_key pair_cmp_total exact_pair (λ s. s.node ≡ n.node) remote.services service_nodes) (own_in_order pair_cmp service_key pair_cmp_total exact_pair remote.services)
-
-      own_remote_checks : AllByRecursion (λ c. (c.node ≡ n.node) × (check_at (c.node, c.id) remote.checks ≡ Some c)) (checks_in_order remote.checks)
-      own_remote_checks = both_pass (λ c. c.node ≡ n.node) (λ c. check_at (c.node, c.id) remote.checks ≡ Some c) (checks_in_order remote.checks)
-          (All-in_order pair_cmp check_key pair_cmp_total exact_pair (λ c. c.node ≡ n.node) remote.checks check_nodes) (own_in_order pair_cmp check_key pair_cmp_total exact_pair remote.checks)
-
-      gone_none : filter (is_alien_service local.services) (services_in_order remote.services) ≡ []
-      gone_none = none_pass (is_alien_service local.services) (services_in_order remote.services) (All-weaker (λ s. (s.node ≡ n.node) × (service_at (s.node, s.id) remote.services ≡ Some s)) (λ s. is_alien_service local.services s ≡ false)
-          (λ s own. is_local alike_services s (service_at (s.node, s.id) local.services) ((λ j. same_found alike_services ((sym own.1 ∙ ap (λ x. service_at (x, s.id) remote.services) own.0 ∙ sym (first_service s.id)) j) (service_at (own.0 j, s.id) local.services)) ∙ synced.services s.id))
-          (services_in_order remote.services) own_remote_services)
-
-      alone_none : filter (λ c. is_alien_check local.checks c && not (goes_along local.services remote.services c)) (checks_in_order remote.checks) ≡ []
-      alone_none = none_pass (λ c. is_alien_check local.checks c && not (goes_along local.services remote.services c)) (checks_in_order remote.checks) (All-weaker (λ c. (c.node ≡ n.node) × (check_at (c.node, c.id) remote.checks ≡ Some c)) (λ c. (is_alien_check local.checks c && not (goes_along local.services remote.services c)) ≡ false)
-          (λ c own. ap (λ b. b && not (goes_along local.services remote.services c)) (is_local alike_checks c (check_at (c.node, c.id) local.checks) ((λ j. same_found alike_checks ((sym own.1 ∙ ap (λ x. check_at (x, c.id) remote.checks) own.0 ∙ sym (first_check c.id)) j) (check_at (own.0 j, c.id) local.checks)) ∙ synced.checks c.id)))
-          (checks_in_order remote.checks) own_remote_checks)
-
-      nothing_planned : plan_of n local remote ≡ []
-      unfolding plan_of
-      nothing_planned = λ j. node_none j ++ map (registers_service n) (services_none j) ++ map (λ c. registers_checks n (c ∷ [])) (checks_none j) ++ map (λ s. Deregister n.node s.id []) (gone_none j) ++ map (λ c. Deregister n.node [] c.id) (alone_none j)
-
 -- the sync law
-pub sync_law : (i : ℕ) (n : NodeRow) (local : Local) (remote : Remote) (k : Catalog) → local.node ≡ Some n → HasRemote n.node remote k → InOrder k → IsSyncable n local remote → SyncLaw i n local remote k
-unfolding all_applied
-sync_law i n local remote k of_node has in_order can = record {
-  makes = subst (λ cs. Synced n local (all_applied i cs k)) (sym planned) (makes_synced n local remote can k has in_order i);
-  only = λ e. subst (λ cs. Synced n local (all_applied i cs k)) (sym planned ∙ e) (makes_synced n local remote can k has in_order i);
-  where_synced = λ s. planned ∙ nothing_planned n local remote can k has in_order s;
-}
-  where
-    planned : plan local remote ≡ plan_of n local remote
-    planned = λ j. elim (of_node j) as (λ _. List Command) [ None ↦ [] | Some m ↦ plan_of m local remote ]
+pub sync_law : (i : ℕ) (n : NodeRow) (local : Local) (remote : Remote) (k : Catalog) → local.node ≡ Some n → HasRemote n.node remote k → InOrder k → IsSyncable n local remote → Synced n local (all_applied i (plan local remote) k)
+sync_law i n local remote k of_node has in_order can = subst (λ cs. Synced n local (all_applied i cs k)) (sym (planned n local remote of_node)) (makes_synced n local remote can k has in_order i)

@@ -136,9 +136,13 @@ pub record IsSyncable (n : NodeRow) (local : Local) (remote : Remote) : Type 0 w
   pub remote_services : AllByRecursion (λ s. s.id ≢ []) remote.services
   pub remote_checks : AllByRecursion (λ c. c.id ≢ []) remote.checks
 
--- The sync law. The plan, applied to a catalog with the remote rows, makes it synced, and it is empty where that was synced already, and only there.
-pub record SyncLaw (i : ℕ) (n : NodeRow) (local : Local) (remote : Remote) (k : Catalog) : Type 0 where
-  pub makes : Synced n local (all_applied i (plan local remote) k)
+-- all local rows are of one node
+pub record IsOfNode (n : NodeRow) (local : Local) : Type 0 where
+  pub services : AllByRecursion (λ s. s.node ≡ n.node) local.services
+  pub checks : AllByRecursion (λ c. c.node ≡ n.node) local.checks
+
+-- The plan law. A plan is empty where the catalog is synced already, and only there.
+pub record PlanLaw (n : NodeRow) (local : Local) (remote : Remote) (k : Catalog) : Type 0 where
   pub only : plan local remote ≡ [] → Synced n local k
   pub where_synced : Synced n local k → plan local remote ≡ []
 

@@ -13,7 +13,7 @@ ghost use Rattle.cat_model.specs.Channels.{CoveringLaw, Reaches};
 ghost use Rattle.cat_model.specs.Reach.{reaches, ReadsLaw, HitLaw};
 ghost use Rattle.cat_model.specs.declared.query.Chan.{Chan};
 ghost use Rattle.cat_model.specs.Views.{Kept, StandsFor, ViewLaw, NamesAfter, kept_after, nothing_kept};
-ghost use Rattle.cat_model.specs.Syncs.{HasRemote, IsSyncable, SyncLaw, MergeLaw};
+ghost use Rattle.cat_model.specs.Syncs.{HasRemote, IsSyncable, IsOfNode, Synced, PlanLaw, MergeLaw, all_applied, plan};
 ghost use Rattle.cat_model.specs.declared.row.NodeRow.{NodeRow};
 ghost use Rattle.cat_model.specs.declared.fired.Local.{Local};
 ghost use Rattle.cat_model.specs.declared.fired.Remote.{Remote};
@@ -100,10 +100,14 @@ pub fn view_step_law()
     ensures { (kept : Kept) (log : List Command) (command : Command) (names : List (List ℕ × ℕ)) → StandsFor kept log → NamesAfter (length log + 1) command kept names → StandsFor (kept_after (length log + 1) command names kept) (log ++ command ∷ []) }
 {}
 
-/// The plan of a sync, applied to a catalog with the remote rows, makes it synced. It is empty where the catalog was
-/// synced already, and only there.
+/// The plan of a sync, applied by itself to a catalog with the remote rows, makes it synced.
 pub fn sync_law()
-    ensures { (position : ℕ) (node : NodeRow) (local : Local) (remote : Remote) (before : Catalog) → local.node ≡ Some node → HasRemote node.node remote before → InOrder before → IsSyncable node local remote → SyncLaw position node local remote before }
+    ensures { (position : ℕ) (node : NodeRow) (local : Local) (remote : Remote) (before : Catalog) → local.node ≡ Some node → HasRemote node.node remote before → InOrder before → IsSyncable node local remote → Synced node local (all_applied position (plan local remote) before) }
+{}
+
+/// A plan is empty where the catalog is synced already, and only there.
+pub fn plan_law()
+    ensures { (node : NodeRow) (local : Local) (remote : Remote) (before : Catalog) → local.node ≡ Some node → HasRemote node.node remote before → IsOfNode node local → PlanLaw node local remote before }
 {}
 
 /// The tags that an agent takes over from the catalog leave its rows such that the sync law speaks of them.
