@@ -2,7 +2,7 @@
 use Rattle.std.proofs.Common.{◌≡◌, ℕ, zero, suc, ◌+◌, ◌-◌, ◌<◌, ◌≤◌, List, [], ◌∷◌, ◌++◌, length, take, drop, refl, sym, ap, subst, ◌∙◌, arith, inl, inr, append_assoc, Result, Ok, Err}
 use Rattle.std.proofs.lemmas.Bool.{cases_lt}
 use Rattle.std.proofs.lemmas.List.{length-append, append-nil}
-use Rattle.std.specs.Prelude.{◌⊎◌}
+use Rattle.std.specs.Prelude.{◌⊎◌, IfOk}
 use Rattle.cat_model.specs.declared.command.Command.{Command}
 use Rattle.cat_model.specs.Spelling.{spelling}
 use Rattle.cat_model.specs.Bounds.{InBounds}
@@ -121,8 +121,9 @@ whenever_bad (Err (answers.Bad other)) s says at bad =
     inl (ap (λ (n : ℕ). Err (answers.Bad n)) same)
 whenever_bad (Err answers.Memory) s says at bad = inr refl
 
-pub says_ok : (r : Result (Command × ℕ) DecodeFault) (s : List ℕ) → Says r s → (found : Command × ℕ) → r ≡ Ok found → Begins found.0 found.1 s
-says_ok r s says found e = subst (λ x. Says x s) e says
+pub if_ok : (r : Result (Command × ℕ) DecodeFault) (s : List ℕ) → Says r s → IfOk r (λ found. Begins found.0 found.1 s)
+if_ok (Ok found) s says = says
+if_ok (Err fault) s says = tt
 
 pub says_cut : (r : Result (Command × ℕ) DecodeFault) (s : List ℕ) → Says r s → r ≡ Err answers.Cut → IsCut s
 says_cut r s says e = subst (λ x. Says x s) e says

@@ -1,5 +1,5 @@
 -- What was read is the command that the bytes spell, and each fault is the command's own.
-use Rattle.std.proofs.Common.{◌≡◌, ℕ, zero, suc, ◌+◌, ◌-◌, ◌^◌, ◌<◌, ◌≤◌, nat_eq, Bool, true, false, cond, List, [], ◌∷◌, ◌++◌, length, take, drop, refl, sym, ap, subst, ◌∙◌, arith, inl, inr, append_assoc, Result, Ok, Err}
+use Rattle.std.proofs.Common.{◌≡◌, ℕ, zero, suc, ◌+◌, ◌-◌, ◌^◌, ◌<◌, ◌≤◌, nat_eq, Bool, true, false, cond, List, [], ◌∷◌, ◌++◌, length, get_or, refl, sym, ap, subst, ◌∙◌, arith, inl, inr, append_assoc, Result, Ok, Err}
 use Rattle.std.proofs.lemmas.Bool.{cases_lt, cases_eq}
 use Rattle.std.proofs.lemmas.Bool.Decides.{nat_tests}
 use Rattle.std.proofs.lemmas.List.{length-append, append-nil}
@@ -156,3 +156,17 @@ command_right (version ∷ rest) bytes = elim (cases_eq version 1) [
   | inr h ↦ subst (λ (out : Read Command). Right Spelled (version ∷ rest) out) (sym (not_version version _ _ h))
       (bad_byte (Word Spelled) version rest opens_spelled (other_version version h))
   ]
+
+-- ---- each answer of the reader
+pub bytes_of : (s : List ℕ) → ((i : ℕ) → get_or s i 0 < 256) → IsBytes s
+bytes_of [] h = tt
+bytes_of (b ∷ s) h = (h 0, bytes_of s (λ i. h (suc i)))
+
+pub read_found : (s : List ℕ) → ((i : ℕ) → get_or s i 0 < 256) → (c : Command) (r : List ℕ) → command_at s ≡ Ok (c, r) → Found Spelled s c r
+read_found s h c r e = subst (λ (out : Read Command). Right Spelled s out) e (command_right s (bytes_of s h))
+
+pub read_cut : (s : List ℕ) → ((i : ℕ) → get_or s i 0 < 256) → command_at s ≡ Err Cut → Opens (Word Spelled) s
+read_cut s h e = subst (λ (out : Read Command). Right Spelled s out) e (command_right s (bytes_of s h))
+
+pub read_bad : (s : List ℕ) → ((i : ℕ) → get_or s i 0 < 256) → (left : ℕ) → command_at s ≡ Err (Bad left) → Stops (Word Spelled) s left
+read_bad s h left e = subst (λ (out : Read Command). Right Spelled s out) e (command_right s (bytes_of s h))
