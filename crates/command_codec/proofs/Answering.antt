@@ -60,7 +60,7 @@ module _ (s : List ℕ) (left : ℕ) (o : Stops (Word Spelled) s left) where
     | inl p ↦ no_shorter o.opens.spelled.of c p.0 o.opens.next o.opens.more o.opens.spelled.is.valid b.bounds
         (sym o.opens.spelled.is.is ∙ ap (λ l. l ++ o.opens.next ∷ o.opens.more) p.1 ∙ append_assoc (spelling c) p.0 (o.opens.next ∷ o.opens.more))
     | inr p ↦ o.never p.0 (record { of = c; is = record { valid = b.bounds; is = sym p.1 } })
-    ]
+  ]
 
   at_good : length s - left ≡ length o.good
   at_good =
@@ -77,7 +77,7 @@ module _ (s : List ℕ) (left : ℕ) (o : Stops (Word Spelled) s left) where
   longest_of n h p = elim (cases_lt (length o.good) n) [
     | inl g ↦ absurd (let past = take_past o.good o.bad o.more n g in never_prefix past.0 (subst IsPrefix (ap (λ l. take n l) o.is ∙ past.1) p))
     | inr g ↦ (let same : length s - left ≡ length o.good = at_good in omega arith)
-    ]
+  ]
 
   pub bad_of : IsBad s (length s - left)
   bad_of = record {

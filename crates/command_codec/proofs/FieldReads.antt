@@ -63,7 +63,7 @@ bytes_reads n = record {
         record { next = 0; more = replicate (n - length s - 1) 0; spelled = record { of = s ++ 0 ∷ replicate (n - length s - 1) 0; is = record { valid = record { long = filled n s h; bytes = joined_bytes s (0 ∷ replicate (n - length s - 1) 0) bytes (omega arith, zeros (n - length s - 1)) }; is = refl } } }
     | inr h ↦ subst (λ (out : Read (List ℕ)). Right (Single itself (Exactly n)) s out) (sym (no (length s) n _ _ h))
         record { word = take n s; spelled = record { valid = record { long = length-take-le n s h; bytes = front_bytes (take n s) (drop n s) (subst IsBytes (sym (take-append-drop n s)) bytes) }; is = refl }; is = sym (take-append-drop n s) }
-    ];
+  ];
   sample = replicate n 0;
   word = record { of = replicate n 0; is = record { valid = record { long = length-replicate n 0; bytes = zeros n }; is = refl } };
 }
@@ -96,7 +96,7 @@ unfolding value_at
 value_reads =
     reads_to (Then number_bytes (Between 0 524288) (λ n. Single itself (Exactly n))) (Single text_bytes IsValue) value_to value_from value_at
     (then_reads number_bytes (Between 0 524288) (λ n. Single itself (Exactly n)) (number_field (Between 0 524288)) (number_at 0 524288)
-        (number_reads 0 524288 (omega arith) (omega arith) (omega arith)) (λ n. bytes_at n.0 n.1) (λ n v. bytes_reads n))
+    (number_reads 0 524288 (omega arith) (omega arith) (omega arith)) (λ n. bytes_at n.0 n.1) (λ n v. bytes_reads n))
 
 -- one of some choices, by its place
 module _ {A : Type 0} (choices : List A) (f : A → List ℕ) (first : A)

@@ -68,8 +68,8 @@ prefix_cases (x ∷ a) (y ∷ good) rest b t e =
     let h : x ≡ y = cc in
     let more : a ++ rest ≡ good ++ b ∷ t = cc in
     elim (prefix_cases a good rest b t more) [
-    | inl p ↦ inl (p.0, (let q : good ≡ a ++ p.0 = p.1 in cc))
-    | inr p ↦ inr (p.0, (let q : a ≡ good ++ b ∷ p.0 = p.1 in cc))
+      | inl p ↦ inl (p.0, (let q : good ≡ a ++ p.0 = p.1 in cc))
+      | inr p ↦ inr (p.0, (let q : a ≡ good ++ b ∷ p.0 = p.1 in cc))
     ]
 
 module _ {A C : Type 0} (f : A → List ℕ) (V : A → Type 0) (G : A → C → List ℕ → Type 0) (field : Field f V) where
@@ -126,8 +126,8 @@ module _ {A C : Type 0} (f : A → List ℕ) (V : A → Type 0) (G : A → C →
     never_early : (good : List ℕ) (bad : ℕ) → Opens (Word (Single f V)) good → ((t : List ℕ) → Word (Single f V) (good ++ bad ∷ t) → ⊥) → (t : List ℕ) → Word (Then f V G) (good ++ bad ∷ t) → ⊥
     never_early good bad o never t w =
         elim (prefix_cases (f w.is.head) good w.is.rest bad t (sym w.is.is)) [
-        | inl p ↦ no_shorter o.spelled.of w.is.head o.spelled.is.valid w.is.valid p.0 o.next o.more (sym o.spelled.is.is ∙ ap (λ l. l ++ o.next ∷ o.more) p.1 ∙ append_assoc (f w.is.head) p.0 (o.next ∷ o.more))
-        | inr p ↦ never p.0 (record { of = w.is.head; is = record { valid = w.is.valid; is = sym p.1 } })
+          | inl p ↦ no_shorter o.spelled.of w.is.head o.spelled.is.valid w.is.valid p.0 o.next o.more (sym o.spelled.is.is ∙ ap (λ l. l ++ o.next ∷ o.more) p.1 ∙ append_assoc (f w.is.head) p.0 (o.next ∷ o.more))
+          | inr p ↦ never p.0 (record { of = w.is.head; is = record { valid = w.is.valid; is = sym p.1 } })
         ]
 
     early : (s : List ℕ) (fault : Fault) → Flawed (Word (Single f V)) s fault → Flawed (Word (Then f V G)) s fault

@@ -20,9 +20,9 @@ module _ {A : Type 0} (item : List ℕ → Read A) where
   goes_on front count i bytes x after total lt h so_far =
       let k : count - i ≡ suc (count - (i + 1)) = omega arith in
       let one : with_front front (items_at item (count - i) bytes) ≡ with_front (front ++ x ∷ []) (items_at item (count - (i + 1)) after) =
-          ap (λ (n : ℕ). with_front front (items_at item n bytes)) k
-          ∙ ap (λ (r : Read A). with_front front (r >>= λ first. items_at item (count - (i + 1)) first.1 >>= λ others. Ok (first.0 ∷ others.0, others.1))) h
-          ∙ regroup front x (items_at item (count - (i + 1)) after) in
+      ap (λ (n : ℕ). with_front front (items_at item n bytes)) k
+      ∙ ap (λ (r : Read A). with_front front (r >>= λ first. items_at item (count - (i + 1)) first.1 >>= λ others. Ok (first.0 ∷ others.0, others.1))) h
+      ∙ regroup front x (items_at item (count - (i + 1)) after) in
       sym one ∙ so_far
 
   pub ends : (e : ReadError) (front : List A) (count i : ℕ) (bytes : List ℕ) (total : Read (List A)) → i < count → Fails e (item bytes)
@@ -31,13 +31,13 @@ module _ {A : Type 0} (item : List ℕ → Read A) where
   ends (errors.Fault f) front count i bytes total lt h so_far =
       let k : count - i ≡ suc (count - (i + 1)) = omega arith in
       let one : with_front front (items_at item (count - i) bytes) ≡ Err f =
-          ap (λ (n : ℕ). with_front front (items_at item n bytes)) k
-          ∙ ap (λ (r : Read A). with_front front (r >>= λ first. items_at item (count - (i + 1)) first.1 >>= λ others. Ok (first.0 ∷ others.0, others.1))) h in
+      ap (λ (n : ℕ). with_front front (items_at item n bytes)) k
+      ∙ ap (λ (r : Read A). with_front front (r >>= λ first. items_at item (count - (i + 1)) first.1 >>= λ others. Ok (first.0 ∷ others.0, others.1))) h in
       sym so_far ∙ one
 
   pub is_done : (front : List A) (count i : ℕ) (bytes : List ℕ) (total : Read (List A)) → count ≤ i → with_front front (items_at item (count - i) bytes) ≡ total → total ≡ Ok (front, bytes)
   is_done front count i bytes total le so_far =
       let k : count - i ≡ 0 = omega arith in
       let one : with_front front (items_at item (count - i) bytes) ≡ Ok (front, bytes) =
-          ap (λ (n : ℕ). with_front front (items_at item n bytes)) k ∙ ap (λ (xs : List A). Ok (xs, bytes)) (append-nil front) in
+      ap (λ (n : ℕ). with_front front (items_at item n bytes)) k ∙ ap (λ (xs : List A). Ok (xs, bytes)) (append-nil front) in
       sym so_far ∙ one

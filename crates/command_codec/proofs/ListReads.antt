@@ -57,13 +57,13 @@ unfolding half_at
 half_reads =
     reads_to HalfFormat (Single (to_be_bytes w64) Half) half_to half_from half_at
     (then_reads itself (Exactly 8) (λ eight. Done (from_be_bytes w64 eight)) (itself_field (Exactly 8) 8 (λ x v. v.long)) (bytes_at 8) (bytes_reads 8)
-        (λ eight. Ok (from_be_bytes w64 eight.0, eight.1)) (λ eight v. done_reads (from_be_bytes w64 eight)))
+    (λ eight. Ok (from_be_bytes w64 eight.0, eight.1)) (λ eight v. done_reads (from_be_bytes w64 eight)))
 
 half_field : Field (to_be_bytes w64) Half
 half_field = record {
   unique = λ x y r s v w e.
-    let one = fronts (to_be_bytes w64 x) (to_be_bytes w64 y) r s refl e in
-    (sym (from_be_bytes-to_be_bytes_8 x v) ∙ ap (from_be_bytes w64) one.0 ∙ from_be_bytes-to_be_bytes_8 y w, one.1);
+      let one = fronts (to_be_bytes w64 x) (to_be_bytes w64 y) r s refl e in
+      (sym (from_be_bytes-to_be_bytes_8 x v) ∙ ap (from_be_bytes w64) one.0 ∙ from_be_bytes-to_be_bytes_8 y w, one.1);
 }
 
 abbrev IdFormat : ℕ → List ℕ → Type 0
@@ -98,9 +98,9 @@ unfolding id_at
 id_reads =
     reads_to IdFormat (Single id_bytes IsId) id_to id_from id_at
     (then_reads (to_be_bytes w64) Half (λ upper. Then (to_be_bytes w64) Half (λ lower. Done (upper * 18446744073709551616 + lower))) half_field half_at half_reads
-        (λ upper. half_at upper.1 >>= λ lower. Ok (upper.0 * 18446744073709551616 + lower.0, lower.1))
-        (λ upper v. then_reads (to_be_bytes w64) Half (λ lower. Done (upper * 18446744073709551616 + lower)) half_field half_at half_reads
-            (λ lower. Ok (upper * 18446744073709551616 + lower.0, lower.1)) (λ lower w. done_reads (upper * 18446744073709551616 + lower))))
+    (λ upper. half_at upper.1 >>= λ lower. Ok (upper.0 * 18446744073709551616 + lower.0, lower.1))
+    (λ upper v. then_reads (to_be_bytes w64) Half (λ lower. Done (upper * 18446744073709551616 + lower)) half_field half_at half_reads
+    (λ lower. Ok (upper * 18446744073709551616 + lower.0, lower.1)) (λ lower w. done_reads (upper * 18446744073709551616 + lower))))
 
 -- an option: a flag, and behind a 1 the value
 module _ {A : Type 0} (f : A → List ℕ) (V : A → Type 0) (field : Field f V) (read : List ℕ → Read A) (reads : Reads (Single f V) read) where
@@ -175,9 +175,9 @@ module _ {A : Type 0} (f : A → List ℕ) (V : A → Type 0) (field : Field f V
       let ih = items_reads n in
       reads_to (Cons n) (Single (flat_map f) (Items (suc n))) (cons_to n) (cons_from n) (items_at read (suc n))
       (then_reads f V (λ first. Then (flat_map f) (Items n) (λ others. Done (first ∷ others))) field read reads
-          (λ first. items_at read n first.1 >>= λ others. Ok (first.0 ∷ others.0, others.1))
-          (λ first v. then_reads (flat_map f) (Items n) (λ others. Done (first ∷ others)) (items_field n) (items_at read n) ih
-              (λ others. Ok (first ∷ others.0, others.1)) (λ others w. done_reads (first ∷ others))))
+      (λ first. items_at read n first.1 >>= λ others. Ok (first.0 ∷ others.0, others.1))
+      (λ first v. then_reads (flat_map f) (Items n) (λ others. Done (first ∷ others)) (items_field n) (items_at read n) ih
+      (λ others. Ok (first ∷ others.0, others.1)) (λ others w. done_reads (first ∷ others))))
 
   module _ (most : ℕ) (fits : most < 2 ^ 64) where
     abbrev Counted : List A → List ℕ → Type 0
@@ -209,4 +209,4 @@ module _ {A : Type 0} (f : A → List ℕ) (V : A → Type 0) (field : Field f V
     list_reads =
         reads_to Counted (Single (list_bytes f) (IsListOf most V)) list_to list_from (list_at most read)
         (then_reads number_bytes (Between 0 most) (λ n. Single (flat_map f) (Items n)) (number_field (Between 0 most)) (number_at 0 most)
-            (number_reads 0 most (omega arith) fits (omega arith)) (λ n. items_at read n.0 n.1) (λ n v. items_reads n))
+        (number_reads 0 most (omega arith) fits (omega arith)) (λ n. items_at read n.0 n.1) (λ n v. items_reads n))

@@ -30,20 +30,20 @@ first_le zero n b t e = let f : b ∷ t ≡ n ∷ [] = e ∙ number_end n in let
 first_le (suc k) n b t e = elim (cases_lt n 128) [
   | inl h ↦ (let f : b ∷ t ≡ n ∷ [] = e ∙ low_byte k n h in let g : b ≡ n = cc in omega arith)
   | inr h ↦ (let f : b ∷ t ≡ (128 + n % 128) ∷ number_within k (n / 128) = e ∙ high_byte k n h in let g : b ≡ 128 + n % 128 = cc in omega arith)
-  ]
+]
 
 low_first : (k n b : ℕ) (t : List ℕ) → b ∷ t ≡ number_within k n → b < 128 → n ≡ b
 low_first zero n b t e l = let f : b ∷ t ≡ n ∷ [] = e ∙ number_end n in cc
 low_first (suc k) n b t e l = elim (cases_lt n 128) [
   | inl h ↦ (let f : b ∷ t ≡ n ∷ [] = e ∙ low_byte k n h in cc)
   | inr h ↦ absurd (let f : b ∷ t ≡ (128 + n % 128) ∷ number_within k (n / 128) = e ∙ high_byte k n h in let g : b ≡ 128 + n % 128 = cc in omega arith)
-  ]
+]
 
 high_first : (k n b : ℕ) (t : List ℕ) → b ∷ t ≡ number_within (suc k) n → 128 ≤ b → (128 ≤ n) × (b ≡ 128 + n % 128) × (t ≡ number_within k (n / 128))
 high_first k n b t e l = elim (cases_lt n 128) [
   | inl h ↦ absurd (let f : b ∷ t ≡ n ∷ [] = e ∙ low_byte k n h in let g : b ≡ n = cc in omega arith)
   | inr h ↦ (let f : b ∷ t ≡ (128 + n % 128) ∷ number_within k (n / 128) = e ∙ high_byte k n h in (h, cc, cc))
-  ]
+]
 
 -- each number has bytes
 some_bytes : (k n : ℕ) → (b : ℕ) × (t : List ℕ) × (number_within k n ≡ b ∷ t)
@@ -51,7 +51,7 @@ some_bytes zero n = (n, [], number_end n)
 some_bytes (suc k) n = elim (cases_lt n 128) [
   | inl h ↦ (n, [], low_byte k n h)
   | inr h ↦ (128 + n % 128, number_within k (n / 128), high_byte k n h)
-  ]
+]
 
 opens_none : (k least most : ℕ) → least ≤ most → Opens (Word (Number k least most)) []
 opens_none k least most le =
@@ -113,19 +113,19 @@ number_right zero least most le fits small (b ∷ rest) bytes = elim (cases_lt m
   | inr h ↦ (let l : b < 128 = omega arith in elim (cases_lt b least) [
     | inl g ↦ subst (λ (out : Read ℕ). Right (Number zero least most) (b ∷ rest) out) (sym (no most b _ _ h ∙ yes b 128 _ _ l ∙ yes b least _ _ g)) (below_least zero least most b rest le l g)
     | inr g ↦ subst (λ (out : Read ℕ). Right (Number zero least most) (b ∷ rest) out) (sym (no most b _ _ h ∙ yes b 128 _ _ l ∙ no b least _ _ g)) (one_byte zero least most b rest g h l)
-    ])
-  ]
+  ])
+]
 number_right (suc k) least most le fits small (b ∷ rest) bytes =
     let ih = number_right k 1 ((most - (b - 128)) / 128) in
     elim (cases_lt most b) [
-    | inl h ↦ subst (λ (out : Read ℕ). Right (Number (suc k) least most) (b ∷ rest) out) (sym (yes most b _ _ h)) (above_most (suc k) least most b rest le h)
-    | inr h ↦ elim (cases_lt b 128) [
-      | inl l ↦ elim (cases_lt b least) [
-        | inl g ↦ subst (λ (out : Read ℕ). Right (Number (suc k) least most) (b ∷ rest) out) (sym (no most b _ _ h ∙ yes b 128 _ _ l ∙ yes b least _ _ g)) (below_least (suc k) least most b rest le l g)
-        | inr g ↦ subst (λ (out : Read ℕ). Right (Number (suc k) least most) (b ∷ rest) out) (sym (no most b _ _ h ∙ yes b 128 _ _ l ∙ no b least _ _ g)) (one_byte (suc k) least most b rest g h l)
+      | inl h ↦ subst (λ (out : Read ℕ). Right (Number (suc k) least most) (b ∷ rest) out) (sym (yes most b _ _ h)) (above_most (suc k) least most b rest le h)
+      | inr h ↦ elim (cases_lt b 128) [
+        | inl l ↦ elim (cases_lt b least) [
+          | inl g ↦ subst (λ (out : Read ℕ). Right (Number (suc k) least most) (b ∷ rest) out) (sym (no most b _ _ h ∙ yes b 128 _ _ l ∙ yes b least _ _ g)) (below_least (suc k) least most b rest le l g)
+          | inr g ↦ subst (λ (out : Read ℕ). Right (Number (suc k) least most) (b ∷ rest) out) (sym (no most b _ _ h ∙ yes b 128 _ _ l ∙ no b least _ _ g)) (one_byte (suc k) least most b rest g h l)
         ]
-      | inr l ↦ subst (λ (out : Read ℕ). Right (Number (suc k) least most) (b ∷ rest) out) (sym (no most b _ _ h ∙ no b 128 _ _ l))
-          (more_bytes k least most b small h l bytes.0 rest (number_at 1 ((most - (b - 128)) / 128) rest) (ih (omega arith) (less k most b fits) (omega arith) rest bytes.1))
+        | inr l ↦ subst (λ (out : Read ℕ). Right (Number (suc k) least most) (b ∷ rest) out) (sym (no most b _ _ h ∙ no b 128 _ _ l))
+            (more_bytes k least most b small h l bytes.0 rest (number_at 1 ((most - (b - 128)) / 128) rest) (ih (omega arith) (less k most b fits) (omega arith) rest bytes.1))
       ]
     ]
 

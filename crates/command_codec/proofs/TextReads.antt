@@ -70,10 +70,10 @@ range_of b = elim (cases_eq b 224) [
       | inr k ↦ elim (cases_eq b 244) [
         | inl e ↦ (let f : second_from b ≡ 128 = ap second_from e in let g : second_to b ≡ 143 = ap second_to e in omega arith)
         | inr j ↦ (let f : second_from b ≡ 128 = grind (arith, nat_tests) in let g : second_to b ≡ 191 = grind (arith, nat_tests) in omega arith)
-        ]
       ]
     ]
   ]
+]
 
 -- at least as long as what has to follow
 follow_long : (more low high : ℕ) (t : List ℕ) → Follow more low high t → more ≤ length t
@@ -116,14 +116,14 @@ by_start n low high b false e = first_none n low high b e
 by_start n low high b true e = elim (cases_lt n (following b)) [
   | inl h ↦ subst (λ (o : Option Awaited). StepIs n (record { more = 0; low = low; high = high }) b o) (sym (yes n (following b) _ _ h)) (first_long n low high b h)
   | inr h ↦ subst (λ (o : Option Awaited). StepIs n (record { more = 0; low = low; high = high }) b o) (sym (no n (following b) _ _ h)) (first_steps n low high b e h)
-  ]
+]
 
 later_step : (n more low high b : ℕ) → text_step n (record { more = suc more; low = low; high = high }) b
     ≡ cond (nat_lt b low) None (cond (nat_lt high b) None (Some (record { more = suc more - 1; low = 128; high = 191 })))
 later_step n more low high b =
     let e : nat_eq (suc more) 0 ≡ false = grind (arith, nat_tests) in
     ap (λ (s : Bool). cond s (cond (starts b) (cond (nat_lt n (following b)) None (Some (record { more = following b; low = second_from b; high = second_to b }))) None)
-        (cond (nat_lt b low) None (cond (nat_lt high b) None (Some (record { more = suc more - 1; low = 128; high = 191 }))))) e
+    (cond (nat_lt b low) None (cond (nat_lt high b) None (Some (record { more = suc more - 1; low = 128; high = 191 }))))) e
 
 step_is : (n more low high b : ℕ) → Sound (suc n) (record { more = more; low = low; high = high }) → StepIs n (record { more = more; low = low; high = high }) b (text_step n (record { more = more; low = low; high = high }) b)
 step_is n zero low high b sound = by_start n low high b (starts b) refl
@@ -131,11 +131,11 @@ step_is n (suc more) low high b sound =
     let room : suc more ≤ suc n = sound.room in
     let less : more ≡ suc more - 1 = omega arith in
     elim (cases_lt b low) [
-    | inl h ↦ subst (λ (o : Option Awaited). StepIs n (record { more = suc more; low = low; high = high }) b o) (sym (later_step n more low high b ∙ yes b low _ _ h)) (λ t c. let g : low ≤ b = c.follow.0 in omega arith)
-    | inr h ↦ elim (cases_lt high b) [
-      | inl g ↦ subst (λ (o : Option Awaited). StepIs n (record { more = suc more; low = low; high = high }) b o) (sym (later_step n more low high b ∙ no b low _ _ h ∙ yes high b _ _ g)) (λ t c. let k : b ≤ high = c.follow.1 in omega arith)
-      | inr g ↦ subst (λ (o : Option Awaited). StepIs n (record { more = suc more; low = low; high = high }) b o) (sym (later_step n more low high b ∙ no b low _ _ h ∙ no high b _ _ g))
-          (subst (λ (m : ℕ). Steps n (record { more = suc more; low = low; high = high }) (record { more = m; low = 128; high = 191 }) b) less (next_steps n more low high b (omega arith) h g))
+      | inl h ↦ subst (λ (o : Option Awaited). StepIs n (record { more = suc more; low = low; high = high }) b o) (sym (later_step n more low high b ∙ yes b low _ _ h)) (λ t c. let g : low ≤ b = c.follow.0 in omega arith)
+      | inr h ↦ elim (cases_lt high b) [
+        | inl g ↦ subst (λ (o : Option Awaited). StepIs n (record { more = suc more; low = low; high = high }) b o) (sym (later_step n more low high b ∙ no b low _ _ h ∙ yes high b _ _ g)) (λ t c. let k : b ≤ high = c.follow.1 in omega arith)
+        | inr g ↦ subst (λ (o : Option Awaited). StepIs n (record { more = suc more; low = low; high = high }) b o) (sym (later_step n more low high b ∙ no b low _ _ h ∙ no high b _ _ g))
+            (subst (λ (m : ℕ). Steps n (record { more = suc more; low = low; high = high }) (record { more = m; low = 128; high = 191 }) b) less (next_steps n more low high b (omega arith) h g))
       ]
     ]
 
@@ -231,7 +231,7 @@ module _ (least most : ℕ) (le : least ≤ most) (fits : most < 2 ^ 64) (small 
   text_reads =
       reads_to Counted (Single text_bytes (IsTextOf least most)) text_to text_from (text_at least most)
       (then_reads number_bytes (Between least most) (λ n. Single itself (Utf8Of n)) (number_field (Between least most)) (number_at least most)
-          (number_reads least most le fits small) (λ n. utf8_at n.0 n.1) (λ n v. utf8_reads n))
+      (number_reads least most le fits small) (λ n. utf8_at n.0 n.1) (λ n v. utf8_reads n))
 
 -- no fault: the front is a text
 pub whole_of : (n : ℕ) (s : List ℕ) → text_fault n no_more s ≡ None → Whole n no_more s

@@ -59,9 +59,9 @@ starts_range b e = elim (cases_lt b 128) [
     | inr g ↦ elim (cases_lt b 245) [
       | inl k ↦ inr (g, k)
       | inr k ↦ absurd (let f : starts b ≡ false = grind (arith, nat_tests, ltb-false, ltb-true) in cc)
-      ]
     ]
   ]
+]
 
 following_0 : (b : ℕ) → b < 128 → following b ≡ 0
 following_0 b h = grind (arith, nat_tests, ltb-false, ltb-true)
@@ -82,8 +82,8 @@ from_le b y h f g = elim (cases_eq b 224) [
   | inr n ↦ elim (cases_eq b 240) [
     | inl e ↦ (let s : second_from b ≡ 144 = ap second_from e in let k : 144 ≤ y = g e in omega arith)
     | inr m ↦ (let s : second_from b ≡ 128 = grind (arith, nat_tests) in omega arith)
-    ]
   ]
+]
 
 le_from : (b y : ℕ) → second_from b ≤ y → (128 ≤ y) × (b ≡ 224 → 160 ≤ y) × (b ≡ 240 → 144 ≤ y)
 le_from b y h = elim (cases_eq b 224) [
@@ -91,8 +91,8 @@ le_from b y h = elim (cases_eq b 224) [
   | inr n ↦ elim (cases_eq b 240) [
     | inl e ↦ (let s : second_from b ≡ 144 = ap second_from e in (omega arith, λ q. absurd (n q), λ _. omega arith))
     | inr m ↦ (let s : second_from b ≡ 128 = grind (arith, nat_tests) in (omega arith, λ e. absurd (n e), λ e. absurd (m e)))
-    ]
   ]
+]
 
 to_le : (b y : ℕ) → y ≤ 191 → (b ≡ 237 → y ≤ 159) → (b ≡ 244 → y ≤ 143) → y ≤ second_to b
 to_le b y h f g = elim (cases_eq b 237) [
@@ -100,8 +100,8 @@ to_le b y h f g = elim (cases_eq b 237) [
   | inr n ↦ elim (cases_eq b 244) [
     | inl e ↦ (let s : second_to b ≡ 143 = ap second_to e in let k : y ≤ 143 = g e in omega arith)
     | inr m ↦ (let s : second_to b ≡ 191 = grind (arith, nat_tests) in omega arith)
-    ]
   ]
+]
 
 le_to : (b y : ℕ) → y ≤ second_to b → (y ≤ 191) × (b ≡ 237 → y ≤ 159) × (b ≡ 244 → y ≤ 143)
 le_to b y h = elim (cases_eq b 237) [
@@ -109,8 +109,8 @@ le_to b y h = elim (cases_eq b 237) [
   | inr n ↦ elim (cases_eq b 244) [
     | inl e ↦ (let s : second_to b ≡ 143 = ap second_to e in (omega arith, λ q. absurd (n q), λ _. omega arith))
     | inr m ↦ (let s : second_to b ≡ 191 = grind (arith, nat_tests) in (omega arith, λ e. absurd (n e), λ e. absurd (m e)))
-    ]
   ]
+]
 
 -- ---- a text is its first character and a text
 pub record Begun (b : ℕ) (t : List ℕ) : Type 0 where
@@ -144,7 +144,7 @@ char_3 c b t r l h s u e =
     let no_surrogate : b ≡ 237 → 128 + c / 64 % 64 ≤ 159 = elim s [ inl g ↦ (λ q. omega arith) | inr g ↦ (λ q. omega arith) ] in
     begun b t 2 (starts_high b (omega arith) (omega arith)) (following_2 b (omega arith) (omega arith))
     (subst (λ (x : List ℕ). Follow 2 (second_from b) (second_to b) x) rest
-        (from_le b (128 + c / 64 % 64) (omega arith) (λ q. omega arith) (λ q. omega arith), to_le b (128 + c / 64 % 64) (omega arith) no_surrogate (λ q. omega arith), (omega arith, omega arith, u)))
+    (from_le b (128 + c / 64 % 64) (omega arith) (λ q. omega arith) (λ q. omega arith), to_le b (128 + c / 64 % 64) (omega arith) no_surrogate (λ q. omega arith), (omega arith, omega arith, u)))
 
 char_4 : (c b : ℕ) (t r : List ℕ) → 65536 ≤ c → c < 1114112 → IsUtf8 r → encode c ++ r ≡ b ∷ t → Begun b t
 char_4 c b t r l h u e =
@@ -153,7 +153,7 @@ char_4 c b t r l h u e =
     let rest : (128 + c / 4096 % 64) ∷ (128 + c / 64 % 64) ∷ (128 + c % 64) ∷ r ≡ t = cc in
     begun b t 3 (starts_high b (omega arith) (omega arith)) (following_3 b (omega arith))
     (subst (λ (x : List ℕ). Follow 3 (second_from b) (second_to b) x) rest
-        (from_le b (128 + c / 4096 % 64) (omega arith) (λ q. omega arith) (λ q. omega arith), to_le b (128 + c / 4096 % 64) (omega arith) (λ q. omega arith) (λ q. omega arith), (omega arith, omega arith, (omega arith, omega arith, u))))
+    (from_le b (128 + c / 4096 % 64) (omega arith) (λ q. omega arith) (λ q. omega arith), to_le b (128 + c / 4096 % 64) (omega arith) (λ q. omega arith) (λ q. omega arith), (omega arith, omega arith, (omega arith, omega arith, u))))
 
 char_any : (c b : ℕ) (t r : List ℕ) → (c < 55296) ⊎ ((57344 ≤ c) × (c < 1114112)) → IsUtf8 r → encode c ++ r ≡ b ∷ t → Begun b t
 char_any c b t r s u e = elim (cases_lt c 128) [
@@ -163,9 +163,9 @@ char_any c b t r s u e = elim (cases_lt c 128) [
     | inr g ↦ elim (cases_lt c 65536) [
       | inl k ↦ char_3 c b t r g k s u e
       | inr k ↦ char_4 c b t r k (elim s [ inl q ↦ omega arith | inr q ↦ q.1 ]) u e
-      ]
     ]
   ]
+]
 
 begins : (cs : List ℕ) (b : ℕ) (t : List ℕ) → scalars cs ≡ true → encodes cs ≡ b ∷ t → Begun b t
 begins [] b t s e = cc
@@ -217,8 +217,8 @@ go_3 b (y ∷ z ∷ t) l h f =
       | inr g ↦ elim (cases_eq b 237) [
         | inl e ↦ inl (let k : y ≤ 159 = to.1 e in omega arith)
         | inr n ↦ inr (omega arith)
-        ]
-      ] in
+      ]
+    ] in
     let short : c < 65536 = omega arith in
     let p : 224 + c / 4096 ≡ b = omega arith in
     let q : 128 + c / 64 % 64 ≡ y = omega arith in
@@ -258,6 +258,6 @@ text_goes_on b t g = elim (starts_range b g.starts_so) [
     | inr k ↦ elim (cases_lt b 240) [
       | inl j ↦ go_3 b t k j (at_count b t 2 (following_2 b k j) g.follow)
       | inr j ↦ go_4 b t j h.1 (at_count b t 3 (following_3 b j) g.follow)
-      ]
     ]
   ]
+]

@@ -119,7 +119,7 @@ tagged_right (tag ∷ rest) bytes = elim (cases_lt tag 16) [
   | inl h ↦ tag_right tag rest (fields_at tag rest) ((fields_reads tag h).right rest bytes.1)
   | inr h ↦ subst (λ (out : Read Command). Right Tagged (tag ∷ rest) out) (sym (fields_beyond tag rest h))
       (bad_byte (Word Tagged) tag rest opens_tagged (λ t w. none_beyond tag w.of t h (tag_from tag w.of t w.is)))
-  ]
+]
 
 -- ---- the version and the rest
 abbrev pub Spelled : Command → List ℕ → Type 0
@@ -155,7 +155,7 @@ command_right (version ∷ rest) bytes = elim (cases_eq version 1) [
       (subst (λ (v : ℕ). Right Spelled (v ∷ rest) (tagged_at rest)) (sym h) (version_right rest (tagged_at rest) (tagged_right rest bytes.1)))
   | inr h ↦ subst (λ (out : Read Command). Right Spelled (version ∷ rest) out) (sym (not_version version _ _ h))
       (bad_byte (Word Spelled) version rest opens_spelled (other_version version h))
-  ]
+]
 
 -- ---- each answer of the reader
 pub bytes_of : (s : List ℕ) → ((i : ℕ) → get_or s i 0 < 256) → IsBytes s

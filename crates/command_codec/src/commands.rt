@@ -2,9 +2,7 @@ ghost use Rattle.std.specs.Prelude.{◌≡◌, length};
 ghost use Rattle.command_codec.specs.Reading.{Gives, command_at, deregister_at, fields_at, kv_cas_at, kv_delete_at, kv_delete_cas_at, kv_delete_tree_at, kv_lock_at, kv_set_at, kv_unlock_at, query_delete_at, query_set_at, register_at, session_create_at, session_destroy_at, tagged_at, txn_at};
 
 use crate::fault::{Fault, ReadError};
-use crate::fields::{
-    read_behavior, read_flag, read_id, read_number, read_session, read_value,
-};
+use crate::fields::{read_behavior, read_flag, read_id, read_number, read_session, read_value};
 use crate::lists::{read_any_text, read_checks, read_ops, read_service_if_any, read_texts};
 use crate::texts::read_text;
 use cat_model::Command;

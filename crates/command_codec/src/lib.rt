@@ -12,3 +12,6 @@ mod texts;
 pub use decoding::decode;
 pub use encoding::encode;
 pub use fault::DecodeFault;
+
+#[cfg(test)]
+mod tests;
