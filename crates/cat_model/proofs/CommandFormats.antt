@@ -55,11 +55,11 @@ also rest x v more = record { head = x; valid = v; rest = rest; next = more; is 
 end : {C : Type 0} (x : C) → Done x x []
 end x = record { same = refl; none = refl }
 
-service_spelled : (s : NewService) → IsService s → ServiceFormat s (service_bytes s)
+pub service_spelled : (s : NewService) → IsService s → ServiceFormat s (service_bytes s)
 unfolding service_bytes
 service_spelled s v = also _ s.id v.id (also _ s.name v.name (also _ s.tags v.tags (also _ s.address v.address (also _ s.port v.port (also _ s.tag_override tt (end s))))))
 
-service_field : Field service_bytes IsService
+pub service_field : Field service_bytes IsService
 service_field = field_from_unique service_bytes IsService ServiceFormat service_spelled service_unique
 
 check_unique : Unique CheckFormat
@@ -67,11 +67,11 @@ check_unique =
     next (text_field IsText) (λ id _. next (text_field IsText) (λ name _. next (status_field Any) (λ status _.
     next (text_field IsText) (λ notes _. next (text_field IsText) (λ output _. next (text_field IsText) (λ service _. done_unique _))))))
 
-check_spelled : (s : NewCheck) → IsCheck s → CheckFormat s (check_bytes s)
+pub check_spelled : (s : NewCheck) → IsCheck s → CheckFormat s (check_bytes s)
 unfolding check_bytes
 check_spelled s v = also _ s.id v.id (also _ s.name v.name (also _ s.status tt (also _ s.notes v.notes (also _ s.output v.output (also _ s.service v.service (end s))))))
 
-check_field : Field check_bytes IsCheck
+pub check_field : Field check_bytes IsCheck
 check_field = field_from_unique check_bytes IsCheck CheckFormat check_spelled check_unique
 
 op_unique : Unique OpFormat
@@ -79,11 +79,11 @@ op_unique =
     next (verb_field Any) (λ verb _. next (text_field (IsKeyOf verb)) (λ key _. next (text_field IsValue) (λ value _.
     next (number_field IsNumber) (λ flags _. next (number_field IsNumber) (λ index _. next (option_field id_bytes IsId id_field) (λ session _. done_unique _))))))
 
-op_spelled : (s : TxnOp) → IsOp s → OpFormat s (op_bytes s)
+pub op_spelled : (s : TxnOp) → IsOp s → OpFormat s (op_bytes s)
 unfolding op_bytes
 op_spelled s v = also _ s.verb tt (also _ s.key v.key (also _ s.value v.value (also _ s.flags v.flags (also _ s.index v.index (also _ s.session v.session (end s))))))
 
-op_field : Field op_bytes IsOp
+pub op_field : Field op_bytes IsOp
 op_field = field_from_unique op_bytes IsOp OpFormat op_spelled op_unique
 
 -- the fields of the sixteen commands, by the tag
@@ -168,7 +168,7 @@ format_after (suc (suc (suc (suc (suc (suc zero)))))) = KvUnlockFormat
 format_after (suc (suc (suc (suc (suc (suc (suc zero))))))) = KvDeleteFormat
 format_after (suc (suc (suc (suc (suc (suc (suc (suc n)))))))) = format_from_8 n
 
-texts : Field (list_bytes text_bytes) (IsList IsText)
+pub texts : Field (list_bytes text_bytes) (IsList IsText)
 texts = list_field text_bytes IsText 1048576 (text_field IsText)
 
 unique_from_8 : (n : ℕ) → Unique (format_from_8 n)

@@ -28,7 +28,7 @@ one_more (suc k) front out n rest f e h = record {
 pub goes_on : (front out : List ℕ) (n rest : ℕ) → Going front out n rest → 128 ≤ rest → Going front (out ++ (128 + rest % 128) ∷ []) n (rest / 128)
 goes_on front out n rest g h = one_more g.more front out n rest g.fits g.so_far h
 
-last : (k rest : ℕ) → rest < 128 → number_within k rest ≡ rest ∷ []
+pub last : (k rest : ℕ) → rest < 128 → number_within k rest ≡ rest ∷ []
 last zero rest h = number_end rest
 last (suc k) rest h = low_byte k rest h
 

@@ -1,1 +1,12 @@
 pub mod Appending
+pub mod TextSteps
+pub mod Grammar
+pub mod NumberReads
+pub mod FieldReads
+pub mod ListReads
+pub mod Utf8
+pub mod TextReads
+pub mod ItemSteps
+pub mod CommandReads
+pub mod Whole
+pub mod Answering

@@ -1,6 +1,17 @@
 //! Commands as bytes and back, by the spelling of `cat_model`.
 #![tactic(auto)]
 
+mod commands;
+mod decoding;
 mod encoding;
+mod fault;
+mod fields;
+mod lists;
+mod texts;
 
+pub use decoding::decode;
 pub use encoding::encode;
+pub use fault::DecodeFault;
+
+#[cfg(test)]
+mod tests;
