@@ -1,0 +1,12 @@
+//! The last positions of the log at which the tables other than that of the keys changed, and at which what belongs to
+//! each service name did. They can be taken back to how they stood at the last `keep`.
+#![tactic(auto)]
+
+mod index;
+mod names;
+mod positions;
+#[cfg(test)]
+mod tests;
+
+pub use index::TableIndex;
+pub use positions::Table;
