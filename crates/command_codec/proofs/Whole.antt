@@ -1,20 +1,16 @@
 -- What was read is the command that the bytes spell, and each fault is the command's own.
-use Rattle.std.proofs.Common.{◌≡◌, ℕ, zero, suc, ◌+◌, ◌-◌, ◌^◌, ◌<◌, ◌≤◌, nat_eq, Bool, true, false, cond, List, [], ◌∷◌, ◌++◌, length, get_or, refl, sym, ap, subst, ◌∙◌, arith, inl, inr, append_assoc, Result, Ok, Err}
+use Rattle.std.proofs.Common.{◌≡◌, ℕ, zero, suc, ◌+◌, ◌<◌, ◌≤◌, nat_eq, cond, List, [], ◌∷◌, length, get_or, refl, sym, ap, subst, ◌∙◌, arith, inl, inr, Ok, Err}
 use Rattle.std.proofs.lemmas.Bool.{cases_lt, cases_eq}
 use Rattle.std.proofs.lemmas.Bool.Decides.{nat_tests}
-use Rattle.std.proofs.lemmas.List.{length-append, append-nil}
-use Rattle.std.specs.Prelude.{◌⊎◌}
 use Rattle.std.specs.List.{concat}
 use Rattle.cat_model.specs.declared.command.Command.{Command}
-use Rattle.cat_model.specs.declared.command.Command.TheVariants.{Noop, Register, Deregister, KvSet, KvCas, KvLock, KvUnlock, KvDelete, KvDeleteCas, KvDeleteTree, Txn, SessionCreate, SessionDestroy, QuerySet, QueryDelete, Reap}
+use Rattle.cat_model.specs.declared.command.Command.TheVariants.{Noop}
 use Rattle.cat_model.specs.Spelling.{tag_of, fields_of, spelling}
 use Rattle.cat_model.specs.Bounds.{InBounds}
-use Rattle.cat_model.proofs.Formats.{Then, Done}
-use Rattle.cat_model.proofs.CommandFormats.{format_after, format_from_8, spelled_after, spelling_unique}
-use Rattle.command_codec.specs.declared.fault.Fault.{Fault}
+use Rattle.cat_model.proofs.CommandFormats.{format_after, format_from_8, spelled_after}
 use Rattle.command_codec.specs.declared.fault.Fault.TheVariants.{Cut, Bad}
 use Rattle.command_codec.specs.Reading.{Read, fields_at, later_fields_at, tagged_at, command_at}
-use Rattle.command_codec.proofs.Grammar.{IsBytes, Opens, Stops, Flawed, Word, Found, Right, Single, byte_flawed, bad_byte}
+use Rattle.command_codec.proofs.Grammar.{IsBytes, Opens, Stops, Word, Found, Right, Single, byte_flawed, bad_byte}
 use Rattle.command_codec.proofs.CommandReads.{fields_reads, joined}
 
 -- the bytes after a tag are the fields of a command with this tag

@@ -1,5 +1,5 @@
 -- Reading a command from the left, field after field, with the first fault that is met.
-use Rattle.std.specs.Prelude.{◌≡◌, ℕ, zero, suc, ◌+◌, ◌-◌, ◌*◌, ◌/◌, Bool, true, false, List, [], ◌∷◌, ◌++◌, length, take, drop, Option, Some, None, Result, Ok, Err, nat_lt, ◌==◌, if◌then◌else◌, slice_get}
+use Rattle.std.specs.Prelude.{◌≡◌, ℕ, zero, suc, ◌+◌, ◌-◌, ◌*◌, ◌/◌, Bool, true, false, List, [], ◌∷◌, length, take, drop, Option, Some, None, Result, Ok, Err, nat_lt, ◌==◌, if◌then◌else◌, slice_get}
 use Rattle.std.specs.Int.{from_be_bytes, w64}
 use Rattle.cat_model.specs.declared.row.Status.{Status}
 use Rattle.cat_model.specs.declared.row.Status.TheVariants.{Passing, Warning, Critical}
