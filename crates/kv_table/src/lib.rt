@@ -5,8 +5,6 @@
 mod rows;
 mod slot;
 mod table;
-#[cfg(test)]
-mod tests;
 mod tombs;
 
 pub use table::KvTable;
