@@ -5,6 +5,8 @@
 mod rows;
 mod slot;
 mod table;
+#[cfg(test)]
+mod tests;
 mod tombs;
 
 pub use table::KvTable;
