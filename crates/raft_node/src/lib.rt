@@ -4,3 +4,5 @@
 mod batch;
 mod log;
 mod quorum;
+#[cfg(test)]
+mod tests;
