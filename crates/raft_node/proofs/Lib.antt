@@ -1,0 +1,4 @@
+mod Terms
+mod Standing
+mod Commits
+mod Batches

@@ -1,0 +1,22 @@
+-- The term at an index, as code finds it.
+use Rattle.std.proofs.Common.{◌≡◌, ℕ, zero, suc, ◌-◌, ◌<◌, ◌≤◌, [], ◌∷◌, length, get_or, refl, ◌∙◌, ap, arith}
+use Rattle.cat_model.specs.declared.command.Entry.{Entry}
+use Rattle.raft_model.specs.Log.{Log, term_at}
+
+pub term_in : (log : Log) (n : ℕ) (d : Entry) → n < length log → (get_or log n d).term ≡ term_at (suc n) log
+term_in [] n d l = absurd (omega arith)
+term_in (e ∷ es) zero d l = refl
+term_in (e ∷ es) (suc n) d l = term_in es n d (omega arith)
+
+pub term_is : (log : Log) (n : ℕ) (d : Entry) → 0 < n → n ≤ length log → (get_or log (n - 1) d).term ≡ term_at n log
+term_is log zero d p l = absurd (omega arith)
+term_is log (suc n) d p l = let e : suc n - 1 ≡ n = omega arith in let h = term_in log n d (omega arith) in ap (λ k. (get_or log k d).term) e ∙ h
+
+pub term_past : (n : ℕ) (log : Log) → length log < n → term_at n log ≡ 0
+term_past zero log l = absurd (omega arith)
+term_past (suc n) [] l = refl
+term_past (suc zero) (e ∷ es) l = absurd (omega arith)
+term_past (suc (suc n)) (e ∷ es) l = term_past (suc n) es (omega arith)
+
+pub term_none : (n : ℕ) (log : Log) → n ≡ 0 → term_at n log ≡ 0
+term_none n log e = ap (λ k. term_at k log) e
