@@ -1,8 +1,9 @@
-//! One server of Raft (the extended paper of Ongaro and Ousterhout, figure 2) over a durable store.
+//! What one server of Raft (the extended paper of Ongaro and Ousterhout, figure 2) computes of logs, majorities and
+//! Appends. The server itself, over a durable store, is to stand on this.
 #![tactic(auto)]
 
-mod batch;
-mod log;
-mod quorum;
+pub mod batch;
+pub mod log;
+pub mod quorum;
 #[cfg(test)]
 mod tests;
