@@ -9,7 +9,7 @@ use crate::slot::Slot;
 use crate::slots::{
     any_row, copies, find, keep_slots, put_row, remove_each, remove_row, undo_slots,
 };
-use crate::{Probe, Row};
+use crate::{Probe, Row, Rows};
 use cat_model::Memory;
 use std::alloc::Global;
 use std::marker::Model;
@@ -87,6 +87,13 @@ impl<R: Row> RowTable<R> {
         ensures { (t : R → Bool) → Tells F.Fn test t → result ≡ list_any t self.now.now }
     {
         any_row(&self.slots, &test)
+    }
+
+    /// The rows one after another, in the order of their keys.
+    pub fn rows(&self) -> Rows<'_, R>
+        ensures { result ≡ self.now.now }
+    {
+        Rows { slots: &self.slots }
     }
 
     /// Copies of the rows that pass the test, in the order of their keys.
