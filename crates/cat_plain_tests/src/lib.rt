@@ -5,3 +5,7 @@
 mod commands;
 #[cfg(test)]
 mod indexes;
+#[cfg(test)]
+mod machine;
+#[cfg(test)]
+mod syncs;
