@@ -1,4 +1,4 @@
--- Lists of which one element is replaced or added, and what a function makes of them.
+-- Lists of which one element is replaced or added, and what a function makes of them; the tables stand on these.
 use Rattle.std.proofs.Common.{◌≡◌, ℕ, ◌+◌, ◌<◌, Bool, true, false, not, cond, List, [], ◌∷◌, ◌++◌, refl, sym, ◌∙◌, ap, subst, Option, Some, None, filter, is_some, length, get_or, set, take, drop, map, arith, zero, suc}
 use Rattle.std.specs.List.{AllByRecursion, filter_map, cons_option, insert}
 use Rattle.std.specs.Cmp.{IsTotalOrder}
@@ -31,6 +31,15 @@ filter_map-filter_some {X = X} {Y = Y} f (x ∷ xs) = go (f x) refl (filter_map-
     go : (o : Option Y) → f x ≡ o → filter_map f rest ≡ filter_map f xs → filter_map f (cond (is_some o) (x ∷ rest) rest) ≡ cons_option o (filter_map f xs)
     go None e ih = ih
     go (Some y) e ih = ap (λ o. cons_option o (filter_map f rest)) e ∙ ap (λ l. y ∷ l) ih
+
+-- where the function gives nothing of what fails the test
+pub filter_map-filter_none : {X Y : Type 0} (f : X → Option Y) (test : X → Bool) → ((x : X) → test x ≡ false → f x ≡ None) → (xs : List X) → filter_map f (filter test xs) ≡ filter_map f xs
+filter_map-filter_none f test none [] = refl
+filter_map-filter_none {X = X} {Y = Y} f test none (x ∷ xs) = go (test x) refl (filter_map-filter_none f test none xs)
+  where
+    go : (b : Bool) → test x ≡ b → filter_map f (filter test xs) ≡ filter_map f xs → filter_map f (cond b (x ∷ filter test xs) (filter test xs)) ≡ cons_option (f x) (filter_map f xs)
+    go true e ih = ap (cons_option (f x)) ih
+    go false e ih = ih ∙ ap (λ o. cons_option o (filter_map f xs)) (sym (none x e))
 
 -- two functions that give the same of the first elements, and of the next one
 pub settled_more : {X Y : Type 0} (f g : X → Option Y) (xs : List X) (i : ℕ) (y : X) → i < length xs → f y ≡ g y → filter_map f (take i xs) ≡ filter_map g (take i xs) → filter_map f (take (i + 1) (set xs i y)) ≡ filter_map g (take (i + 1) (set xs i y))
