@@ -1,5 +1,5 @@
 -- The instances of a catalog, and their order.
-use Rattle.std.proofs.Common.{◌≡◌, List, Option, Some, None, refl, sym, ap, subst}
+use Rattle.std.proofs.Common.{◌≡◌, Option, Some, None, refl, sym, subst}
 use Rattle.std.specs.List.{filter_map}
 use Rattle.cat_model.specs.Keys.{pair_cmp}
 use Rattle.cat_model.specs.Tables.{Ascends}
@@ -9,7 +9,7 @@ use Rattle.cat_model.specs.declared.row.NodeRow.{NodeRow}
 use Rattle.cat_model.specs.declared.row.ServiceRow.{ServiceRow}
 use Rattle.cat_model.specs.declared.query.Instance.{Instance}
 use Rattle.health_view.specs.Rows.{instance_key}
-use Rattle.health_view.proofs.Items.{Ascends-chosen}
+use Rattle.cat_model.proofs.Elements.{Ascends-filter_map}
 
 -- the instance of a service on its node, where that is there
 abbrev pub placed : Catalog → ServiceRow → Option NodeRow → Option Instance
@@ -27,4 +27,4 @@ keeps_key k s None x e = cc
 keeps_key k s (Some n) x e = cc
 
 pub instances_ascend : (k : Catalog) → Ascends pair_cmp service_key k.services → Ascends pair_cmp instance_key (instances k)
-instances_ascend k asc = subst (Ascends pair_cmp instance_key) (sym (instances_are k)) (Ascends-chosen pair_cmp service_key instance_key (placed_at k) (λ s x e. keeps_key k s (node_at s.node k.nodes) x e) k.services asc)
+instances_ascend k asc = subst (Ascends pair_cmp instance_key) (sym (instances_are k)) (Ascends-filter_map pair_cmp service_key instance_key (placed_at k) (λ s x e. keeps_key k s (node_at s.node k.nodes) x e) k.services asc)

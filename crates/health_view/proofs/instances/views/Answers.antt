@@ -1,4 +1,4 @@
-use Rattle.std.proofs.Common.{rules, ◌≡◌, ◌∙◌, [], ◌∷◌, List, filter, map}
+use Rattle.std.proofs.Common.{rules, ◌∙◌, [], ◌∷◌}
 use Rattle.std.proofs.lemmas.Result.{IfOk-weaker}
 use Rattle.cat_model.specs.Queries.{is_of, check_view}
 use Rattle.health_view.specs.Rows.{view_if}
