@@ -1,0 +1,4 @@
+pub mod Parts
+pub mod ServiceReads
+pub mod Names
+pub mod Telling
