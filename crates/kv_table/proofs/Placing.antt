@@ -19,7 +19,7 @@ use Rattle.kv_table.specs.Places.{HasPlace, LacksPlace, rank}
 use Rattle.kv_table.specs.declared.slot.Slot.{Slot}
 use Rattle.kv_table.specs.declared.slot.Mark.{Mark}
 use Rattle.kv_table.specs.declared.slot.Mark.TheVariants.{Kept, Added, Changed, Gone, Passing}
-use Rattle.kv_table.proofs.Elements.{filter_map-set, filter_map-insert, filter_map-filter, Ascends-filter_map, Ascends-set, Ascends-map, All-set, sides}
+use Rattle.cat_model.proofs.Elements.{filter_map-set, filter_map-insert, filter_map-filter, Ascends-filter_map, Ascends-set, Ascends-map, All-set, sides}
 
 -- the row that is there has the slot's key
 marked_key : (m : Mark) (row r : KvRow) → marked_now m row ≡ Some r → r.key ≡ row.key

@@ -8,7 +8,7 @@ use Rattle.cat_model.specs.Keys.{same_text}
 use Rattle.cat_model.proofs.SameLemmas.{text_decides}
 use Rattle.table_index.specs.NameVersions.{own_position}
 use Rattle.table_index.specs.Names.{placed, now_of, before_of, names_now, names_before, place_of, own_of, cleared}
-use Rattle.table_index.proofs.Elements.{filter_map-filter}
+use Rattle.cat_model.proofs.Elements.{filter_map-filter_none}
 use Rattle.table_index.specs.declared.names.Entry.{Entry}
 
 abbrev Positions : Type 0
@@ -170,7 +170,7 @@ no_position name None e = refl
 no_position name (Some p) e = absurd (true≢false e)
 
 pub kept_now : (entries : List Entry) → names_now (filter (λ e. is_some e.current) entries) ≡ names_now entries
-kept_now entries = filter_map-filter now_of (λ e. is_some e.current) (λ e none. no_position e.name e.current none) entries
+kept_now entries = filter_map-filter_none now_of (λ e. is_some e.current) (λ e none. no_position e.name e.current none) entries
 
 pub kept_before : (entries : List Entry) → names_before (filter (λ e. is_some e.kept) entries) ≡ names_before entries
-kept_before entries = filter_map-filter before_of (λ e. is_some e.kept) (λ e none. no_position e.name e.kept none) entries
+kept_before entries = filter_map-filter_none before_of (λ e. is_some e.kept) (λ e none. no_position e.name e.kept none) entries

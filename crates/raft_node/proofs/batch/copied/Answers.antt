@@ -1,5 +1,5 @@
 use Rattle.std.proofs.Common.{◌∙◌}
-use Rattle.cat_outside.proofs.Clones.{entry_same}
+use Rattle.cat_model.proofs.Clones.{entry_same}
 use Rattle.raft_node.proofs.batch.copied.Goals as goal
 
 pub returns : goal.returns

@@ -1,6 +1,6 @@
 use Rattle.std.proofs.Common.{◌≡◌, ◌∙◌, ◌<◌, ap, length, get_or, arith}
 use Rattle.table_index.specs.Names.{before_of}
-use Rattle.table_index.proofs.Elements.{filter_map-set}
+use Rattle.cat_model.proofs.Elements.{filter_map-set}
 use Rattle.table_index.proofs.Owning.{clear_more, clear_others, cleared_before}
 use Rattle.table_index.proofs.names.clear.Goals as goal
 

@@ -3,7 +3,7 @@ use Rattle.std.proofs.lemmas.List.Elements.{filter_map-append}
 use Rattle.table_index.specs.Names.{place_of, before_of, names_now, names_before}
 use Rattle.table_index.specs.NameVersions.{own_position}
 use Rattle.table_index.specs.declared.names.Entry.{Entry}
-use Rattle.table_index.proofs.Elements.{filter_map-set}
+use Rattle.cat_model.proofs.Elements.{filter_map-set}
 use Rattle.table_index.proofs.Owning.{place_in, place_is, touched, touched_others, push_own, push_others}
 use Rattle.table_index.proofs.names.touch_entry.Goals as goal
 

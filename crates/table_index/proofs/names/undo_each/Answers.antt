@@ -1,6 +1,6 @@
 use Rattle.std.proofs.Common.{◌≡◌, ◌∙◌, ◌<◌, sym, ap, length, arith}
 use Rattle.table_index.specs.Names.{now_of, before_of}
-use Rattle.table_index.proofs.Elements.{filter_map-set, settled_more}
+use Rattle.cat_model.proofs.Elements.{filter_map-set, settled_more}
 use Rattle.table_index.proofs.names.undo_each.Goals as goal
 
 pub loop-entry-preserved : goal.loop-entry-preserved
