@@ -1,4 +1,6 @@
+pub mod Items
 pub mod Parts
 pub mod ServiceReads
-pub mod Names
+pub mod NamesOnce
 pub mod Telling
+pub mod Keeping

@@ -10,7 +10,7 @@ use Rattle.std.proofs.lemmas.Bool.{true≢false, false≢true}
 use Rattle.std.proofs.lemmas.List.Elements.{filter-append}
 use Rattle.cat_model.specs.Tables.{row_at, put, Ascends, same_found}
 use Rattle.cat_model.proofs.TableLemmas.{row_at-filter, equal_or_differs, Differs, eq_is}
-use Rattle.kv_table.proofs.Elements.{sides}
+use Rattle.cat_model.proofs.Elements.{sides}
 
 -- of what passes p, the test q may be another one
 pub filter_both : {R : Type 0} (p q r : R → Bool) → ((x : R) → p x ≡ true → q x ≡ r x) → (xs : List R) → filter p (filter q xs) ≡ filter r (filter p xs)

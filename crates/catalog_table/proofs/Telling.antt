@@ -14,7 +14,7 @@ use Rattle.catalog_table.specs.Names.{is_among}
 use Rattle.catalog_table.specs.Changes.{is_named, reads_differ, vanishes, Tells, ByParts}
 use Rattle.catalog_table.specs.declared.changed.Changed.{Changed}
 use Rattle.catalog_table.proofs.Parts.{any_parts}
-use Rattle.catalog_table.proofs.Names.{among_filter, distinct_filter}
+use Rattle.catalog_table.proofs.NamesOnce.{among_filter, distinct_filter}
 use Rattle.catalog_table.proofs.ServiceReads.{reads_nothing, differ_by_part, same_nodes_by_part, same_services_by_part, same_checks_by_part}
 
 -- the reads of a name that no service has before or after do not differ

@@ -1,9 +1,16 @@
 -- What a Register and a Deregister do to the rows, in the words of the catalog machine.
-use Rattle.std.specs.Prelude.{ℕ, List}
-use Rattle.cat_model.specs.Machine.{Step, act, deregister}
+use Rattle.std.specs.Prelude.{◌≡◌, ℕ, Bool, not, List, [], Option}
+use Rattle.std.specs.List.{list_any}
+use Rattle.cat_model.specs.Machine.{Step, act, put_node, put_given, put_checks, last_of_each, has_service, deregister_service, deregister_check, deregister_node}
+use Rattle.cat_model.specs.declared.command.NewService.{NewService}
+use Rattle.cat_model.specs.declared.command.NewCheck.{NewCheck}
 use Rattle.cat_model.specs.declared.command.Command.{Command}
 use Rattle.cat_model.specs.declared.command.Command.TheVariants.{Register}
-use Rattle.catalog_table.specs.Rows.{Rows, rows_of, catalog_of}
+use Rattle.cat_model.specs.declared.applied.Refuse.TheVariants as refusals
+use Rattle.cat_model.specs.declared.applied.Applied.TheVariants.{Refused}
+use Rattle.catalog_table.specs.Rows.{Rows, RowsVersions, rows_of, catalog_of}
+use Rattle.catalog_table.specs.declared.fault.RegisterFault.{RegisterFault}
+use Rattle.catalog_table.specs.declared.fault.RegisterFault.TheVariants.{MissingService, Memory}
 
 abbrev pub IsRegister : Command → Type 0
 IsRegister (Register node address service checks) = Unit {0}
@@ -13,8 +20,29 @@ IsRegister other = ⊥
 abbrev pub step_of : ℕ → Command → Rows → Step
 step_of position command rows = act position command (catalog_of rows)
 
-abbrev pub rows_after : ℕ → Command → Rows → Rows
-rows_after position command rows = rows_of (step_of position command rows).0
+-- the rows are again those of the last `keep`
+abbrev pub IsUndone : RowsVersions → RowsVersions → Type 0
+IsUndone old new = new ≡ record { now = old.before; before = old.before }
 
-abbrev pub without_registration : List ℕ → List ℕ → List ℕ → Rows → Rows
-without_registration node service check rows = rows_of (deregister node service check (catalog_of rows))
+-- a Register that is not done: the machine refuses it and nothing changes, or memory is wanting
+abbrev pub IsNotDone : ℕ → Command → RowsVersions → RowsVersions → RegisterFault → Type 0
+IsNotDone position command old new MissingService = (step_of position command old.now ≡ (catalog_of old.now, Refused refusals.MissingService)) × (new ≡ old)
+IsNotDone position command old new Memory = IsUndone old new
+
+-- the parts of these steps
+abbrev pub put_rows : ℕ → List ℕ → List ℕ → Option NewService → List NewCheck → Rows → Rows
+put_rows position node address service checks r =
+    record { nodes = put_node position node address r.nodes; services = put_given position node service r.services; checks = put_checks position node checks r.checks }
+
+-- some check is of a service that the node does not have, not even then
+abbrev pub lacks_service : ℕ → List ℕ → Option NewService → List NewCheck → Rows → Bool
+lacks_service position node service checks r = list_any (λ c. not (has_service node (put_given position node service r.services) c)) checks
+
+abbrev pub take_service : List ℕ → List ℕ → Rows → Rows
+take_service node id r = rows_of (deregister_service node id (catalog_of r))
+
+abbrev pub take_check : List ℕ → List ℕ → Rows → Rows
+take_check node id r = rows_of (deregister_check node id (catalog_of r))
+
+abbrev pub take_node : List ℕ → Rows → Rows
+take_node node r = rows_of (deregister_node node (catalog_of r))
