@@ -1,3 +1,3 @@
-pub mod Elements
 pub mod Ties
+pub mod Choices
 pub mod Placing

@@ -17,7 +17,7 @@ use Rattle.row_table.specs.Places.{HasPlace, LacksPlace, rank}
 use Rattle.row_table.specs.declared.slot.Slot.{Slot}
 use Rattle.row_table.specs.declared.slot.Mark.{Mark}
 use Rattle.row_table.specs.declared.slot.Mark.TheVariants.{Kept, Added, Changed, Gone, Passing}
-use Rattle.row_table.proofs.Elements.{filter_map-filter, Ascends-filter_map, Ascends-set, All-set, sides}
+use Rattle.cat_model.proofs.Elements.{filter_map-filter, Ascends-filter_map, Ascends-set, All-set, sides}
 use Rattle.row_table.proofs.Ties.{filter_all, none_tied}
 
 module _ {K R : Type 0} (cmp : K → K → Ordering) (key : R → K) where

@@ -3,11 +3,13 @@
 #![tactic(auto)]
 
 mod impls;
+mod iter;
 mod row;
 mod slot;
 mod slots;
 mod table;
 
 pub use impls::{ById, ByNode, ByPair};
+pub use iter::Rows;
 pub use row::{Probe, Row};
 pub use table::RowTable;

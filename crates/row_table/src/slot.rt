@@ -1,6 +1,7 @@
-ghost use Rattle.std.specs.Prelude.{◌≡◌, None, Some, IsTrue, is_some};
+ghost use Rattle.std.specs.Prelude.{◌≡◌, Bool, None, Some, IsTrue, is_some};
 ghost use Rattle.std.specs.Option.{option_copied};
 ghost use Rattle.row_table.specs.Slots.{slot_key, now_of, before_of, SlotFits};
+ghost use Rattle.row_table.specs.Tests.{Tells, passes, passing, failing};
 
 use crate::Row;
 use std::mem;
@@ -55,6 +56,26 @@ impl<R: Row> Slot<R> {
         }
     }
 
+    /// Whether the row is there and passes the test.
+    pub(crate) fn passes<F: Fn(&R) -> bool>(&self, test: &F) -> bool
+        requires { F.IsAlwaysCallable test.now }
+        ensures { (t : R → Bool) → Tells F.Fn test.now t → result ≡ passes t (now_of self.now) }
+    {
+        match self.now() {
+            Some(row) => test(row),
+            None => false,
+        }
+    }
+
+    /// The row that is there, where it passes the test.
+    pub(crate) fn passing<F: Fn(&R) -> bool>(&self, test: &F) -> Option<&R>
+        requires { F.IsAlwaysCallable test.now }
+        ensures { (t : R → Bool) → Tells F.Fn test.now t → option_copied result ≡ passing t (now_of self.now) }
+    {
+        let row = self.now()?;
+        if test(row) { Some(row) } else { None }
+    }
+
     pub(crate) fn set(&mut self, row: R)
         requires key { R.key row ≡ slot_key R.key self.old }
         requires fits { SlotFits R.key self.old }
@@ -86,6 +107,20 @@ impl<R: Row> Slot<R> {
                 Mark::Gone
             }
         };
+    }
+
+    /// Removes the row where it is there and passes the test.
+    pub(crate) fn remove_where<F: Fn(&R) -> bool>(&mut self, test: &F)
+        requires callable { F.IsAlwaysCallable test.now }
+        requires fits { SlotFits R.key self.old }
+        ensures key { slot_key R.key self.new ≡ slot_key R.key self.old }
+        ensures fits { SlotFits R.key self.new }
+        ensures now { (t : R → Bool) → Tells F.Fn test.now t → now_of self.new ≡ failing t (now_of self.old) }
+        ensures before { before_of self.new ≡ before_of self.old }
+    {
+        if self.passes(test) {
+            self.remove();
+        }
     }
 
     pub(crate) fn keep(&mut self)

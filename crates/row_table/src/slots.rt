@@ -1,15 +1,17 @@
 //! What is done to the slots of a table, which are in the order of their keys.
 
-ghost use Rattle.std.specs.Prelude.{◌≡◌, ◌≤◌, ℕ, IfOk, IfErr, OnOk, OnErr, List, is_some, length, true};
-ghost use Rattle.std.specs.List.{AllByRecursion};
+ghost use Rattle.std.specs.Prelude.{◌≡◌, ◌≤◌, ℕ, Bool, filter, IfOk, IfErr, OnOk, OnErr, List, is_some, length, true};
+ghost use Rattle.std.specs.List.{AllByRecursion, list_any};
 ghost use Rattle.std.specs.Ordering.{is_eq};
 ghost use Rattle.cat_model.specs.Tables.{row_at, put, without};
 ghost use Rattle.row_table.specs.Slots.{InOrder, now_of, before_of, rows_now, rows_before};
+ghost use Rattle.row_table.specs.Tests.{Tells};
 ghost use Rattle.row_table.specs.Places.{HasPlace, LacksPlace, rank};
 
 use crate::slot::{Mark, Slot};
 use crate::{Probe, Row};
 use cat_model::Memory;
+use std::alloc::Global;
 
 // How many slots have a smaller key.
 fn place<R: Row, P: Probe<R>>(slots: &[Slot<R>], probe: &P) -> usize
@@ -137,4 +139,48 @@ fn undo_each<R: Row>(slots: &mut [Slot<R>])
     for slot in slots.iter_mut() {
         slot.undo();
     }
+}
+
+// Removes each row that passes the test.
+pub(crate) fn remove_each<R: Row, F: Fn(&R) -> bool>(slots: &mut [Slot<R>], test: &F)
+    requires callable { F.IsAlwaysCallable test.now }
+    requires order { InOrder R.cmp R.key slots.old }
+    ensures order { InOrder R.cmp R.key slots.new }
+    ensures rows { (t : R → Bool) → Tells F.Fn test.now t → rows_now slots.new ≡ without t (rows_now slots.old) }
+    ensures before { rows_before slots.new ≡ rows_before slots.old }
+{
+    for slot in slots.iter_mut() {
+        slot.remove_where(test);
+    }
+}
+
+// Whether a row passes the test.
+pub(crate) fn any_row<R: Row, F: Fn(&R) -> bool>(slots: &[Slot<R>], test: &F) -> bool
+    requires { F.IsAlwaysCallable test.now }
+    ensures { (t : R → Bool) → Tells F.Fn test.now t → result ≡ list_any t (rows_now slots.now) }
+{
+    for slot in slots {
+        if slot.passes(test) {
+            return true;
+        }
+    }
+    false
+}
+
+// Copies of the rows that pass the test.
+pub(crate) fn copies<R: Row, F: Fn(&R) -> bool>(
+    alloc: Global,
+    slots: &[Slot<R>],
+    test: &F,
+) -> Result<Vec<R>, Memory>
+    requires { F.IsAlwaysCallable test.now }
+    ensures { (t : R → Bool) → Tells F.Fn test.now t → IfOk result (λ v. v.items ≡ filter t (rows_now slots.now)) }
+{
+    let mut found = Vec::new(alloc);
+    for slot in slots {
+        if let Some(row) = slot.passing(test) {
+            found.push(row.copy()?)?;
+        }
+    }
+    Ok(found)
 }

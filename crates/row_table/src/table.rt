@@ -1,11 +1,15 @@
-ghost use Rattle.std.specs.Prelude.{◌≡◌, [], IfErr, OnOk, OnErr, is_some};
+ghost use Rattle.std.specs.Prelude.{◌≡◌, [], Bool, filter, IfOk, IfErr, OnOk, OnErr, is_some};
 ghost use Rattle.std.specs.Option.{option_copied};
 ghost use Rattle.std.specs.Ordering.{is_eq};
+ghost use Rattle.std.specs.List.{list_any};
 ghost use Rattle.cat_model.specs.Tables.{row_at, put, without, Ascends};
+ghost use Rattle.row_table.specs.Tests.{Tells};
 
 use crate::slot::Slot;
-use crate::slots::{find, keep_slots, put_row, remove_row, undo_slots};
-use crate::{Probe, Row};
+use crate::slots::{
+    any_row, copies, find, keep_slots, put_row, remove_each, remove_row, undo_slots,
+};
+use crate::{Probe, Row, Rows};
 use cat_model::Memory;
 use std::alloc::Global;
 use std::marker::Model;
@@ -66,6 +70,46 @@ impl<R: Row> RowTable<R> {
         ensures there { result ≡ is_some (row_at R.cmp R.key (P.sought probe.now) self.old.now) }
     {
         remove_row(&mut self.slots, probe)
+    }
+
+    /// Removes each row that passes the test.
+    pub fn remove_where<F: Fn(&R) -> bool>(&mut self, test: F)
+        requires { F.IsAlwaysCallable test }
+        ensures rows { (t : R → Bool) → Tells F.Fn test t → self.new.now ≡ without t self.old.now }
+        ensures before { self.new.before ≡ self.old.before }
+    {
+        remove_each(self.slots.as_mut_slice(), &test);
+    }
+
+    /// Whether a row passes the test.
+    pub fn any<F: Fn(&R) -> bool>(&self, test: F) -> bool
+        requires { F.IsAlwaysCallable test }
+        ensures { (t : R → Bool) → Tells F.Fn test t → result ≡ list_any t self.now.now }
+    {
+        any_row(&self.slots, &test)
+    }
+
+    /// The rows one after another, in the order of their keys.
+    pub fn rows(&self) -> Rows<'_, R>
+        ensures { result ≡ self.now.now }
+    {
+        Rows { slots: &self.slots }
+    }
+
+    /// Copies of the rows that pass the test, in the order of their keys.
+    pub fn copied<F: Fn(&R) -> bool>(&self, alloc: Global, test: F) -> Result<Vec<R>, Memory>
+        requires { F.IsAlwaysCallable test }
+        ensures rows { (t : R → Bool) → Tells F.Fn test t → IfOk result (λ v. v.items ≡ filter t self.now.now) }
+        ensures order { (t : R → Bool) → Tells F.Fn test t → IfOk result (λ v. Ascends R.cmp R.key v.items) }
+    {
+        copies(alloc, &self.slots, &test)
+    }
+
+    /// Tells a proof that the rows are in the order of their keys.
+    pub fn in_order(&self)
+        ensures { Ascends R.cmp R.key self.now.now }
+    {
+        let _ = &self.slots;
     }
 
     /// Makes the rows that are there those to which `undo` goes back.

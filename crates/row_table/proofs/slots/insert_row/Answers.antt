@@ -2,7 +2,7 @@ use Rattle.std.proofs.Common.{◌∙◌, sym, ap, subst, refl}
 use Rattle.row_table.specs.Slots.{InOrder, before_of, rows_now, rows_before}
 use Rattle.row_table.specs.declared.slot.Slot.{Slot}
 use Rattle.row_table.specs.declared.slot.Mark.TheVariants.{Added}
-use Rattle.row_table.proofs.Elements.{filter_map-insert}
+use Rattle.cat_model.proofs.Elements.{filter_map-insert}
 use Rattle.row_table.proofs.Placing.{order_insert, set_between}
 use Rattle.row_table.proofs.slots.insert_row.Goals as goal
 

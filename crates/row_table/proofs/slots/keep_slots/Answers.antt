@@ -4,7 +4,7 @@ use Rattle.std.specs.List.{AllByRecursion}
 use Rattle.std.proofs.lemmas.Fn.{filter_same}
 use Rattle.cat_model.proofs.TableLemmas.{All-filter_test}
 use Rattle.row_table.specs.Slots.{InOrder, now_of, rows_now, rows_before}
-use Rattle.row_table.proofs.Elements.{filter_map-filter_some}
+use Rattle.cat_model.proofs.Elements.{filter_map-filter_some}
 use Rattle.row_table.proofs.Placing.{order_filter}
 use Rattle.row_table.proofs.slots.keep_slots.Goals as goal
 

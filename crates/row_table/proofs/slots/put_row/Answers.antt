@@ -1,7 +1,7 @@
 use Rattle.std.proofs.Common.{◌∙◌, sym, ap, subst}
 use Rattle.row_table.specs.Slots.{slot_key, before_of}
 use Rattle.row_table.specs.Places.{HasPlace}
-use Rattle.row_table.proofs.Elements.{filter_map-set}
+use Rattle.cat_model.proofs.Elements.{filter_map-set}
 use Rattle.row_table.proofs.Placing.{order_set, set_over}
 use Rattle.row_table.proofs.slots.put_row.Goals as goal
 

@@ -1,7 +1,7 @@
 use Rattle.std.proofs.Common.{◌∙◌, sym, ap, subst, is_some}
 use Rattle.row_table.specs.Slots.{slot_key, before_of}
 use Rattle.row_table.specs.Places.{HasPlace, LacksPlace}
-use Rattle.row_table.proofs.Elements.{filter_map-set}
+use Rattle.cat_model.proofs.Elements.{filter_map-set}
 use Rattle.row_table.proofs.Placing.{order_set, removed, not_there, present, absent}
 use Rattle.row_table.proofs.slots.remove_row.Goals as goal
 

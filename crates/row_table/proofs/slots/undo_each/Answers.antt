@@ -1,6 +1,6 @@
 use Rattle.std.proofs.Common.{◌≡◌, ◌∙◌, ◌<◌, true, sym, ap, is_some, length, arith}
 use Rattle.row_table.specs.Slots.{now_of, before_of}
-use Rattle.row_table.proofs.Elements.{filter_map-set, All-set, All-at, settled_more}
+use Rattle.cat_model.proofs.Elements.{filter_map-set, All-set, All-at, settled_more}
 use Rattle.row_table.proofs.Placing.{order_set}
 use Rattle.row_table.proofs.slots.undo_each.Goals as goal
 
