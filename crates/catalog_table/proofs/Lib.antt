@@ -1,4 +1,5 @@
 pub mod Items
+pub mod Checks
 pub mod Parts
 pub mod ServiceReads
 pub mod NamesOnce

@@ -51,6 +51,10 @@ pub distinct_names : (names : List (List ℕ)) (services : List ServiceRow) → 
 distinct_names names [] d = d
 distinct_names names (s ∷ services) d = distinct_names (with_name names s.name) services (distinct_with names s.name d)
 
+pub distinct_none : IsDistinct same_text []
+unfolding IsDistinct
+distinct_none = tt
+
 or_assoc : (a b c : Bool) → ((a || b) || c) ≡ (a || (b || c))
 or_assoc true b c = refl
 or_assoc false b c = refl

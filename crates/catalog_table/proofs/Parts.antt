@@ -26,13 +26,13 @@ filter_both {R = R} p q r h (x ∷ xs) = go (p x) refl (q x) refl (r x) refl (fi
     go false e true f c g ih = ap (λ b. cond b (x ∷ filter p (filter q xs)) (filter p (filter q xs))) e ∙ ih
     go false e false f c g ih = ih
 
+pub filter_all : {R : Type 0} (xs : List R) → filter (λ (x : R). true) xs ≡ xs
+filter_all [] = refl
+filter_all (x ∷ xs) = ap (λ l. x ∷ l) (filter_all xs)
+
 -- a test that follows from the other keeps nothing out
 pub filter_weaker : {R : Type 0} (p q : R → Bool) → ((x : R) → p x ≡ true → q x ≡ true) → (xs : List R) → filter p (filter q xs) ≡ filter p xs
-filter_weaker p q h xs = filter_both p q (λ x. true) h xs ∙ all (filter p xs)
-  where
-    all : {R : Type 0} (xs : List R) → filter (λ (x : R). true) xs ≡ xs
-    all [] = refl
-    all (x ∷ xs) = ap (λ l. x ∷ l) (all xs)
+filter_weaker p q h xs = filter_both p q (λ x. true) h xs ∙ filter_all (filter p xs)
 
 pub filter_none : {R : Type 0} (xs : List R) → filter (λ (x : R). false) xs ≡ []
 filter_none [] = refl

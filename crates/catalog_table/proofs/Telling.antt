@@ -1,5 +1,5 @@
 -- What a change of one node's rows changes, told from them.
-use Rattle.std.proofs.Common.{◌≡◌, ℕ, Bool, true, false, not, List, refl, sym, ◌∙◌, ap, subst, filter, ◌&&◌, ◌||◌}
+use Rattle.std.proofs.Common.{◌≡◌, ℕ, Bool, true, false, not, List, [], refl, sym, ◌∙◌, ap, subst, filter, ◌&&◌, ◌||◌}
 use Rattle.std.specs.List.{list_any, IsDistinct}
 use Rattle.std.specs.Cmp.Lexicographic.{pointwise}
 use Rattle.std.proofs.lemmas.Bool.{true≢false, false≢true}
@@ -10,11 +10,11 @@ use Rattle.cat_model.specs.Queries.{service_rows}
 use Rattle.cat_model.specs.declared.row.ServiceRow.{ServiceRow}
 use Rattle.cat_model.proofs.SameLemmas.{catalog_decides}
 use Rattle.catalog_table.specs.Rows.{Rows, catalog_of, InOrder, is_node, on_node, off_node}
-use Rattle.catalog_table.specs.Names.{is_among}
+use Rattle.catalog_table.specs.Names.{is_among, with_names}
 use Rattle.catalog_table.specs.Changes.{is_named, reads_differ, vanishes, Tells, ByParts}
 use Rattle.catalog_table.specs.declared.changed.Changed.{Changed}
 use Rattle.catalog_table.proofs.Parts.{any_parts}
-use Rattle.catalog_table.proofs.NamesOnce.{among_filter, distinct_filter}
+use Rattle.catalog_table.proofs.NamesOnce.{among_filter, distinct_filter, among_names, distinct_names, distinct_none}
 use Rattle.catalog_table.proofs.ServiceReads.{reads_nothing, differ_by_part, same_nodes_by_part, same_services_by_part, same_checks_by_part}
 
 -- the reads of a name that no service has before or after do not differ
@@ -74,3 +74,24 @@ tells node old new names c old_order new_order others h =
         let is_new : is_named name new ≡ (is_named name after || is_named name (off_node node new)) = named_parts node name new in
         let is_old : is_named name old ≡ (is_named name before || is_named name (off_node node new)) = named_parts node name old ∙ ap (λ r. is_named name before || is_named name r) others in
         (λ i. not (is_new i) && h.covers name i) ∙ gone (is_named name before) (is_named name after) (is_named name (off_node node new)) ∙ (λ i. sym is_old i && not (sym is_new i))
+
+-- the same, from what the node's rows were and are
+pub told : (node : List ℕ) (old new before after : Rows) (names : List (List ℕ)) (c : Changed) → InOrder old → InOrder new → before ≡ on_node node old → after ≡ on_node node new → off_node node old ≡ off_node node new
+    → names ≡ with_names (with_names [] before.services) after.services → c.nodes ≡ not (pointwise same_node before.nodes after.nodes) → c.services ≡ not (pointwise same_service before.services after.services) → c.checks ≡ not (pointwise same_check before.checks after.checks)
+    → c.names ≡ filter (reads_differ before after) names → c.vanished ≡ filter (λ n. not (is_named n new)) names → Tells old new c
+told node old new before after names c old_order new_order is_before is_after others listed nodes services checks differing vanished =
+    tells node old new names c old_order new_order others (subst (λ r. ByParts r (on_node node new) new names c) is_before (subst (λ r. ByParts before r new names c) is_after here))
+  where
+    first : List (List ℕ)
+    first = with_names [] before.services
+
+    here : ByParts before after new names c
+    here = record {
+      nodes = nodes;
+      services = services;
+      checks = checks;
+      covers = λ name. ap (λ l. is_among l name) listed ∙ among_names first after.services name ∙ ap (λ b. b || is_named name after) (among_names [] before.services name);
+      once = subst (IsDistinct same_text) (sym listed) (distinct_names first after.services (distinct_names [] before.services distinct_none));
+      names = differing;
+      vanished = vanished;
+    }

@@ -2,3 +2,4 @@ pub mod Rows
 pub mod Names
 pub mod Changes
 pub mod Steps
+pub mod Puts

@@ -1,7 +1,10 @@
 -- What a Register and a Deregister do to the rows, in the words of the catalog machine.
-use Rattle.std.specs.Prelude.{◌≡◌, ℕ, Bool, not, List, [], Option}
+use Rattle.std.specs.Prelude.{◌≡◌, ℕ, Bool, false, not, List, Option, Some, None, ◌||◌, is_some}
 use Rattle.std.specs.List.{list_any}
-use Rattle.cat_model.specs.Machine.{Step, act, put_node, put_given, put_checks, last_of_each, has_service, deregister_service, deregister_check, deregister_node}
+use Rattle.cat_model.specs.Keys.{same_text, is_empty}
+use Rattle.cat_model.specs.Catalog.{service_at}
+use Rattle.cat_model.specs.declared.row.ServiceRow.{ServiceRow}
+use Rattle.cat_model.specs.Machine.{Step, act, put_node, put_given, put_checks, has_service, deregister_service, deregister_check, deregister_node}
 use Rattle.cat_model.specs.declared.command.NewService.{NewService}
 use Rattle.cat_model.specs.declared.command.NewCheck.{NewCheck}
 use Rattle.cat_model.specs.declared.command.Command.{Command}
@@ -33,6 +36,15 @@ IsNotDone position command old new Memory = IsUndone old new
 abbrev pub put_rows : ℕ → List ℕ → List ℕ → Option NewService → List NewCheck → Rows → Rows
 put_rows position node address service checks r =
     record { nodes = put_node position node address r.nodes; services = put_given position node service r.services; checks = put_checks position node checks r.checks }
+
+-- the ID is that of the registered service
+abbrev pub gives : Option NewService → List ℕ → Bool
+gives None id = false
+gives (Some s) id = same_text s.id id
+
+-- the check's service is empty, the registered one or one of the node
+abbrev pub is_served : List ℕ → Option NewService → List ServiceRow → NewCheck → Bool
+is_served node service rows c = is_empty c.service || gives service c.service || is_some (service_at (node, c.service) rows)
 
 -- some check is of a service that the node does not have, not even then
 abbrev pub lacks_service : ℕ → List ℕ → Option NewService → List NewCheck → Rows → Bool

@@ -1,4 +1,7 @@
 //! The nodes, services and checks of the catalog, and what a registration or its undoing changes of them.
+//!
+//! A registration changes rows of one node alone. So what it changed is told from copies of that node's few rows, before
+//! and after.
 #![tactic(auto)]
 
 mod changed;
@@ -6,7 +9,11 @@ mod fault;
 mod lists;
 mod names;
 mod part;
+mod register;
 mod same;
+mod set;
+mod table;
 
 pub use changed::Changed;
 pub use fault::RegisterFault;
+pub use table::CatalogTable;

@@ -1,6 +1,6 @@
 //! The names of services, each once.
 
-ghost use Rattle.std.specs.Prelude.{◌≡◌, IfOk, OnOk, filter, not};
+ghost use Rattle.std.specs.Prelude.{◌≡◌, [], IfOk, OnOk, filter};
 ghost use Rattle.catalog_table.specs.Names.{is_among, with_names};
 ghost use Rattle.catalog_table.specs.Changes.{reads_differ};
 
@@ -16,8 +16,8 @@ fn has(names: &[Text], name: &Text) -> bool
     names.iter().any(|n| is_same(name, n))
 }
 
-/// Adds the names of these services that are not there yet.
-pub(crate) fn add_names(names: &mut Texts, services: &[ServiceRow]) -> Result<(), Memory>
+// Adds the names of these services that are not there yet.
+fn add_names(names: &mut Texts, services: &[ServiceRow]) -> Result<(), Memory>
     ensures { OnOk result (names.new ≡ with_names names.old services.now) }
 {
     let mut left = services;
@@ -28,6 +28,16 @@ pub(crate) fn add_names(names: &mut Texts, services: &[ServiceRow]) -> Result<()
         left = rest;
     }
     Ok(())
+}
+
+/// The names of the services of both.
+pub(crate) fn names_of(alloc: Global, before: &Part, after: &Part) -> Result<Texts, Memory>
+    ensures { IfOk result (λ l. l ≡ with_names (with_names [] before.now.services) after.now.services) }
+{
+    let mut names = List::new(alloc);
+    add_names(&mut names, before.services.as_slice())?;
+    add_names(&mut names, after.services.as_slice())?;
+    Ok(names)
 }
 
 /// Those of the names whose reads of the rows differ.
