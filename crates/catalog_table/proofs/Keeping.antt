@@ -9,7 +9,7 @@ use Rattle.cat_model.specs.Keys.{text_cmp, pair_cmp, same_text, is_empty}
 use Rattle.cat_model.specs.Tables.{put, without, Ascends}
 use Rattle.cat_model.specs.Same.{alike_nodes, alike_services, alike_checks}
 use Rattle.cat_model.specs.Catalog.{node_at, service_at, check_at, node_key, service_key, check_key}
-use Rattle.cat_model.specs.Machine.{put_node, put_service, put_given, put_check, put_checks}
+use Rattle.cat_model.specs.Machine.{put_node, put_service, put_given, put_check, put_checks, deregister, deregister_service, deregister_check, deregister_node}
 use Rattle.cat_model.specs.declared.row.NodeRow.{NodeRow}
 use Rattle.cat_model.specs.declared.row.ServiceRow.{ServiceRow}
 use Rattle.cat_model.specs.declared.row.CheckRow.{CheckRow}
@@ -18,7 +18,7 @@ use Rattle.cat_model.specs.declared.command.NewCheck.{NewCheck}
 use Rattle.cat_model.proofs.TableLemmas.{Ascends-put, Ascends-filter}
 use Rattle.cat_model.proofs.SameLemmas.{text_decides}
 use Rattle.cat_model.proofs.Pairs.{pair_cmp_total, exact_pair}
-use Rattle.catalog_table.specs.Rows.{Rows, InOrder, is_node, off_node}
+use Rattle.catalog_table.specs.Rows.{Rows, rows_of, catalog_of, InOrder, is_node, off_node}
 use Rattle.catalog_table.specs.Steps.{put_rows, take_service, take_check, take_node}
 use Rattle.catalog_table.proofs.Parts.{others_put, filter_weaker}
 
@@ -126,21 +126,41 @@ put_keeps i node address service checks r o =
     keeps_others node r (put_rows i node address service checks r) (node_kept i node address r.nodes o.nodes) (given_kept i node service r.services o.services) (checks_kept i node checks r.checks o.checks)
 
 module _ (node : List ℕ) (r : Rows) (o : InOrder r) where
-  pub service_keeps : (id : List ℕ) → KeepsOthers node r (take_service node id r)
+  service_keeps : (id : List ℕ) → KeepsOthers node r (take_service node id r)
   service_keeps id =
       keeps_others node r (take_service node id r) (keeps_same text_cmp node_key nat_list_cmp_total exact_bytes (is_node node) r.nodes o.nodes)
       (keeps_without pair_cmp service_key pair_cmp_total exact_pair (λ k. is_node node k.0) (λ s. same_text s.node node && same_text s.id id) (λ s e. (and_parts _ _ e).0) r.services o.services)
       (keeps_without pair_cmp check_key pair_cmp_total exact_pair (λ k. is_node node k.0) (λ c. same_text c.node node && same_text c.service id) (λ c e. (and_parts _ _ e).0) r.checks o.checks)
 
-  pub check_keeps : (id : List ℕ) → KeepsOthers node r (take_check node id r)
+  check_keeps : (id : List ℕ) → KeepsOthers node r (take_check node id r)
   check_keeps id =
       keeps_others node r (take_check node id r) (keeps_same text_cmp node_key nat_list_cmp_total exact_bytes (is_node node) r.nodes o.nodes)
       (keeps_same pair_cmp service_key pair_cmp_total exact_pair (λ k. is_node node k.0) r.services o.services)
       (keeps_without pair_cmp check_key pair_cmp_total exact_pair (λ k. is_node node k.0) (λ c. same_text c.node node && same_text c.id id) (λ c e. (and_parts _ _ e).0) r.checks o.checks)
 
-  pub node_keeps : KeepsOthers node r (take_node node r)
+  node_keeps : KeepsOthers node r (take_node node r)
   node_keeps =
       keeps_others node r (take_node node r)
       (keeps_without text_cmp node_key nat_list_cmp_total exact_bytes (is_node node) (λ n. same_text n.node node) (λ n e. e) r.nodes o.nodes)
       (keeps_without pair_cmp service_key pair_cmp_total exact_pair (λ k. is_node node k.0) (λ s. same_text s.node node) (λ s e. e) r.services o.services)
       (keeps_without pair_cmp check_key pair_cmp_total exact_pair (λ k. is_node node k.0) (λ c. same_text c.node node) (λ c e. e) r.checks o.checks)
+
+  pub deregister_keeps : (service check : List ℕ) → KeepsOthers node r (rows_of (deregister node service check (catalog_of r)))
+  unfolding deregister
+  deregister_keeps service check = go (not (is_empty service)) (not (is_empty check))
+    where
+      go : (b d : Bool) → KeepsOthers node r (rows_of (cond b (deregister_service node service (catalog_of r)) (cond d (deregister_check node check (catalog_of r)) (deregister_node node (catalog_of r)))))
+      go true d = service_keeps service
+      go false true = check_keeps check
+      go false false = node_keeps
+
+-- and leaves no other list
+pub deregister_whole : (node service check : List ℕ) (r : Rows) → deregister node service check (catalog_of r) ≡ catalog_of (rows_of (deregister node service check (catalog_of r)))
+unfolding deregister
+deregister_whole node service check r = go (not (is_empty service)) (not (is_empty check))
+  where
+    go : (b d : Bool) → cond b (deregister_service node service (catalog_of r)) (cond d (deregister_check node check (catalog_of r)) (deregister_node node (catalog_of r)))
+        ≡ catalog_of (rows_of (cond b (deregister_service node service (catalog_of r)) (cond d (deregister_check node check (catalog_of r)) (deregister_node node (catalog_of r)))))
+    go true d = refl
+    go false true = refl
+    go false false = refl

@@ -5,3 +5,4 @@ pub mod ServiceReads
 pub mod NamesOnce
 pub mod Telling
 pub mod Keeping
+pub mod Registering

@@ -27,10 +27,15 @@ step_of position command rows = act position command (catalog_of rows)
 abbrev pub IsUndone : RowsVersions → RowsVersions → Type 0
 IsUndone old new = new ≡ record { now = old.before; before = old.before }
 
--- a Register that is not done: the machine refuses it and nothing changes, or memory is wanting
-abbrev pub IsNotDone : ℕ → Command → RowsVersions → RowsVersions → RegisterFault → Type 0
-IsNotDone position command old new MissingService = (step_of position command old.now ≡ (catalog_of old.now, Refused refusals.MissingService)) × (new ≡ old)
-IsNotDone position command old new Memory = IsUndone old new
+-- a Register that is not done: the machine's step refuses it and nothing changes, or memory is wanting
+abbrev pub IsNotDone : Step → RowsVersions → RowsVersions → RegisterFault → Type 0
+IsNotDone step old new MissingService = (step ≡ (catalog_of old.now, Refused refusals.MissingService)) × (new ≡ old)
+IsNotDone step old new Memory = IsUndone old new
+
+-- the same, before the table goes back to the last `keep`
+abbrev pub IsStopped : Step → RowsVersions → RowsVersions → RegisterFault → Type 0
+IsStopped step old new MissingService = (step ≡ (catalog_of old.now, Refused refusals.MissingService)) × (new ≡ old)
+IsStopped step old new Memory = Unit {0}
 
 -- the parts of these steps
 abbrev pub put_rows : ℕ → List ℕ → List ℕ → Option NewService → List NewCheck → Rows → Rows

@@ -5,6 +5,7 @@
 #![tactic(auto)]
 
 mod changed;
+mod deregister;
 mod fault;
 mod lists;
 mod names;

@@ -4,7 +4,7 @@ ghost use Rattle.std.specs.Prelude.{◌≡◌, [], IfOk, OnOk, filter};
 ghost use Rattle.catalog_table.specs.Names.{is_among, with_names};
 ghost use Rattle.catalog_table.specs.Changes.{reads_differ};
 
-use crate::part::{differs, Part};
+use crate::part::{Part, differs};
 use crate::same::is_same;
 use cat_model::{List, Memory, ServiceRow, Text, Texts};
 use std::alloc::Global;

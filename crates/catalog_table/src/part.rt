@@ -59,21 +59,13 @@ fn services_named(alloc: Global, name: &Text, rows: &Part) -> Result<List<Servic
     kept(alloc, rows.services.as_slice(), |s| is_same(&s.name, name))
 }
 
-fn nodes_of(
-    alloc: Global,
-    services: &[ServiceRow],
-    rows: &Part,
-) -> Result<List<NodeRow>, Memory>
+fn nodes_of(alloc: Global, services: &[ServiceRow], rows: &Part) -> Result<List<NodeRow>, Memory>
     ensures { IfOk result (λ l. l ≡ filter (λ n. list_any (λ s. same_text s.node n.node) services.now) rows.now.nodes) }
 {
     kept(alloc, rows.nodes.as_slice(), |n| is_at(services, n))
 }
 
-fn checks_of(
-    alloc: Global,
-    services: &[ServiceRow],
-    rows: &Part,
-) -> Result<List<CheckRow>, Memory>
+fn checks_of(alloc: Global, services: &[ServiceRow], rows: &Part) -> Result<List<CheckRow>, Memory>
     ensures { IfOk result (λ l. l ≡ filter (is_of services.now) rows.now.checks) }
 {
     kept(alloc, rows.checks.as_slice(), |c| counts(services, c))
@@ -135,5 +127,9 @@ pub(crate) fn differs(
 {
     let old = reads_of(alloc, name, before)?;
     let new = reads_of(alloc, name, after)?;
-    Ok(!(are_same_nodes(&old, &new) && are_same_services(&old, &new) && are_same_checks(&old, &new)))
+    Ok(
+        !(are_same_nodes(&old, &new)
+            && are_same_services(&old, &new)
+            && are_same_checks(&old, &new)),
+    )
 }

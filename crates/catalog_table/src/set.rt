@@ -37,11 +37,7 @@ pub(crate) fn find_service<'a>(
     rows.get(&key)
 }
 
-fn find_check<'a>(
-    rows: &'a RowTable<CheckRow>,
-    node: &Text,
-    id: &Text,
-) -> Option<&'a CheckRow>
+fn find_check<'a>(rows: &'a RowTable<CheckRow>, node: &Text, id: &Text) -> Option<&'a CheckRow>
     ensures { option_copied result ≡ check_at (node.now, id.now) rows.now.now }
 {
     let key = ByPair {

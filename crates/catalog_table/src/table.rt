@@ -10,7 +10,7 @@ ghost use Rattle.catalog_table.specs.Steps.{IsRegister, IsNotDone, IsUndone, ste
 
 use crate::lists::kept;
 use crate::names::{differing, names_of};
-use crate::part::{are_same_checks, are_same_nodes, are_same_services, Part};
+use crate::part::{Part, are_same_checks, are_same_nodes, are_same_services};
 use crate::same::{is_same, is_same_status, is_text};
 use crate::{Changed, RegisterFault};
 use cat_model::{CheckRow, List, Memory, NodeRow, ServiceRow, Status, Text, Texts};
@@ -100,7 +100,10 @@ impl CatalogTable {
     pub fn checks_with(&self, alloc: Global, status: Status) -> Result<List<CheckRow>, Memory>
         ensures { IfOk result (λ l. l ≡ filter (λ r. same_status r.status status) self.now.now.checks) }
     {
-        Ok(List::from(self.checks.copied(alloc, |r| is_same_status(r.status, status))?))
+        Ok(List::from(
+            self.checks
+                .copied(alloc, |r| is_same_status(r.status, status))?,
+        ))
     }
 
     /// Copies of all nodes, by name.
@@ -153,7 +156,7 @@ impl CatalogTable {
     }
 
     // Copies of the node's rows.
-    fn part_of(&self, alloc: Global, node: &str) -> Result<Part, Memory>
+    pub(crate) fn part_of(&self, alloc: Global, node: &str) -> Result<Part, Memory>
         ensures { IfOk result (λ p. p ≡ on_node node.now self.now.now) }
     {
         let nodes = self.nodes.copied(alloc, |r| is_text(&r.node, node))?;
@@ -181,7 +184,7 @@ impl CatalogTable {
     }
 
     // What changed since the node's rows were these, where other nodes' rows did not change.
-    fn change_since(
+    pub(crate) fn change_since(
         &self,
         alloc: Global,
         node: &str,
