@@ -6,3 +6,4 @@ pub mod NamesOnce
 pub mod Telling
 pub mod Keeping
 pub mod Registering
+pub mod OtherLists

@@ -2,13 +2,13 @@
 use Rattle.std.specs.Prelude.{◌≡◌, ℕ, Bool, false, not, List, Option, Some, None, ◌||◌, is_some}
 use Rattle.std.specs.List.{list_any}
 use Rattle.cat_model.specs.Keys.{same_text, is_empty}
-use Rattle.cat_model.specs.Catalog.{service_at}
+use Rattle.cat_model.specs.Catalog.{Catalog, service_at}
 use Rattle.cat_model.specs.declared.row.ServiceRow.{ServiceRow}
 use Rattle.cat_model.specs.Machine.{Step, act, put_node, put_given, put_checks, has_service, deregister_service, deregister_check, deregister_node}
 use Rattle.cat_model.specs.declared.command.NewService.{NewService}
 use Rattle.cat_model.specs.declared.command.NewCheck.{NewCheck}
 use Rattle.cat_model.specs.declared.command.Command.{Command}
-use Rattle.cat_model.specs.declared.command.Command.TheVariants.{Register}
+use Rattle.cat_model.specs.declared.command.Command.TheVariants.{Register, Deregister}
 use Rattle.cat_model.specs.declared.applied.Refuse.TheVariants as refusals
 use Rattle.cat_model.specs.declared.applied.Applied.TheVariants.{Refused}
 use Rattle.catalog_table.specs.Rows.{Rows, RowsVersions, rows_of, catalog_of}
@@ -63,3 +63,19 @@ take_check node id r = rows_of (deregister_check node id (catalog_of r))
 
 abbrev pub take_node : List ℕ → Rows → Rows
 take_node node r = rows_of (deregister_node node (catalog_of r))
+
+-- a Register or a Deregister
+abbrev pub IsRegistration : Command → Type 0
+IsRegistration (Register node address service checks) = Unit {0}
+IsRegistration (Deregister node service check) = Unit {0}
+IsRegistration other = ⊥
+
+-- the catalog with these rows in the place of its own
+abbrev pub with_rows : Catalog → Rows → Catalog
+with_rows k r = record k { nodes = r.nodes; services = r.services; checks = r.checks }
+
+-- the step on a whole catalog is that on its nodes, services and checks
+abbrev pub StepsOnRows : ℕ → Command → Catalog → Type 0
+StepsOnRows position command k =
+    let step = step_of position command (rows_of k) in
+    act position command k ≡ (with_rows k (rows_of step.0), step.1)

@@ -7,6 +7,7 @@
 mod changed;
 mod deregister;
 mod fault;
+pub mod laws;
 mod lists;
 mod names;
 mod part;
@@ -18,3 +19,6 @@ mod table;
 pub use changed::Changed;
 pub use fault::RegisterFault;
 pub use table::CatalogTable;
+
+#[cfg(test)]
+mod tests;
