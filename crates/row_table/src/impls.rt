@@ -1,0 +1,173 @@
+//! The catalog's rows by their keys: a node by its name, a service and a check by its node and its ID there, a session
+//! and a prepared query by its identifier.
+
+ghost use Rattle.std.specs.Prelude.{◌≡◌};
+ghost use Rattle.std.specs.Ordering.{nat_cmp};
+ghost use Rattle.std.proofs.lemmas.Cmp.{nat_cmp_total, nat_list_cmp_total};
+ghost use Rattle.std.proofs.lemmas.Map.Lookups.{exact_bytes, exact_unsigned};
+ghost use Rattle.cat_model.specs.Keys.{text_cmp, pair_cmp};
+ghost use Rattle.cat_model.specs.Catalog.{node_key, service_key, check_key, session_key, query_key};
+ghost use Rattle.cat_model.proofs.Pairs.{pair_cmp_total, exact_pair};
+
+use crate::{Probe, Row};
+use cat_model::{CheckRow, Memory, NodeRow, QueryRow, ServiceRow, SessionRow, Text};
+use std::cmp::Ordering;
+
+/// Looks for the node of this name.
+#[derive(Clone, Copy)]
+pub struct ByNode<'a>(pub &'a str);
+
+/// Looks for the service or the check of this ID on this node.
+#[derive(Clone, Copy)]
+pub struct ByPair<'a> {
+    pub node: &'a str,
+    pub id: &'a str,
+}
+
+/// Looks for the session or the prepared query of this identifier.
+#[derive(Clone, Copy)]
+pub struct ById(pub u128);
+
+impl Row for NodeRow {
+    type Key = Text;
+
+    ghost key = { node_key };
+
+    ghost cmp = { text_cmp };
+
+    ghost total = { nat_list_cmp_total };
+
+    ghost exact = { exact_bytes };
+
+    fn order(&self, other: &NodeRow) -> Ordering {
+        self.node.as_str().cmp(other.node.as_str())
+    }
+
+    fn copy(&self) -> Result<NodeRow, Memory> {
+        Ok(self.clone()?)
+    }
+}
+
+impl Row for ServiceRow {
+    type Key = (Text, Text);
+
+    ghost key = { service_key };
+
+    ghost cmp = { pair_cmp };
+
+    ghost total = { pair_cmp_total };
+
+    ghost exact = { exact_pair };
+
+    fn order(&self, other: &ServiceRow) -> Ordering {
+        let nodes = self.node.as_str().cmp(other.node.as_str());
+        nodes.then(self.id.as_str().cmp(other.id.as_str()))
+    }
+
+    fn copy(&self) -> Result<ServiceRow, Memory> {
+        Ok(self.clone()?)
+    }
+}
+
+impl Row for CheckRow {
+    type Key = (Text, Text);
+
+    ghost key = { check_key };
+
+    ghost cmp = { pair_cmp };
+
+    ghost total = { pair_cmp_total };
+
+    ghost exact = { exact_pair };
+
+    fn order(&self, other: &CheckRow) -> Ordering {
+        let nodes = self.node.as_str().cmp(other.node.as_str());
+        nodes.then(self.id.as_str().cmp(other.id.as_str()))
+    }
+
+    fn copy(&self) -> Result<CheckRow, Memory> {
+        Ok(self.clone()?)
+    }
+}
+
+impl Row for SessionRow {
+    type Key = u128;
+
+    ghost key = { session_key };
+
+    ghost cmp = { nat_cmp };
+
+    ghost total = { nat_cmp_total };
+
+    ghost exact = { exact_unsigned };
+
+    fn order(&self, other: &SessionRow) -> Ordering {
+        self.id.cmp(&other.id)
+    }
+
+    fn copy(&self) -> Result<SessionRow, Memory> {
+        Ok(self.clone()?)
+    }
+}
+
+impl Row for QueryRow {
+    type Key = u128;
+
+    ghost key = { query_key };
+
+    ghost cmp = { nat_cmp };
+
+    ghost total = { nat_cmp_total };
+
+    ghost exact = { exact_unsigned };
+
+    fn order(&self, other: &QueryRow) -> Ordering {
+        self.id.cmp(&other.id)
+    }
+
+    fn copy(&self) -> Result<QueryRow, Memory> {
+        Ok(self.clone()?)
+    }
+}
+
+impl<'a> Probe<NodeRow> for ByNode<'a> {
+    ghost sought = { λ p. p.0.now };
+
+    fn place(&self, row: &NodeRow) -> Ordering {
+        row.node.as_str().cmp(self.0)
+    }
+}
+
+impl<'a> Probe<ServiceRow> for ByPair<'a> {
+    ghost sought = { λ p. (p.node.now, p.id.now) };
+
+    fn place(&self, row: &ServiceRow) -> Ordering {
+        let nodes = row.node.as_str().cmp(self.node);
+        nodes.then(row.id.as_str().cmp(self.id))
+    }
+}
+
+impl<'a> Probe<CheckRow> for ByPair<'a> {
+    ghost sought = { λ p. (p.node.now, p.id.now) };
+
+    fn place(&self, row: &CheckRow) -> Ordering {
+        let nodes = row.node.as_str().cmp(self.node);
+        nodes.then(row.id.as_str().cmp(self.id))
+    }
+}
+
+impl Probe<SessionRow> for ById {
+    ghost sought = { λ p. p.0 };
+
+    fn place(&self, row: &SessionRow) -> Ordering {
+        row.id.cmp(&self.0)
+    }
+}
+
+impl Probe<QueryRow> for ById {
+    ghost sought = { λ p. p.0 };
+
+    fn place(&self, row: &QueryRow) -> Ordering {
+        row.id.cmp(&self.0)
+    }
+}
