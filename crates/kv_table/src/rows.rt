@@ -218,7 +218,8 @@ impl Rows {
     }
 
     pub(crate) fn get(&self, key: &str) -> Option<&KvRow>
-        ensures { option_copied result ≡ kv_at key.now self.now.now }
+        ensures row { option_copied result ≡ kv_at key.now self.now.now }
+        ensures order { Ascends text_cmp kv_key self.now.now }
     {
         match find(&self.slots, key) {
             Ok(at) => self.slots[at].now(),

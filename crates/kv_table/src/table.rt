@@ -39,9 +39,10 @@ impl KvTable {
         })
     }
 
-    /// The row of a key.
+    /// The row of a key. The rows are in the order of their keys, one for each key.
     pub fn get(&self, key: &str) -> Option<&KvRow>
-        ensures { option_copied result ≡ kv_at key.now self.now.now.rows }
+        ensures row { option_copied result ≡ kv_at key.now self.now.now.rows }
+        ensures order { Ascends text_cmp kv_key self.now.now.rows }
     {
         self.rows.get(key)
     }

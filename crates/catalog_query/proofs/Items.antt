@@ -1,0 +1,21 @@
+-- Lists of which something is made, item by item.
+use Rattle.std.proofs.Common.{◌≡◌, ◌∙◌, ◌<◌, ◌++◌, List, [], ◌∷◌, ℕ, ◌+◌, Bool, true, false, cond, refl, sym, ap, append-nil, append_assoc, filter, map, take, length, get_or}
+use Rattle.std.proofs.lemmas.List.{map_more, take_more}
+use Rattle.std.proofs.lemmas.List.Elements.{filter_more}
+use Rattle.catalog_query.specs.Lists.{flat}
+
+next_item : {R : Type 0} (xs : List R) (i : ℕ) (x : R) → i < length xs → x ≡ get_or xs i x → take (i + 1) xs ≡ take i xs ++ x ∷ []
+next_item xs i x l e = take_more xs i x l ∙ ap (λ y. take i xs ++ y ∷ []) (sym e)
+
+pub next_kept : {R : Type 0} (p : R → Bool) (xs : List R) (i : ℕ) (x : R) (b : Bool) → i < length xs → x ≡ get_or xs i x → b ≡ p x → filter p (take (i + 1) xs) ≡ filter p (take i xs) ++ cond b (x ∷ []) []
+next_kept p xs i x b l e t = filter_more p xs i x l ∙ ap (λ y. filter p (take i xs) ++ cond (p y) (y ∷ []) []) (sym e) ∙ ap (λ c. filter p (take i xs) ++ cond c (x ∷ []) []) (sym t)
+
+pub next_made : {R S : Type 0} (f : R → S) (xs : List R) (i : ℕ) (x : R) (y : S) → i < length xs → x ≡ get_or xs i x → y ≡ f x → map f (take (i + 1) xs) ≡ map f (take i xs) ++ y ∷ []
+next_made f xs i x y l e t = map_more f xs i x l ∙ ap (λ z. map f (take i xs) ++ f z ∷ []) (sym e) ∙ ap (λ z. map f (take i xs) ++ z ∷ []) (sym t)
+
+flat-append : {R S : Type 0} (f : R → List S) (xs : List R) (x : R) → flat f (xs ++ x ∷ []) ≡ flat f xs ++ f x
+flat-append f [] x = append-nil (f x)
+flat-append f (y ∷ ys) x = ap (λ l. f y ++ l) (flat-append f ys x) ∙ sym (append_assoc (f y) (flat f ys) (f x))
+
+pub next_gathered : {R S : Type 0} (f : R → List S) (xs : List R) (i : ℕ) (x : R) (y : List S) → i < length xs → x ≡ get_or xs i x → y ≡ f x → flat f (take (i + 1) xs) ≡ flat f (take i xs) ++ y
+next_gathered f xs i x y l e t = ap (flat f) (next_item xs i x l e) ∙ flat-append f (take i xs) x ∙ ap (λ z. flat f (take i xs) ++ z) (sym t)

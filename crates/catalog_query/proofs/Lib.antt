@@ -1,0 +1,6 @@
+pub mod Items
+pub mod Filters
+pub mod Gathering
+pub mod OneKey
+pub mod Cutting
+pub mod NameLists

@@ -1,0 +1,5 @@
+pub mod Laws
+pub mod Lists
+pub mod Places
+pub mod Placing
+pub mod Standing

@@ -1,0 +1,44 @@
+-- What a change of the rows changes: which tables, and which service names' reads.
+use Rattle.std.specs.Prelude.{◌≡◌, ℕ, Bool, not, List, ◌&&◌, ◌||◌, filter}
+use Rattle.std.specs.List.{IsDistinct}
+use Rattle.std.specs.Cmp.Lexicographic.{pointwise}
+use Rattle.cat_model.specs.Keys.{same_text}
+use Rattle.cat_model.specs.Same.{same_node, same_service, same_check}
+use Rattle.cat_model.specs.Catalog.{same_catalog}
+use Rattle.cat_model.specs.Queries.{service_rows}
+use Rattle.cat_model.specs.Indexes.{has_name}
+use Rattle.catalog_table.specs.Rows.{Rows, catalog_of}
+use Rattle.catalog_table.specs.Names.{is_among}
+use Rattle.catalog_table.specs.declared.changed.Changed.{Changed}
+
+-- some service has this name
+abbrev pub is_named : List ℕ → Rows → Bool
+is_named name r = has_name name (catalog_of r)
+
+-- what a read of the service name takes differs
+abbrev pub reads_differ : Rows → Rows → List ℕ → Bool
+reads_differ old new name = not (same_catalog (service_rows name (catalog_of old)) (service_rows name (catalog_of new)))
+
+-- the name has service rows before and none after
+abbrev pub vanishes : Rows → Rows → List ℕ → Bool
+vanishes old new name = is_named name old && not (is_named name new)
+
+-- the change from old to new: the tables that differ, the names whose reads differ and those that vanish, each once
+pub record Tells (old new : Rows) (c : Changed) : Type 0 where
+  pub nodes : c.nodes ≡ not (pointwise same_node old.nodes new.nodes)
+  pub services : c.services ≡ not (pointwise same_service old.services new.services)
+  pub checks : c.checks ≡ not (pointwise same_check old.checks new.checks)
+  pub names : (name : List ℕ) → is_among c.names name ≡ reads_differ old new name
+  pub names_once : IsDistinct same_text c.names
+  pub vanished : (name : List ℕ) → is_among c.vanished name ≡ vanishes old new name
+  pub vanished_once : IsDistinct same_text c.vanished
+
+-- the same, told from the node's rows before and after and the names of their services
+pub record ByParts (before after new : Rows) (among : List (List ℕ)) (c : Changed) : Type 0 where
+  pub nodes : c.nodes ≡ not (pointwise same_node before.nodes after.nodes)
+  pub services : c.services ≡ not (pointwise same_service before.services after.services)
+  pub checks : c.checks ≡ not (pointwise same_check before.checks after.checks)
+  pub covers : (name : List ℕ) → is_among among name ≡ (is_named name before || is_named name after)
+  pub once : IsDistinct same_text among
+  pub names : c.names ≡ filter (reads_differ before after) among
+  pub vanished : c.vanished ≡ filter (λ name. not (is_named name new)) among

@@ -1,0 +1,5 @@
+pub mod Rows
+pub mod Names
+pub mod Changes
+pub mod Steps
+pub mod Puts

@@ -1,0 +1,208 @@
+ghost use Rattle.std.specs.Prelude.{◌≡◌, IfErr, IfOk, OnErr, OnOk, filter, not, true};
+ghost use Rattle.std.specs.Option.{option_copied};
+ghost use Rattle.cat_model.specs.Keys.{text_cmp, pair_cmp, same_text};
+ghost use Rattle.cat_model.specs.Same.{same_status};
+ghost use Rattle.cat_model.specs.Tables.{Ascends};
+ghost use Rattle.cat_model.specs.Catalog.{node_at, service_at, check_at, node_key, service_key, check_key};
+ghost use Rattle.catalog_table.specs.Rows.{Rows, no_rows, catalog_of, InOrder, on_node, off_node};
+ghost use Rattle.catalog_table.specs.Changes.{is_named, Tells};
+ghost use Rattle.catalog_table.specs.Steps.{IsRegister, IsNotDone, IsUndone, step_of, put_rows, take_service, take_check, take_node};
+
+use crate::lists::kept;
+use crate::names::{differing, names_of};
+use crate::part::{Part, are_same_checks, are_same_nodes, are_same_services};
+use crate::same::{is_same, is_same_status, is_text};
+use crate::{Changed, RegisterFault};
+use cat_model::{CheckRow, List, Memory, NodeRow, ServiceRow, Status, Text, Texts};
+use row_table::{ByNode, ByPair, Row, RowTable};
+use std::alloc::Global;
+use std::marker::Model;
+
+/// The nodes, services and checks, each list in the order of its keys. Contracts see them as they are now and as they
+/// stood at the last `keep`, or at `new` where there was none. Positions are those of the log.
+#[derive(Drop)]
+pub struct CatalogTable {
+    pub(crate) nodes: RowTable<NodeRow>,
+    pub(crate) services: RowTable<ServiceRow>,
+    pub(crate) checks: RowTable<CheckRow>,
+}
+
+impl Model for CatalogTable {
+    ghost use Rattle.catalog_table.specs.Rows.{RowsVersions};
+
+    ghost Value = { RowsVersions };
+
+    ghost view = { λ t. record { now = record { nodes = t.nodes.now; services = t.services.now; checks = t.checks.now }; before = record { nodes = t.nodes.before; services = t.services.before; checks = t.checks.before } } };
+}
+
+fn each<R: Row>(alloc: Global, rows: &RowTable<R>) -> Result<Vec<R>, Memory>
+    ensures { IfOk result (λ v. v.items ≡ filter (λ _. true) rows.now.now) }
+{
+    rows.copied(alloc, |_| true)
+}
+
+// Copies of all rows.
+fn all<R: Row>(alloc: Global, rows: &RowTable<R>) -> Result<List<R>, Memory>
+    ensures { IfOk result (λ l. l ≡ rows.now.now) }
+{
+    Ok(List::from(each(alloc, rows)?))
+}
+
+impl CatalogTable {
+    /// The empty table, which takes no memory.
+    pub fn new(alloc: Global) -> CatalogTable
+        ensures now { result.now ≡ no_rows }
+        ensures before { result.before ≡ no_rows }
+    {
+        CatalogTable {
+            nodes: RowTable::new(alloc),
+            services: RowTable::new(alloc),
+            checks: RowTable::new(alloc),
+        }
+    }
+
+    /// The node of this name.
+    pub fn node(&self, node: &str) -> Option<&NodeRow>
+        ensures { option_copied result ≡ node_at node.now self.now.now.nodes }
+    {
+        self.nodes.get(&ByNode(node))
+    }
+
+    /// The service of this ID on the node.
+    pub fn service(&self, node: &str, id: &str) -> Option<&ServiceRow>
+        ensures { option_copied result ≡ service_at (node.now, id.now) self.now.now.services }
+    {
+        self.services.get(&ByPair { node, id })
+    }
+
+    /// The check of this ID on the node.
+    pub fn check(&self, node: &str, id: &str) -> Option<&CheckRow>
+        ensures { option_copied result ≡ check_at (node.now, id.now) self.now.now.checks }
+    {
+        self.checks.get(&ByPair { node, id })
+    }
+
+    /// Copies of the services with this name, by node and then by ID.
+    pub fn services_named(&self, alloc: Global, name: &str) -> Result<List<ServiceRow>, Memory>
+        ensures { IfOk result (λ l. l ≡ filter (λ r. same_text r.name name.now) self.now.now.services) }
+    {
+        Ok(List::from(self.services.copied(alloc, |r| is_text(&r.name, name))?))
+    }
+
+    /// Copies of the node's checks, by ID.
+    pub fn checks_of(&self, alloc: Global, node: &str) -> Result<List<CheckRow>, Memory>
+        ensures { IfOk result (λ l. l ≡ filter (λ r. same_text r.node node.now) self.now.now.checks) }
+    {
+        Ok(List::from(self.checks.copied(alloc, |r| is_text(&r.node, node))?))
+    }
+
+    /// Copies of the checks in this state, by node and then by ID.
+    pub fn checks_with(&self, alloc: Global, status: Status) -> Result<List<CheckRow>, Memory>
+        ensures { IfOk result (λ l. l ≡ filter (λ r. same_status r.status status) self.now.now.checks) }
+    {
+        Ok(List::from(
+            self.checks
+                .copied(alloc, |r| is_same_status(r.status, status))?,
+        ))
+    }
+
+    /// Copies of all nodes, by name.
+    pub fn nodes(&self, alloc: Global) -> Result<List<NodeRow>, Memory>
+        ensures { IfOk result (λ l. l ≡ self.now.now.nodes) }
+    {
+        all(alloc, &self.nodes)
+    }
+
+    /// Copies of all services, by node and then by ID.
+    pub fn services(&self, alloc: Global) -> Result<List<ServiceRow>, Memory>
+        ensures { IfOk result (λ l. l ≡ self.now.now.services) }
+    {
+        all(alloc, &self.services)
+    }
+
+    /// Copies of all checks, by node and then by ID.
+    pub fn checks(&self, alloc: Global) -> Result<List<CheckRow>, Memory>
+        ensures { IfOk result (λ l. l ≡ self.now.now.checks) }
+    {
+        all(alloc, &self.checks)
+    }
+
+    /// Tells a proof that the rows are in the order of their keys.
+    pub fn in_order(&self)
+        ensures { InOrder self.now.now }
+    {
+        self.nodes.in_order();
+        self.services.in_order();
+        self.checks.in_order();
+    }
+
+    /// Makes the rows that are there those to which `undo` goes back.
+    pub fn keep(&mut self)
+        ensures now { self.new.now ≡ self.old.now }
+        ensures before { self.new.before ≡ self.old.now }
+    {
+        self.nodes.keep();
+        self.services.keep();
+        self.checks.keep();
+    }
+
+    /// Makes the rows again those of the last `keep`, or of `new` where there was none.
+    pub fn undo(&mut self)
+        ensures { IsUndone self.old self.new }
+    {
+        self.nodes.undo();
+        self.services.undo();
+        self.checks.undo();
+    }
+
+    // Copies of the node's rows.
+    pub(crate) fn part_of(&self, alloc: Global, node: &str) -> Result<Part, Memory>
+        ensures { IfOk result (λ p. p ≡ on_node node.now self.now.now) }
+    {
+        let nodes = self.nodes.copied(alloc, |r| is_text(&r.node, node))?;
+        let services = self.services.copied(alloc, |r| is_text(&r.node, node))?;
+        let checks = self.checks.copied(alloc, |r| is_text(&r.node, node))?;
+        Ok(Part {
+            nodes: List::from(nodes),
+            services: List::from(services),
+            checks: List::from(checks),
+        })
+    }
+
+    // Whether some service has this name.
+    fn has_name(&self, name: &Text) -> bool
+        ensures { result ≡ is_named name.now self.now.now }
+    {
+        self.services.any(|s| is_same(&s.name, name))
+    }
+
+    // Those of the names that no service has.
+    fn unnamed(&self, alloc: Global, names: &[Text]) -> Result<Texts, Memory>
+        ensures { IfOk result (λ l. l ≡ filter (λ n. not (is_named n self.now.now)) names.now) }
+    {
+        kept(alloc, names, |n| !self.has_name(n))
+    }
+
+    // What changed since the node's rows were these, where other nodes' rows did not change.
+    pub(crate) fn change_since(
+        &self,
+        alloc: Global,
+        node: &str,
+        before: &Part,
+    ) -> Result<Changed, Memory>
+        ensures { IfOk result (λ c. (old : Rows) → InOrder old → before.now ≡ on_node node.now old → off_node node.now old ≡ off_node node.now self.now.now → Tells old self.now.now c) }
+    {
+        let after = self.part_of(alloc, node)?;
+        let names = names_of(alloc, before, &after)?;
+        let changed = differing(alloc, names.as_slice(), before, &after)?;
+        let vanished = self.unnamed(alloc, names.as_slice())?;
+        self.in_order();
+        Ok(Changed {
+            nodes: !are_same_nodes(before, &after),
+            services: !are_same_services(before, &after),
+            checks: !are_same_checks(before, &after),
+            names: changed,
+            vanished,
+        })
+    }
+}

@@ -1,0 +1,12 @@
+//! Instances of services with their nodes and checks, and the filters on them by status and by tags.
+#![tactic(auto)]
+
+mod filters;
+mod instances;
+mod lists;
+#[cfg(test)]
+mod tests;
+mod texts;
+
+pub use filters::{not_critical, only_passing, with_tags};
+pub use instances::join;
