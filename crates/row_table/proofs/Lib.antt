@@ -1,3 +1,4 @@
+pub mod Searching
 pub mod Ties
 pub mod Choices
 pub mod Placing

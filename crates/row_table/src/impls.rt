@@ -28,6 +28,31 @@ pub struct ByPair<'a> {
 #[derive(Clone, Copy)]
 pub struct ById(pub u128);
 
+// By node and then by ID.
+fn pair_order(a: &ByPair<'_>, b: &ByPair<'_>) -> Ordering
+    ensures { result ≡ pair_cmp (a.now.node.now, a.now.id.now) (b.now.node.now, b.now.id.now) }
+{
+    a.node.cmp(b.node).then(a.id.cmp(b.id))
+}
+
+fn service_pair(row: &ServiceRow) -> ByPair<'_>
+    ensures { (result.node.now, result.id.now) ≡ service_key row.now }
+{
+    ByPair {
+        node: row.node.as_str(),
+        id: row.id.as_str(),
+    }
+}
+
+fn check_pair(row: &CheckRow) -> ByPair<'_>
+    ensures { (result.node.now, result.id.now) ≡ check_key row.now }
+{
+    ByPair {
+        node: row.node.as_str(),
+        id: row.id.as_str(),
+    }
+}
+
 impl Row for NodeRow {
     type Key = Text;
 
@@ -60,8 +85,7 @@ impl Row for ServiceRow {
     ghost exact = { exact_pair };
 
     fn order(&self, other: &ServiceRow) -> Ordering {
-        let nodes = self.node.as_str().cmp(other.node.as_str());
-        nodes.then(self.id.as_str().cmp(other.id.as_str()))
+        pair_order(&service_pair(self), &service_pair(other))
     }
 
     fn copy(&self) -> Result<ServiceRow, Memory> {
@@ -81,8 +105,7 @@ impl Row for CheckRow {
     ghost exact = { exact_pair };
 
     fn order(&self, other: &CheckRow) -> Ordering {
-        let nodes = self.node.as_str().cmp(other.node.as_str());
-        nodes.then(self.id.as_str().cmp(other.id.as_str()))
+        pair_order(&check_pair(self), &check_pair(other))
     }
 
     fn copy(&self) -> Result<CheckRow, Memory> {
@@ -142,8 +165,7 @@ impl<'a> Probe<ServiceRow> for ByPair<'a> {
     ghost sought = { λ p. (p.node.now, p.id.now) };
 
     fn place(&self, row: &ServiceRow) -> Ordering {
-        let nodes = row.node.as_str().cmp(self.node);
-        nodes.then(row.id.as_str().cmp(self.id))
+        pair_order(&service_pair(row), self)
     }
 }
 
@@ -151,8 +173,7 @@ impl<'a> Probe<CheckRow> for ByPair<'a> {
     ghost sought = { λ p. (p.node.now, p.id.now) };
 
     fn place(&self, row: &CheckRow) -> Ordering {
-        let nodes = row.node.as_str().cmp(self.node);
-        nodes.then(row.id.as_str().cmp(self.id))
+        pair_order(&check_pair(row), self)
     }
 }
 

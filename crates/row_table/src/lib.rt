@@ -8,6 +8,8 @@ mod row;
 mod slot;
 mod slots;
 mod table;
+#[cfg(test)]
+mod tests;
 
 pub use impls::{ById, ByNode, ByPair};
 pub use iter::Rows;

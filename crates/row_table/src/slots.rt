@@ -15,14 +15,16 @@ use std::alloc::Global;
 
 // How many slots have a smaller key.
 fn place<R: Row, P: Probe<R>>(slots: &[Slot<R>], probe: &P) -> usize
+    requires { InOrder R.cmp R.key slots.now }
     ensures counted { result ≡ rank R.cmp R.key (P.sought probe.now) slots.now }
     ensures within { result ≤ length slots.now }
 {
-    slots.iter().filter(|s| probe.place(&s.row).is_lt()).count()
+    slots.partition_point(|s| probe.place(&s.row).is_lt())
 }
 
 // Where the slot of a key stands, or else where it would stand.
 pub(crate) fn find<R: Row, P: Probe<R>>(slots: &[Slot<R>], probe: &P) -> Result<usize, usize>
+    requires { InOrder R.cmp R.key slots.now }
     ensures found { IfOk result (HasPlace R.cmp R.key (P.sought probe.now) slots.now) }
     ensures absent { IfErr result (LacksPlace R.cmp R.key (P.sought probe.now) slots.now) }
 {
