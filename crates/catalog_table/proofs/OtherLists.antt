@@ -1,13 +1,12 @@
 -- A Register or a Deregister reads and changes no other list of the catalog.
 use Rattle.std.proofs.Common.{◌≡◌, ℕ, Bool, true, false, not, cond, List, [], ◌∷◌, refl, Option}
-use Rattle.std.specs.List.{list_any}
 use Rattle.cat_model.specs.Keys.{is_empty}
 use Rattle.cat_model.specs.Catalog.{Catalog}
-use Rattle.cat_model.specs.Machine.{Step, act, register, deregister, deregister_service, deregister_check, deregister_node, unless, refusal_of, put_node, put_given, put_checks, last_of_each, has_service}
+use Rattle.cat_model.specs.Machine.{Step, act, register, deregister, deregister_service, deregister_check, deregister_node, unless, refusal_of, last_of_each}
 use Rattle.cat_model.specs.declared.command.NewService.{NewService}
 use Rattle.cat_model.specs.declared.command.NewCheck.{NewCheck}
 use Rattle.cat_model.specs.declared.command.Command.{Command}
-use Rattle.cat_model.specs.declared.command.Command.TheVariants.{Noop, Register, Deregister, KvSet, KvCas, KvLock, KvUnlock, KvDelete, KvDeleteCas, KvDeleteTree, Txn, SessionCreate, SessionDestroy, QuerySet, QueryDelete, Reap}
+use Rattle.cat_model.specs.declared.command.Command.TheVariants.{Register, Deregister}
 use Rattle.cat_model.specs.declared.applied.Refuse.TheVariants as refusals
 use Rattle.cat_model.specs.declared.applied.Applied.TheVariants.{Yes}
 use Rattle.catalog_table.specs.Rows.{Rows, rows_of, catalog_of}

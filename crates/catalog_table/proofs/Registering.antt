@@ -9,7 +9,7 @@ use Rattle.cat_model.specs.Keys.{pair_cmp, same_text, is_empty}
 use Rattle.cat_model.specs.Tables.{put}
 use Rattle.cat_model.specs.Same.{alike_services}
 use Rattle.cat_model.specs.Catalog.{service_at, service_key}
-use Rattle.cat_model.specs.Machine.{register, unless, refusal_of, put_service, put_given, put_node, put_checks, last_of_each, has_service}
+use Rattle.cat_model.specs.Machine.{register, unless, refusal_of, put_service, put_given, last_of_each, has_service}
 use Rattle.cat_model.specs.declared.row.ServiceRow.{ServiceRow}
 use Rattle.cat_model.specs.declared.command.NewService.{NewService}
 use Rattle.cat_model.specs.declared.command.NewCheck.{NewCheck}

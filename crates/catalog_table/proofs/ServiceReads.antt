@@ -1,5 +1,5 @@
 -- What a read of a service name takes of one node's rows and of the others'.
-use Rattle.std.proofs.Common.{◌≡◌, ℕ, Bool, true, false, not, List, refl, sym, ◌∙◌, ap, filter, ◌&&◌}
+use Rattle.std.proofs.Common.{◌≡◌, ℕ, Bool, true, false, not, List, refl, sym, ◌∙◌, ap, filter}
 use Rattle.std.specs.List.{list_any}
 use Rattle.std.specs.Bool.{Decides}
 use Rattle.std.specs.Cmp.Lexicographic.{pointwise, pointwise_decides}
@@ -11,7 +11,7 @@ use Rattle.std.proofs.lemmas.Map.Views.{any-filter_same}
 use Rattle.cat_model.specs.Keys.{text_cmp, pair_cmp, same_text}
 use Rattle.cat_model.specs.Tables.{Ascends}
 use Rattle.cat_model.specs.Same.{same_node, same_service, same_check}
-use Rattle.cat_model.specs.Catalog.{Catalog, same_catalog, empty_catalog, node_key, service_key, check_key}
+use Rattle.cat_model.specs.Catalog.{empty_catalog, node_key, service_key, check_key}
 use Rattle.cat_model.specs.Queries.{service_rows, is_of}
 use Rattle.cat_model.specs.declared.row.NodeRow.{NodeRow}
 use Rattle.cat_model.specs.declared.row.ServiceRow.{ServiceRow}

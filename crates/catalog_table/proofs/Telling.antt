@@ -1,11 +1,10 @@
 -- What a change of one node's rows changes, told from them.
 use Rattle.std.proofs.Common.{◌≡◌, ℕ, Bool, true, false, not, List, [], refl, sym, ◌∙◌, ap, subst, filter, ◌&&◌, ◌||◌}
-use Rattle.std.specs.List.{list_any, IsDistinct}
+use Rattle.std.specs.List.{IsDistinct}
 use Rattle.std.specs.Cmp.Lexicographic.{pointwise}
-use Rattle.std.proofs.lemmas.Bool.{true≢false, false≢true}
+use Rattle.std.proofs.lemmas.Bool.{true≢false}
 use Rattle.cat_model.specs.Keys.{same_text}
 use Rattle.cat_model.specs.Same.{same_node, same_service, same_check}
-use Rattle.cat_model.specs.Catalog.{empty_catalog, same_catalog}
 use Rattle.cat_model.specs.Queries.{service_rows}
 use Rattle.cat_model.specs.declared.row.ServiceRow.{ServiceRow}
 use Rattle.cat_model.proofs.SameLemmas.{catalog_decides}

@@ -1,6 +1,6 @@
 -- The names of services, each once.
-use Rattle.std.specs.Prelude.{◌≡◌, ℕ, Bool, if◌then◌else◌, List, [], ◌∷◌, ◌++◌, ◌||◌}
-use Rattle.std.specs.List.{list_any, IsDistinct}
+use Rattle.std.specs.Prelude.{ℕ, Bool, if◌then◌else◌, List, [], ◌∷◌, ◌++◌}
+use Rattle.std.specs.List.{list_any}
 use Rattle.cat_model.specs.Keys.{same_text}
 use Rattle.cat_model.specs.declared.row.ServiceRow.{ServiceRow}
 

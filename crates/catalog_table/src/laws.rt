@@ -8,5 +8,4 @@ ghost use Rattle.catalog_table.specs.Steps.{IsRegistration, StepsOnRows};
 /// A Register or a Deregister reads and changes no other list of the catalog.
 pub fn other_lists_law()
     ensures { (position : ℕ) (command : Command) (k : Catalog) → IsRegistration command → StepsOnRows position command k }
-{
-}
+{}

@@ -1,4 +1,4 @@
-use Rattle.std.proofs.Common.{◌≡◌, ◌∙◌, ◌++◌, [], ◌∷◌, sym, ap, cond, filter, take, append-nil}
+use Rattle.std.proofs.Common.{◌∙◌, ◌++◌, [], ◌∷◌, sym, ap, cond, filter, take, append-nil}
 use Rattle.catalog_table.specs.Changes.{reads_differ}
 use Rattle.catalog_table.proofs.Items.{next_kept}
 use Rattle.catalog_table.proofs.names.differing.Goals as goal

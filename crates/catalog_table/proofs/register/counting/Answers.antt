@@ -1,4 +1,4 @@
-use Rattle.std.proofs.Common.{◌≡◌, ◌∙◌, ◌++◌, [], ◌∷◌, sym, ap}
+use Rattle.std.proofs.Common.{◌∙◌, ◌++◌, [], ◌∷◌, sym, ap}
 use Rattle.cat_model.specs.Machine.{last_of_each}
 use Rattle.catalog_table.proofs.Checks.{counts}
 use Rattle.catalog_table.proofs.register.counting.Goals as goal
