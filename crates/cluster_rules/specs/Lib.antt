@@ -5,3 +5,5 @@ pub mod Due
 pub mod Requests
 pub mod Step
 pub mod Reached
+pub mod Sound
+pub mod Legal
