@@ -7,3 +7,4 @@ pub mod Step
 pub mod Reached
 pub mod Sound
 pub mod Legal
+pub mod Runs

@@ -1,0 +1,56 @@
+-- The smallest run that does something, computed: one server is elected, a key is set, and read.
+use Rattle.std.specs.Prelude.{◌≡◌, ℕ, true, false, List, [], ◌∷◌, length, Some, None, codes}
+use Rattle.cat_model.specs.declared.query.Query.TheVariants as query
+use Rattle.cat_model.specs.declared.query.Answer.TheVariants as answer
+use Rattle.cat_model.specs.declared.command.Command.{Command}
+use Rattle.cat_model.specs.declared.command.Command.TheVariants.{KvSet}
+use Rattle.cat_model.specs.declared.applied.Applied.TheVariants as applied
+use Rattle.cat_model.specs.declared.request.Mode.TheVariants.{Default}
+use Rattle.cat_model.specs.declared.request.Request.TheVariants.{Read, Write}
+use Rattle.cat_model.specs.declared.request.Asked.{Asked}
+use Rattle.cat_model.specs.declared.request.Asked.TheVariants.{Good}
+use Rattle.cat_model.specs.declared.request.Draw.{Draw}
+use Rattle.cat_model.specs.declared.request.Event.{Event}
+use Rattle.cat_model.specs.declared.request.Event.TheVariants as event
+use Rattle.cat_model.specs.declared.reply.Kind.TheVariants.{Acked, At}
+use Rattle.raft_model.specs.Runs.{fresh}
+use Rattle.cluster_rules.specs.Replies.{Out, Replied, Shows, Tells}
+use Rattle.cluster_rules.specs.Cluster.{Cluster, started}
+use Rattle.cluster_rules.specs.Reached.{Move, Makes, Reached}
+
+abbrev pub drawn : Draw
+drawn = record { hi = 0; lo = 0 }
+
+abbrev pub set_a : Command
+set_a = KvSet (codes "a") 0 (codes "hello")
+
+abbrev pub put_a : Asked
+put_a = Good (Write set_a)
+
+abbrev pub get_a : Asked
+get_a = Good (Read (query.Key (codes "a")) Default 0 0 false)
+
+-- the events of the run, the last one first
+abbrev pub put_and_get : List Move
+put_and_get = Makes (event.Ask 1 get_a drawn) ∷ Makes (event.Ask 1 put_a drawn) ∷ Makes (event.Timeout 1) ∷ []
+
+-- the replies: the write stands at position 2, and the read shows its row with index 2
+abbrev pub put_and_get_outs : List Out
+put_and_get_outs =
+    Replied (record { number = 1; index = None; content = Tells set_a applied.Yes; known = false; contact = 0; kind = Acked 2 })
+    ∷ Replied (record {
+      number = 2;
+      index = Some 2;
+      content = Shows (query.Key (codes "a")) false (answer.Rows (record { key = codes "a"; value = codes "hello"; flags = 0; session = None; lock_index = 0; create = 2; modify = 2 } ∷ []));
+      known = true;
+      contact = 0;
+      kind = At Default 2 2 0 300000;
+    })
+    ∷ []
+
+pub record PutAndGet : Type 0 where
+  pub cluster : Cluster
+  pub reached : Reached (started (fresh 1) 1) true put_and_get cluster
+  pub outs : cluster.tray ≡ put_and_get_outs
+  pub agreed : length cluster.world.agreed ≡ 2
+  pub none_held : cluster.held ≡ []
