@@ -1,2 +1,5 @@
 pub mod PlainSteps
 pub mod Rows
+pub mod Tools
+pub mod Entries
+pub mod Cases

@@ -96,7 +96,7 @@ early_work c i h =
 -- what is due once all that is committed is applied: a round that is confirmed, with its commit applied
 abbrev pub late_stand : Cluster → ℕ → Pending → Stand → Option Work
 late_stand c i h (InRound round deadline) =
-    if not (node_of c.world i).halted && is_confirmed (node_of c.world i) round && nat_le round.commit (length (applied_of c i))
+    if not (node_of c.world i).halted && (is_confirmed (node_of c.world i) round && nat_le round.commit (length (applied_of c i)))
     then Some (Holds (record h { stand = ForIndex deadline None }))
     else None
 late_stand c i h other = None
