@@ -3,3 +3,5 @@ pub mod Rows
 pub mod Tools
 pub mod Entries
 pub mod Cases
+pub mod Grows
+pub mod Later

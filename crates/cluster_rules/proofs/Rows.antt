@@ -19,7 +19,7 @@ use Rattle.raft_model.specs.Rules.{Timeout, Propose, Input, done, does, timed_ou
 use Rattle.raft_model.specs.Runs.{fresh, given, saved, empty_store}
 use Rattle.raft_model.specs.Step.{Works as StoreWorks, Forgets, NodeStep}
 use Rattle.raft_model.specs.World.{World, Acts as NodeActs, nothing_kept}
-use Rattle.cluster_rules.specs.Replies.{Question, entered, shown_for}
+use Rattle.cluster_rules.specs.Replies.{Question, entered, shown}
 use Rattle.cluster_rules.specs.Cluster.{AtPlace, ForIndex, Proposed, Looked, Cluster, started, node_of}
 use Rattle.cluster_rules.specs.Due.{Replies, Applies, did, due, none, work, next_one, early}
 use Rattle.cluster_rules.specs.Requests.{holding, moved, proposes as proposes_it, reads as reads_it}
@@ -94,19 +94,19 @@ first_step = whole_step 1 (marked (event.Timeout 1) (started (fresh 1) 1)) (did 
     (acts one (did 1 Applies one) (takes Timeout led refl refl timeout refl) timeout_works (work Applies (next_one refl refl) none, refl) (over refl)) refl
 
 second_step : ClusterStep two (event.Ask 1 put_a drawn) (shelved four) true
-unfolding four three wrote question two one led given fresh done does timed_out candidate leads proposes did number_within entered shown_for propose
+unfolding four three wrote question two one led given fresh done does timed_out candidate leads proposes did number_within entered shown propose
 second_step = whole_step 1 (marked (event.Ask 1 put_a drawn) two) four (none, refl)
     (acts three four (handles 1 put_a drawn refl refl refl (proposes_it set_a wrote refl refl (inr refl) refl propose refl refl)) tt
     (work Applies (next_one refl refl) (work (Replies question (Acked 2)) (early [] [] _ refl refl) none), refl) (over refl)) refl
 
 third_step : ClusterStep (shelved four) (event.Ask 1 get_a drawn) six true
-unfolding six five question' four three wrote question two one led given fresh done does timed_out candidate leads proposes did number_within entered shown_for put same_kv same_catalog write_kv kv_set act unless broken end_sessions apply at_past reads touches some_vanishes past_index answer_from
+unfolding six five question' four three wrote question two one led given fresh done does timed_out candidate leads proposes did number_within entered shown put same_kv same_catalog write_kv kv_set act unless broken end_sessions apply at_past reads touches some_vanishes past_index answer_from
 third_step = whole_step 1 (marked (event.Ask 1 get_a drawn) (shelved four)) (did 1 (Replies question' (At Default 2 2 0 300000)) five) (none, refl)
     (acts five (did 1 (Replies question' (At Default 2 2 0 300000)) five) (handles 1 get_a drawn refl refl refl (reads_it (query.Key (codes "a")) Default 0 0 false refl (λ e. absurd (cc e)) (inr refl) refl)) tt
     (work (Replies question' (At Default 2 2 0 300000)) (early [] [] _ refl refl) none, refl) (over refl)) refl
 
 pub put_and_get : PutAndGet
-unfolding six five question' four three wrote question two one led given fresh done does timed_out candidate leads proposes did number_within entered shown_for put same_kv same_catalog write_kv kv_set act unless broken end_sessions apply at_past reads touches some_vanishes past_index answer_from
+unfolding six five question' four three wrote question two one led given fresh done does timed_out candidate leads proposes did number_within entered shown put same_kv same_catalog write_kv kv_set act unless broken end_sessions apply at_past reads touches some_vanishes past_index answer_from
 put_and_get = record {
   cluster = six;
   reached = by_event (event.Ask 1 get_a drawn) true (by_event (event.Ask 1 put_a drawn) true (by_event (event.Timeout 1) true at_start (omega arith, omega arith) first_step) (omega arith, omega arith) second_step) (omega arith, omega arith) third_step;

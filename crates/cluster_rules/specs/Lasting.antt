@@ -78,15 +78,20 @@ RefusesWrite (refusal.LogFull entries bytes) = (most_entries < entries) ⊎ (mos
 RefusesWrite (refusal.Halted server) = Unit {0}
 RefusesWrite other = ⊥
 
--- No kind lasts but these. A request that is none has the refusal that it came with.
+-- Why a request may be refused. A request that is none has the refusal that it came with.
+abbrev pub IsRefused : Asked → Refusal → Type 0
+IsRefused (Good (Read query mode least wait raw)) why = RefusesRead mode why
+IsRefused (Good (Write command)) why = RefusesWrite why
+IsRefused (Good other) why = ⊥
+IsRefused (Bad why) other = other ≡ why
+
+-- No other kind lasts: agents' answers, executions, renewals and lock delays are cases to be added.
 unfoldable pub LastsFor : Question → Asked → Kind → Log → Type 0
-LastsFor q (Good (Write command)) (Acked position) log = IsEntered position q.number (entered q command) log
-LastsFor q (Good (Write command)) (Refused why) log = RefusesWrite why
-LastsFor q (Good (Read query mode least wait raw)) (At by prefix index clock deadline) log =
-    (by ≡ mode) × IsAnswerAt query least prefix index clock deadline log
-LastsFor q (Good (Read query mode least wait raw)) (Refused why) log = RefusesRead mode why
-LastsFor q (Bad why) (Refused other) log = other ≡ why
-LastsFor q asked kind log = ⊥
+LastsFor q asked (Acked position) log = IsWrite asked (λ command. IsEntered position q.number (entered q command) log)
+LastsFor q asked (At by prefix index clock deadline) log =
+    IsRead asked (λ query mode least. (by ≡ mode) × IsAnswerAt query least prefix index clock deadline log)
+LastsFor q asked (Refused why) log = IsRefused asked why
+LastsFor q asked other log = ⊥
 
 abbrev pub Lasting : Question → Kind → Log → Type 0
 Lasting q kind log = LastsFor q q.asked kind log

@@ -57,16 +57,20 @@ pub data Content : Type 0 where
   Blank : Content
 
 -- what it shows over a log: a write's answer at its position, a read's at its prefix, or the refusal
-unfoldable pub shown_for : Question → Asked → Kind → List Entry → Content
-shown_for q (Good (Write command)) (Acked position) log =
+abbrev pub shown_write : Question → Asked → ℕ → List Entry → Content
+shown_write q (Good (Write command)) position log =
     Tells (entered q command) (reply_to (commands_of (take (position - 1) log)) (entered q command))
-shown_for q (Good (Read query mode least wait raw)) (At by prefix index clock deadline) log =
-    Shows query raw (answer query (catalog_at (commands_of (take prefix log))))
-shown_for q asked (Refused why) log = Says why
-shown_for q asked kind log = Blank
+shown_write q other position log = Blank
 
-abbrev pub shown : Question → Kind → List Entry → Content
-shown q kind log = shown_for q q.asked kind log
+abbrev pub shown_read : Asked → ℕ → List Entry → Content
+shown_read (Good (Read query mode least wait raw)) prefix log = Shows query raw (answer query (catalog_at (commands_of (take prefix log))))
+shown_read other prefix log = Blank
+
+unfoldable pub shown : Question → Kind → List Entry → Content
+shown q (Acked position) log = shown_write q q.asked position log
+shown q (At mode prefix index clock deadline) log = shown_read q.asked prefix log
+shown q (Refused why) log = Says why
+shown q other log = Blank
 
 -- the index that a reply names, which is that of a read
 abbrev pub index_shown : Kind → Option ℕ
