@@ -5,3 +5,4 @@ pub mod Entries
 pub mod Cases
 pub mod Grows
 pub mod Later
+pub mod Works
