@@ -6,3 +6,4 @@ pub mod Cases
 pub mod Grows
 pub mod Later
 pub mod Works
+pub mod Due
