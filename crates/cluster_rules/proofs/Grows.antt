@@ -29,7 +29,7 @@ pub record GoesTo (w w' : World) : Type 0 where
   pub grows : take (length w.agreed) w'.agreed ≡ w.agreed
   pub on : (v : World) → Reaches w' v → Reaches w v
 
-reaches_from : (w w' v : World) (move : Move) → WorldStep w move w' → Reaches w' v → Reaches w v
+pub reaches_from : (w w' v : World) (move : Move) → WorldStep w move w' → Reaches w' v → Reaches w v
 reaches_from w w' v move s here = next move here s
 reaches_from w w' v move s (next {v = u} m p e) = next m (reaches_from w w' u move s p) e
 

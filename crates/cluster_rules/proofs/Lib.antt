@@ -7,3 +7,6 @@ pub mod Grows
 pub mod Later
 pub mod Works
 pub mod Due
+pub mod Terms
+pub mod Boundary
+pub mod Moved
