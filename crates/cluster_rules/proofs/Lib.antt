@@ -10,3 +10,5 @@ pub mod Due
 pub mod Terms
 pub mod Boundary
 pub mod Moved
+pub mod Asking
+pub mod Handling
