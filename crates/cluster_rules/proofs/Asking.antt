@@ -36,7 +36,7 @@ pub record AskIsNew (c : Cluster) (q : Question) : Type 0 where
   pub above : Each (λ (h : Pending). h.question.number < q.number) c.held
   pub before : entries_before q.number c.past ≡ length c.world.agreed
   pub number : q.number ≡ c.asked
-  pub some : 0 < q.number
+  pub numbers : c.world.greatest < q.number
 
 -- a work for another request
 abbrev pub WorkIsNot : ℕ → Work → Type 0
@@ -66,10 +66,10 @@ due_not n c i a w e = due_cases c i (WorkIsNot n) (λ (h : Pending). h.question.
 -- what is done for others leaves a new request new
 did_new : (c : Cluster) (q : Question) → AskIsNew c q → (i : ℕ) (w : Work) → WorkIsNot q.number w → AskIsNew (did i w c) q
 unfolding did
-did_new c q a i (Replies r kind) d = record { was = inr a.was; open_ = (d, a.open_); above = each_kept (λ (h : Pending). h.question.number < q.number) r.number c.held a.above; before = a.before; number = a.number; some = a.some }
-did_new c q a i (Holds h) d = record { was = a.was; open_ = a.open_; above = each_with (λ (h : Pending). h.question.number < q.number) h c.held d a.above; before = a.before; number = a.number; some = a.some }
-did_new c q a i (Closes number event) d = record { was = a.was; open_ = a.open_; above = each_kept (λ (h : Pending). h.question.number < q.number) number c.held a.above; before = a.before; number = a.number; some = a.some }
-did_new c q a i Applies d = record { was = a.was; open_ = a.open_; above = a.above; before = a.before; number = a.number; some = a.some }
+did_new c q a i (Replies r kind) d = record { was = inr a.was; open_ = (d, a.open_); above = each_kept (λ (h : Pending). h.question.number < q.number) r.number c.held a.above; before = a.before; number = a.number; numbers = a.numbers }
+did_new c q a i (Holds h) d = record { was = a.was; open_ = a.open_; above = each_with (λ (h : Pending). h.question.number < q.number) h c.held d a.above; before = a.before; number = a.number; numbers = a.numbers }
+did_new c q a i (Closes number event) d = record { was = a.was; open_ = a.open_; above = each_kept (λ (h : Pending). h.question.number < q.number) number c.held a.above; before = a.before; number = a.number; numbers = a.numbers }
+did_new c q a i Applies d = record { was = a.was; open_ = a.open_; above = a.above; before = a.before; number = a.number; numbers = a.numbers }
 
 pub works_new : (i : ℕ) (c c' : Cluster) → Works i c c' → (q : Question) → AskIsNew c q → AskIsNew c' q
 works_new i c c' none q a = a

@@ -88,7 +88,7 @@ fresh_looked Default number past starts i n d = (i, n, inl refl, omega arith)
 fresh_looked Stale number past starts i n d = (i, n, inl refl, omega arith)
 fresh_looked Consistent number past starts i n d = absurd (d refl)
 
-module _ (c : Cluster) (s : IsSoundAtWork c) (i : ℕ) (q : Question) (a : AskIsNew c q) (from : ℕ) (goes : way c.world from q.asked ≡ Some (Goes i)) (numbers : c.world.greatest < q.number) (made_up : (node_of c.world i).commit ≤ length (applied_of c i)) where
+module _ (c : Cluster) (s : IsSoundAtWork c) (i : ℕ) (q : Question) (a : AskIsNew c q) (from : ℕ) (goes : way c.world from q.asked ≡ Some (Goes i)) (made_up : (node_of c.world i).commit ≤ length (applied_of c i)) where
   own : ServerIsSound c.world.agreed (node_of c.world i).commit (server_of c.servers i)
   own = s.servers.each i
 
@@ -136,16 +136,16 @@ module _ (c : Cluster) (s : IsSoundAtWork c) (i : ℕ) (q : Question) (a : AskIs
       (refused_sound c s q _ a.was a.open_ (unready_refused c.world from i q.asked _ _ goes st (lt_tells (last_term (applied_of c i)) (node_of c.world i).term (not_tells _ r))) tt)
   handles_sound c' (full command w' ask free go room b e) = subst IsSoundAtWork (sym e)
       (let p = plain_moved (halted_now c.world w' i) i w' c in
-      refused_sound (moved i w' c) (moved_sound c s (halted_now c.world w' i) i w' (Proposes i q.number (entered q command)) b (acts_rise c.world i _ w' s.world b) (let k = acts_greatest c.world i _ w' b in let n = a.number in omega arith)) q _
+      refused_sound (moved i w' c) (moved_sound c s (halted_now c.world w' i) i w' (Proposes i q.number (entered q command)) b (acts_rise c.world i _ w' s.world b) (let k = acts_greatest c.world i _ w' b in let n = a.number in let l = a.numbers in omega arith)) q _
       (p.was (came q) a.was) (p.open_ q.number a.open_)
       (as_write q command (λ z. IsRefused z (refusal.LogFull (length (log_with (node_of c.world i) q command)) (log_bytes (log_with (node_of c.world i) q command)))) ask (past_limits (log_with (node_of c.world i) q command) room)) tt)
   handles_sound c' (stops command w' ask free go room b down e) = subst IsSoundAtWork (sym e)
       (let p = plain_moved (halted_now c.world w' i) i w' c in
-      refused_sound (moved i w' c) (moved_sound c s (halted_now c.world w' i) i w' (Proposes i q.number (entered q command)) b (acts_rise c.world i _ w' s.world b) (let k = acts_greatest c.world i _ w' b in let n = a.number in omega arith)) q _
+      refused_sound (moved i w' c) (moved_sound c s (halted_now c.world w' i) i w' (Proposes i q.number (entered q command)) b (acts_rise c.world i _ w' s.world b) (let k = acts_greatest c.world i _ w' b in let n = a.number in let l = a.numbers in omega arith)) q _
       (p.was (came q) a.was) (p.open_ q.number a.open_) (as_write q command (λ z. IsRefused z (refusal.Halted i)) ask tt) tt)
   handles_sound c' (proposes command w' ask free go room b up e) = subst IsSoundAtWork (sym e)
       (let p = plain_moved (halted_now c.world w' i) i w' c in
-      holding_sound (moved i w' c) (moved_sound c s (halted_now c.world w' i) i w' (Proposes i q.number (entered q command)) b (acts_rise c.world i _ w' s.world b) (let k = acts_greatest c.world i _ w' b in let n = a.number in omega arith)) q i _ _
+      holding_sound (moved i w' c) (moved_sound c s (halted_now c.world w' i) i w' (Proposes i q.number (entered q command)) b (acts_rise c.world i _ w' s.world b) (let k = acts_greatest c.world i _ w' b in let n = a.number in let l = a.numbers in omega arith)) q i _ _
       (omega arith,
         proposed c.world s.world i q.number (entered q command) w' b (goes_leading c.world from i q.asked goes (as_write q command (λ z. is_stale_read z ≡ false) ask refl)) room up,
         (q, p.was (came q) a.was, refl, as_write q command (λ z. IsWrite z (λ command'. entered q command ≡ entered q command')) ask refl))
@@ -156,7 +156,7 @@ module _ (c : Cluster) (s : IsSoundAtWork c) (i : ℕ) (q : Question) (a : AskIs
       }) a.above)
   handles_sound c' (probes query least wait raw w' ask go b e) = subst IsSoundAtWork (sym e)
       (let p = plain_moved (halted_now c.world w' i) i w' c in
-      holding_sound (moved i w' c) (moved_sound c s (halted_now c.world w' i) i w' (Probes i) b (acts_rise c.world i _ w' s.world b) (let k = acts_greatest c.world i _ w' b in let n = a.number in omega arith)) q i _ _
+      holding_sound (moved i w' c) (moved_sound c s (halted_now c.world w' i) i w' (Probes i) b (acts_rise c.world i _ w' s.world b) (let k = acts_greatest c.world i _ w' b in let n = a.number in let l = a.numbers in omega arith)) q i _ _
       (subst (λ z. IsFreshRound w' z (next_round (node_of c.world i))) (sym (p.before q.number ∙ a.before)) (round lead (ready go) w' b), (q, p.was (came q) a.was, refl))
       (record {
         asked = p.was (came q) a.was;

@@ -12,3 +12,4 @@ pub mod Boundary
 pub mod Moved
 pub mod Asking
 pub mod Handling
+pub mod Steps
