@@ -13,3 +13,4 @@ pub mod Moved
 pub mod Asking
 pub mod Handling
 pub mod Steps
+pub mod Counting

@@ -179,7 +179,7 @@ shelved_sound c s = record {
 }
 
 -- only the first act knows of its event
-acts_first : (n : ℕ) (c : Cluster) (i : ℕ) (made : Event) (c' : Cluster) → Acts n c i made c' → n ≡ 0
+pub acts_first : (n : ℕ) (c : Cluster) (i : ℕ) (made : Event) (c' : Cluster) → Acts n c i made c' → n ≡ 0
 acts_first n c i made c' (takes input w' z is a e) = z
 acts_first n c i made c' (ticks ms w' z is calm st e) = z
 acts_first n c i made c' (arms nth w' z is st e) = z
