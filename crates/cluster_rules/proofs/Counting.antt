@@ -74,7 +74,7 @@ put_times k o (p ∷ os) =
     at_bool (λ b. out_times k (cond b (o ∷ p ∷ os) (p ∷ put_out o os)) ≡ one_if (is_of k (number_of o)) + (one_if (is_of k (number_of p)) + out_times k os)) (is_before (number_of o) (number_of p))
     (λ _. refl) (λ _. omega (arith, r))
 
-outs_times : (k : ℕ) (os ps : List Out) → out_times k (os ++ ps) ≡ out_times k os + out_times k ps
+pub outs_times : (k : ℕ) (os ps : List Out) → out_times k (os ++ ps) ≡ out_times k os + out_times k ps
 outs_times k [] ps = omega arith
 outs_times k (o ∷ os) ps = let r = outs_times k os ps in omega (arith, r)
 
@@ -151,7 +151,7 @@ did_asked i (Holds h) c = refl
 did_asked i (Closes number event) c = refl
 did_asked i Applies c = refl
 
-works_asked : (i : ℕ) (c c' : Cluster) → Works i c c' → c'.asked ≡ c.asked
+pub works_asked : (i : ℕ) (c c' : Cluster) → Works i c c' → c'.asked ≡ c.asked
 works_asked i c c' none = refl
 works_asked i c c' (work w e more) = works_asked i (did i w c) c' more ∙ did_asked i w c
 
@@ -160,14 +160,14 @@ works_keep n i c c' none l = l
 works_keep n i c c' (work w e more) l = works_keep n i (did i w c) c' more (λ k. work_keeps n c l i w e k ∙ l k)
 
 -- the works of an event keep those of all that were asked
-made_up_keep : (i : ℕ) (c c' : Cluster) → Works i c c' → NoneLost c.asked c → NoneLost c'.asked c'
+pub made_up_keep : (i : ℕ) (c c' : Cluster) → Works i c c' → NoneLost c.asked c → NoneLost c'.asked c'
 made_up_keep i c c' w l = subst (λ z. NoneLost z c') (sym (works_asked i c c' w)) (works_keep c.asked i c c' w l)
 
 -- A step of the world moves no request.
-moved_keeps : (failed : Bool) (i : ℕ) (w' : World) (c : Cluster) (k : ℕ) → found k (moved_with failed i w' c) ≡ found k c
+pub moved_keeps : (failed : Bool) (i : ℕ) (w' : World) (c : Cluster) (k : ℕ) → found k (moved_with failed i w' c) ≡ found k c
 moved_keeps failed i w' c k = let e = entries_times k (joined c.world w') (halts_past i failed c.past) in let d = halts_times k i failed c.past in omega (arith, e, d)
 
-restart_keeps : (failed : Bool) (i : ℕ) (w' : World) (c : Cluster) (k : ℕ) → found k (begun_anew i (moved_with failed i w' c)) ≡ found k c
+pub restart_keeps : (failed : Bool) (i : ℕ) (w' : World) (c : Cluster) (k : ℕ) → found k (begun_anew i (moved_with failed i w' c)) ≡ found k c
 restart_keeps failed i w' c k =
     let e = ended_times k i (events_in (moved_with failed i w' c).past) c.held in
     let m = moved_keeps failed i w' c k in
@@ -206,7 +206,7 @@ next_place n k = at_bool (λ b. (suc n == k) ≡ b → one_if (nat_lt 0 k && nat
         no k n d e = grind (arith, nat_tests)
 
 -- a request that was just asked begins to be held
-holding_places : (n : ℕ) (c : Cluster) (q : Question) (i : ℕ) (stand : Stand) (start : Start) → q.number ≡ suc n → NoneLost n c → NoneLost (suc n) (holding q i stand start c)
+pub holding_places : (n : ℕ) (c : Cluster) (q : Question) (i : ℕ) (stand : Stand) (start : Start) → q.number ≡ suc n → NoneLost n c → NoneLost (suc n) (holding q i stand start c)
 holding_places n c q i stand start e l k =
     let a = append_times k c.held (record { question = q; server = i; stand = stand } ∷ []) in
     let m = ap (λ z. one_if (z == k)) e in
@@ -214,7 +214,7 @@ holding_places n c q i stand start e l k =
     omega (arith, a, m, f) ∙ next_place n k
 
 -- or is refused
-refused_places : (n : ℕ) (c : Cluster) (q : Question) (why : Refusal) → q.number ≡ suc n → NoneLost n c → NoneLost (suc n) (refused q why c)
+pub refused_places : (n : ℕ) (c : Cluster) (q : Question) (why : Refusal) → q.number ≡ suc n → NoneLost n c → NoneLost (suc n) (refused q why c)
 refused_places n c q why e l k =
     let p = put_times k (Replied (reply_of q (Refused why) false 0 [])) c.fresh in
     let m = ap (λ z. one_if (z == k)) e in

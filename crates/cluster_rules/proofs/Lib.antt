@@ -14,3 +14,4 @@ pub mod Asking
 pub mod Handling
 pub mod Steps
 pub mod Counting
+pub mod Keeping
