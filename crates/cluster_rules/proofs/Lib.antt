@@ -15,3 +15,4 @@ pub mod Handling
 pub mod Steps
 pub mod Counting
 pub mod Keeping
+pub mod Reached
