@@ -16,3 +16,4 @@ pub mod Steps
 pub mod Counting
 pub mod Keeping
 pub mod Reached
+pub mod Answers

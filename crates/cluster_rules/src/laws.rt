@@ -1,6 +1,70 @@
-//! Laws of the definitions, each the contract of a function with an empty body.
+//! Laws of the definitions, each the contract of a function with an empty body. They hold whatever is lost, repeated,
+//! reordered, restarted or cut short for want of memory, and whichever store calls fail.
 
+ghost use Rattle.std.specs.Prelude.{Bool, List, ℕ, ◌≡◌, ◌<◌, ◌≤◌};
+ghost use Rattle.cat_model.specs.declared.command.Command.{Command};
+ghost use Rattle.cat_model.specs.declared.request.Mode.TheVariants.{Default, Consistent};
+ghost use Rattle.cat_model.specs.declared.request.Request.TheVariants.{Write};
+ghost use Rattle.cat_model.specs.declared.request.Asked.TheVariants.{Good};
+ghost use Rattle.cat_model.specs.declared.request.Event.{Event};
+ghost use Rattle.cat_model.specs.declared.reply.Kind.{Kind};
+ghost use Rattle.cat_model.specs.declared.reply.Kind.TheVariants.{Acked, At, Refused};
+ghost use Rattle.cat_model.specs.declared.reply.Mark.TheVariants.{Answered};
+ghost use Rattle.cat_model.specs.declared.reply.Refusal.TheVariants.{Lost};
+ghost use Rattle.raft_model.specs.World.{World, Reaches};
+ghost use Rattle.cluster_rules.specs.Replies.{Question, came, entered};
+ghost use Rattle.cluster_rules.specs.Lasting.{IsWrite, IsEntered, Lasting};
+ghost use Rattle.cluster_rules.specs.Cluster.{Cluster};
+ghost use Rattle.cluster_rules.specs.Step.{ClusterStep};
+ghost use Rattle.cluster_rules.specs.Reached.{IsStart, Move, Reached};
 ghost use Rattle.cluster_rules.specs.Runs.{PutAndGet};
+ghost use Rattle.cluster_rules.specs.Sound.{IsAmong, LookedBefore, NeverEnters, Sound, entries_before, found};
+
+/// Each step, whole or cut short, keeps a cluster sound.
+#[tactic(auto, using(crate::proofs::Keeping::step_keeps))]
+pub fn steps_keep_sound()
+    ensures { (c c' : Cluster) (made : Event) (whole : Bool) → ClusterStep c made c' whole → Sound c → Sound c' }
+{}
+
+/// Each cluster of a run is sound.
+#[tactic(auto, using(crate::proofs::Reached::run_sound))]
+pub fn runs_are_sound()
+    ensures { (start : Cluster) → IsStart start → (whole : Bool) (moves : List Move) (c : Cluster) → Reached start whole moves c → Sound c }
+{}
+
+/// What an answer rests on is so of each later agreed log.
+#[tactic(auto, using(crate::proofs::Answers::answers_last))]
+pub fn answers_last()
+    ensures { (c : Cluster) → Sound c → (w : World) → Reaches c.world w → (number : ℕ) (kind : Kind) (known : Bool) (contact : ℕ) → IsAmong (Answered number kind known contact) c.past →
+        (q : Question) × IsAmong (came q) c.past × (q.number ≡ number) × Lasting q kind w.agreed }
+{}
+
+/// An acknowledged write stands at its position in each later agreed log.
+#[tactic(auto, using(crate::proofs::Answers::writes_stand))]
+pub fn acknowledged_writes_stand()
+    ensures { (c : Cluster) → Sound c → (w : World) → Reaches c.world w → (number position : ℕ) (known : Bool) (contact : ℕ) → IsAmong (Answered number (Acked position) known contact) c.past →
+        (q : Question) × IsAmong (came q) c.past × (q.number ≡ number) × IsWrite q.asked (λ command. IsEntered position number (entered q command) w.agreed) }
+{}
+
+/// The entry of a write that was answered that its leadership was lost, told by its term and number, stands in no
+/// agreed log, then or later.
+#[tactic(auto, using(crate::proofs::Answers::lost_never))]
+pub fn lost_writes_never_enter()
+    ensures { (c : Cluster) → Sound c → (number old found : ℕ) (known : Bool) (contact : ℕ) → IsAmong (Answered number (Refused (Lost old found)) known contact) c.past →
+        (q : Question) × IsAmong (came q) c.past × (q.number ≡ number) × ((command : Command) → q.asked ≡ Good (Write command) → NeverEnters c.world old number) }
+{}
+
+/// A consistent read's prefix is no shorter than what was agreed before its asking.
+#[tactic(auto, using(crate::proofs::Answers::consistent_fresh))]
+pub fn consistent_reads_are_fresh()
+    ensures { (c : Cluster) → Sound c → (number prefix index clock deadline : ℕ) (known : Bool) (contact : ℕ) → IsAmong (Answered number (At Consistent prefix index clock deadline) known contact) c.past → entries_before number c.past ≤ prefix }
+{}
+
+/// A default read's prefix is no shorter than what its server had applied at its asking.
+#[tactic(auto, using(crate::proofs::Answers::default_fresh))]
+pub fn default_reads_look_no_earlier()
+    ensures { (c : Cluster) → Sound c → (number prefix index clock deadline : ℕ) (known : Bool) (contact : ℕ) → IsAmong (Answered number (At Default prefix index clock deadline) known contact) c.past → LookedBefore number c.starts prefix }
+{}
 
 /// One server is elected, a key is set and read: the definitions compute this run.
 #[tactic(auto, using(crate::proofs::Rows::put_and_get))]
