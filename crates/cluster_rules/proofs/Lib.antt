@@ -17,3 +17,5 @@ pub mod Counting
 pub mod Keeping
 pub mod Reached
 pub mod Answers
+pub mod Waiting
+pub mod Marks
