@@ -73,14 +73,14 @@ not_both true b e = inr e
 not_both false b e = inl refl
 
 -- a log past its limits
-past_limits : (log : Log) → (nat_le (length log) most_entries && nat_le (log_bytes log) most_bytes) ≡ false → (most_entries < length log) ⊎ (most_bytes < log_bytes log)
+pub past_limits : (log : Log) → (nat_le (length log) most_entries && nat_le (log_bytes log) most_bytes) ≡ false → (most_entries < length log) ⊎ (most_bytes < log_bytes log)
 past_limits log e = elim (not_both (nat_le (length log) most_entries) (nat_le (log_bytes log) most_bytes) e) [
   | inl x ↦ inl (le_tells_not (length log) most_entries x)
   | inr x ↦ inr (le_tells_not (log_bytes log) most_bytes x)
 ]
 
 -- A fact of a request that is known to be a write, or a read.
-as_write : (q : Question) (command : Command) (P : Asked → Type 0) → q.asked ≡ Good (Write command) → P (Good (Write command)) → P q.asked
+pub as_write : (q : Question) (command : Command) (P : Asked → Type 0) → q.asked ≡ Good (Write command) → P (Good (Write command)) → P q.asked
 as_write q command P e x = subst P (sym e) x
 
 fresh_looked : (mode : Mode) (number : ℕ) (past : List Mark) (starts : List Start) (i n : ℕ) → mode ≢ Consistent → IsFresh mode number past (Looked number i n ∷ starts) n

@@ -19,3 +19,4 @@ pub mod Reached
 pub mod Answers
 pub mod Waiting
 pub mod Marks
+pub mod Legal
