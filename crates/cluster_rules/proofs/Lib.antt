@@ -20,3 +20,4 @@ pub mod Answers
 pub mod Waiting
 pub mod Marks
 pub mod Legal
+pub mod Measure

@@ -8,3 +8,4 @@ pub mod Reached
 pub mod Sound
 pub mod Legal
 pub mod Runs
+pub mod Left
