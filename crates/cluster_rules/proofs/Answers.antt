@@ -1,5 +1,7 @@
 -- What the answers of a sound cluster promise, also over each later agreed log.
-use Rattle.std.proofs.Common.{◌≡◌, ℕ, ◌<◌, ◌≤◌, Bool, List, length, take, sym, subst, ap}
+use Rattle.std.proofs.Common.{◌≡◌, ℕ, ◌<◌, ◌≤◌, Bool, true, false, List, length, take, sym, ◌∙◌, subst, ap, arith}
+use Rattle.std.specs.Prelude.{nat_lt, nat_le, ◌&&◌}
+use Rattle.std.proofs.lemmas.Bool.Decides.{nat_tests}
 use Rattle.cat_model.specs.declared.command.Command.{Command}
 use Rattle.cat_model.specs.declared.request.Mode.TheVariants.{Default, Consistent, Stale}
 use Rattle.cat_model.specs.declared.request.Request.TheVariants.{Read, Write}
@@ -14,7 +16,7 @@ use Rattle.raft_model.proofs.Theorems.{grows_far}
 use Rattle.cluster_rules.specs.Replies.{Question, came, entered}
 use Rattle.cluster_rules.specs.Lasting.{IsWrite, IsEntered, LastsFor, Lasting}
 use Rattle.cluster_rules.specs.Cluster.{Start, Cluster}
-use Rattle.cluster_rules.specs.Sound.{IsAmong, NeverEnters, entries_before, LookedBefore, LostFor, Sound}
+use Rattle.cluster_rules.specs.Sound.{IsAmong, NeverEnters, entries_before, LookedBefore, LostFor, one_if, found, Sound}
 use Rattle.cluster_rules.proofs.Grows.{lasting_grows}
 use Rattle.cluster_rules.proofs.Reached.{Told, told_in}
 
@@ -45,3 +47,16 @@ consistent_fresh c s number prefix index clock deadline known contact m = (told 
 
 pub default_fresh : (c : Cluster) → Sound c → (number prefix index clock deadline : ℕ) (known : Bool) (contact : ℕ) → IsAmong (mark.Answered number (At Default prefix index clock deadline) known contact) c.past → LookedBefore number c.starts prefix
 default_fresh c s number prefix index clock deadline known contact m = (told c s number (At Default prefix index clock deadline) known contact m).fresh
+
+-- where a request is
+pub found_once : (c : Cluster) → Sound c → (k : ℕ) → 0 < k → k ≤ c.asked → found k c ≡ 1
+found_once c s k p l = s.none_lost k ∙ ap one_if (within k c.asked p l)
+  where
+    within : (k n : ℕ) → 0 < k → k ≤ n → (nat_lt 0 k && nat_le k n) ≡ true
+    within k n p l = grind (arith, nat_tests)
+
+pub found_none : (c : Cluster) → Sound c → (k : ℕ) → c.asked < k → found k c ≡ 0
+found_none c s k l = s.none_lost k ∙ ap one_if (beyond k c.asked l)
+  where
+    beyond : (k n : ℕ) → n < k → (nat_lt 0 k && nat_le k n) ≡ false
+    beyond k n l = grind (arith, nat_tests)

@@ -103,30 +103,20 @@ same_held i h at len = at_bool (λ b. b ≡ true → cond b (stand_weight len h.
 abbrev two_or_one : Bool → ℕ
 two_or_one b = cond b 1 2
 
-module _ (c : Cluster) (s : IsSoundAtWork c) (i : ℕ) where
+module _ (c : Cluster) (ascends : Ascends c.held) (i : ℕ) (above : 0 < i) (within : i ≤ length c.servers) (kept : (node_of c.world i).commit ≤ length (node_of c.world i).log) where
   -- the next entry is there, since what is committed is in the log
   module _ (m : length (applied_of c i) < (node_of c.world i).commit) where
-    there : IsServer c.world i (node_of c.world i)
-    there = elim (there_or_none c.world i) [
-      | inl e ↦ absurd (let k = ap (λ (n : Node). n.commit) e in omega (arith, m))
-      | inr at ↦ at
-    ]
-
-    new : Server
-    new = applies_entry (clock_of c.world i) (server_of c.servers i) (entry_at (suc (length (applied_of c i))) (node_of c.world i).log)
-
     longer : length (applies_entry (clock_of c.world i) (server_of c.servers i) (entry_at (suc (length (applied_of c i))) (node_of c.world i).log)).applied ≡ suc (length (applied_of c i))
     longer =
-        let k = commit_within c.world s.world i (node_of c.world i) there in
-        let e = entry_there (suc (length (applied_of c i))) (node_of c.world i).log (omega arith) (omega arith) in
+        let e = entry_there (suc (length (applied_of c i))) (node_of c.world i).log (omega arith) (omega (arith, m, kept)) in
         ap (λ z. length (applies_entry (clock_of c.world i) (server_of c.servers i) z).applied) e.1 ∙ length-append (applied_of c i) (e.0 ∷ []) ∙ plus (length (applied_of c i))
       where
         plus : (n : ℕ) → n + 1 ≡ suc n
         plus n = omega arith
 
     applied_longer : length (server_of (set_server c.servers i (applies_entry (clock_of c.world i) (server_of c.servers i) (entry_at (suc (length (applied_of c i))) (node_of c.world i).log))) i).applied ≡ suc (length (applied_of c i))
-    applied_longer = let p = is_place c.world i (node_of c.world i) there in let k = s.servers.count in
-        ap (λ (z : Server). length z.applied) (item_same no_server c.servers i (applies_entry (clock_of c.world i) (server_of c.servers i) (entry_at (suc (length (applied_of c i))) (node_of c.world i).log)) p.0 (omega (arith, p.1))) ∙ longer
+    applied_longer =
+        ap (λ (z : Server). length z.applied) (item_same no_server c.servers i (applies_entry (clock_of c.world i) (server_of c.servers i) (entry_at (suc (length (applied_of c i))) (node_of c.world i).log)) above within) ∙ longer
 
   k₀ : ℕ
   k₀ = (node_of c.world i).commit - length (applied_of c i)
@@ -174,4 +164,4 @@ module _ (c : Cluster) (s : IsSoundAtWork c) (i : ℕ) where
       (total i (length (applied_of c i)) c.held) m n (omega (arith, t))
 
   pub did_less : (w : Work) → IsDue i c w → left i (did i w c) < left i c
-  did_less w d = due_cases c i (λ w. left i (did i w c) < left i c) (IsOne c.held) (all_one c.held s.ascends) leaves applies_less w d
+  did_less w d = due_cases c i (λ w. left i (did i w c) < left i c) (IsOne c.held) (all_one c.held ascends) leaves applies_less w d

@@ -1,7 +1,8 @@
 //! Laws of the definitions, each the contract of a function with an empty body. They hold whatever is lost, repeated,
 //! reordered, restarted or cut short for want of memory, and whichever store calls fail.
 
-ghost use Rattle.std.specs.Prelude.{Bool, List, ℕ, ◌≡◌, ◌<◌, ◌≤◌};
+ghost use Rattle.std.specs.Prelude.{Bool, List, None, length, false, true, ℕ, ◌≡◌, ◌<◌, ◌≤◌, ◌⊎◌};
+ghost use Rattle.std.specs.List.{AllByRecursion as Each};
 ghost use Rattle.cat_model.specs.declared.command.Command.{Command};
 ghost use Rattle.cat_model.specs.declared.request.Mode.TheVariants.{Default, Consistent};
 ghost use Rattle.cat_model.specs.declared.request.Request.TheVariants.{Write};
@@ -11,14 +12,18 @@ ghost use Rattle.cat_model.specs.declared.reply.Kind.{Kind};
 ghost use Rattle.cat_model.specs.declared.reply.Kind.TheVariants.{Acked, At, Refused};
 ghost use Rattle.cat_model.specs.declared.reply.Mark.TheVariants.{Answered};
 ghost use Rattle.cat_model.specs.declared.reply.Refusal.TheVariants.{Lost};
-ghost use Rattle.raft_model.specs.World.{World, Reaches};
+ghost use Rattle.cat_model.specs.declared.reply.Role.TheVariants.{Follower};
+ghost use Rattle.raft_model.specs.World.{World, IsReached, Reaches};
 ghost use Rattle.cluster_rules.specs.Replies.{Question, came, entered};
 ghost use Rattle.cluster_rules.specs.Lasting.{IsWrite, IsEntered, Lasting};
-ghost use Rattle.cluster_rules.specs.Cluster.{Cluster};
+ghost use Rattle.cluster_rules.specs.Cluster.{Cluster, Pending, node_of};
+ghost use Rattle.cluster_rules.specs.Due.{IsDue, Work, did, due};
+ghost use Rattle.cluster_rules.specs.Left.{left};
+ghost use Rattle.cluster_rules.specs.Legal.{StepIsLegal, StillWaits};
 ghost use Rattle.cluster_rules.specs.Step.{ClusterStep};
-ghost use Rattle.cluster_rules.specs.Reached.{IsStart, Move, Reached};
+ghost use Rattle.cluster_rules.specs.Reached.{IsStart, Move, Reached, moves_of};
 ghost use Rattle.cluster_rules.specs.Runs.{PutAndGet};
-ghost use Rattle.cluster_rules.specs.Sound.{IsAmong, LookedBefore, NeverEnters, Sound, entries_before, found};
+ghost use Rattle.cluster_rules.specs.Sound.{Ascends, IsAmong, LookedBefore, NeverEnters, Sound, entries_before, found};
 
 /// Each step, whole or cut short, keeps a cluster sound.
 #[tactic(auto, using(crate::proofs::Keeping::step_keeps))]
@@ -64,6 +69,47 @@ pub fn consistent_reads_are_fresh()
 #[tactic(auto, using(crate::proofs::Answers::default_fresh))]
 pub fn default_reads_look_no_earlier()
     ensures { (c : Cluster) → Sound c → (number prefix index clock deadline : ℕ) (known : Bool) (contact : ℕ) → IsAmong (Answered number (At Default prefix index clock deadline) known contact) c.past → LookedBefore number c.starts prefix }
+{}
+
+/// Each reply and each closing of a step is legal in the cluster in which it is made.
+pub fn replies_are_legal()
+    ensures { (c c' : Cluster) (made : Event) (whole : Bool) (step : ClusterStep c made c' whole) → Sound c → StepIsLegal c made c' whole step }
+{}
+
+/// Each of the requests that were asked is in exactly one place: held, in an out that nobody has taken, or taken. No
+/// other number is anywhere.
+pub fn none_is_lost()
+    ensures once { (c : Cluster) → Sound c → (k : ℕ) → 0 < k → k ≤ c.asked → found k c ≡ 1 }
+    ensures none { (c : Cluster) → Sound c → (k : ℕ) → c.asked < k → found k c ≡ 0 }
+{}
+
+/// Where nothing is due at a running server, each request held there waits for what it must: its position is not
+/// applied, its round is not confirmed with its commit applied, or its index is not above the one given and its time
+/// is not over.
+pub fn held_requests_wait()
+    ensures { (c : Cluster) → Sound c → (i : ℕ) → due i c ≡ None → (node_of c.world i).halted ≡ false → Each (λ (h : Pending). h.server ≡ i → StillWaits c i h h.stand) c.held }
+{}
+
+/// Where nothing is due at a halted server, it holds no request.
+pub fn halted_servers_hold_none()
+    ensures { (c : Cluster) (i : ℕ) → due i c ≡ None → (node_of c.world i).halted ≡ true → Each (λ (h : Pending). h.server ≡ i → ⊥) c.held }
+{}
+
+/// The marks of a run, taken as moves, are the moves that lead from its start to its end.
+#[tactic(auto, using(crate::proofs::Marks::marks_are_moves))]
+pub fn marks_lead()
+    ensures { (start : Cluster) → IsStart start → (whole : Bool) (moves : List Move) (c : Cluster) → Reached start whole moves c → moves_of c.past ≡ moves }
+{}
+
+/// Whatever is done of what is due at a server leaves less to do there, so making up comes to an end.
+pub fn works_leave_less()
+    ensures { (c : Cluster) → Ascends c.held → (i : ℕ) → 0 < i → i ≤ length c.servers → (node_of c.world i).commit ≤ length (node_of c.world i).log →
+        (w : Work) → IsDue i c w → left i (did i w c) < left i c }
+{}
+
+/// Nobody leads or stands for election in term 0.
+pub fn leaders_have_terms()
+    ensures { (w : World) → IsReached w → (i : ℕ) → ((node_of w i).role ≡ Follower) ⊎ (0 < (node_of w i).term) }
 {}
 
 /// One server is elected, a key is set and read: the definitions compute this run.
