@@ -110,7 +110,7 @@ does_places i made m n c c' whole (over e) before after = after (omega (arith, e
 does_places i made m n c c' whole (act c₁ c₂ a r w more) before after =
     let l = made_up_keep i c₁ c₂ w.0 (acts_places m n c i made (before (acts_first n c i made c₁ a)) c₁ a) in
     does_places i made m (suc n) c₂ c' whole more (λ z. absurd (omega arith)) (λ _. l)
-does_places i made m n c c' whole (cut c₁ a w) before after = made_up_keep i c₁ c' w (acts_places m n c i made (before (acts_first n c i made c₁ a)) c₁ a)
+does_places i made m n c c' whole (cut c₁ a w short) before after = made_up_keep i c₁ c' w (acts_places m n c i made (before (acts_first n c i made c₁ a)) c₁ a)
 does_places i made m n c c' whole (cut_between l k) before after = after l
 
 shelved_places : (c : Cluster) → NoneLost c.asked c → NoneLost c.asked (shelved c)

@@ -141,7 +141,7 @@ does_legal i made n c c' whole (act c₁ c₂ a r m more) s f up =
     let f' = f (acts_first n c i made c₁ a) in
     let s₁ = acts_sound n c s i made f' (all_applied c i up) c₁ a in
     (acts_legal n c i made f' c₁ a, works_legal i c₁ c₂ m.0 s₁, does_legal i made (suc n) c₂ c' whole more (works_sound i c₁ c₂ m.0 s₁) (λ z. absurd (omega arith)) m.1)
-does_legal i made n c c' whole (cut c₁ a m) s f up =
+does_legal i made n c c' whole (cut c₁ a m short) s f up =
     let f' = f (acts_first n c i made c₁ a) in
     (acts_legal n c i made f' c₁ a, works_legal i c₁ c' m (acts_sound n c s i made f' (all_applied c i up) c₁ a))
 does_legal i made n c c' whole (cut_between l k) s f up = tt

@@ -59,7 +59,7 @@ acts_same n c i made c' (handles agent asked draw z is goes h) = handles_same c 
 does_same : (i : ℕ) (made : Event) (n : ℕ) (c c' : Cluster) (whole : Bool) → Does i made n c c' whole → Same c c'
 does_same i made n c c' whole (over e) = refl
 does_same i made n c c' whole (act c₁ c₂ a r m more) = does_same i made (suc n) c₂ c' whole more ∙ works_same i c₁ c₂ m.0 ∙ acts_same n c i made c₁ a
-does_same i made n c c' whole (cut c₁ a m) = works_same i c₁ c' m ∙ acts_same n c i made c₁ a
+does_same i made n c c' whole (cut c₁ a m short) = works_same i c₁ c' m ∙ acts_same n c i made c₁ a
 does_same i made n c c' whole (cut_between l k) = refl
 
 passes_same : (c : Cluster) (made : Event) (c' : Cluster) → Passes c made c' → Same c c'

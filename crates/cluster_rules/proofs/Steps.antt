@@ -191,7 +191,7 @@ does_sound i made n c c' whole (over e) s f up = s
 does_sound i made n c c' whole (act c₁ c₂ a r m more) s f up =
     let s₁ = acts_sound n c s i made (f (acts_first n c i made c₁ a)) (all_applied c i up) c₁ a in
     does_sound i made (suc n) c₂ c' whole more (works_sound i c₁ c₂ m.0 s₁) (λ z. absurd (omega arith)) m.1
-does_sound i made n c c' whole (cut c₁ a m) s f up = works_sound i c₁ c' m (acts_sound n c s i made (f (acts_first n c i made c₁ a)) (all_applied c i up) c₁ a)
+does_sound i made n c c' whole (cut c₁ a m short) s f up = works_sound i c₁ c' m (acts_sound n c s i made (f (acts_first n c i made c₁ a)) (all_applied c i up) c₁ a)
 does_sound i made n c c' whole (cut_between l k) s f up = s
 
 pub step_sound : (c c' : Cluster) (made : Event) (whole : Bool) → ClusterStep c made c' whole → IsSoundAtWork c → IsSoundAtWork c'

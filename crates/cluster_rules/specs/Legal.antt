@@ -104,7 +104,7 @@ ActIsLegal n c i made c' (handles agent asked draw z is goes h) = HandleIsLegal 
 abbrev pub DoesLegally : (i : ℕ) (made : Event) (n : ℕ) (c c' : Cluster) (whole : Bool) → Does i made n c c' whole → Type 0
 DoesLegally i made n c c' whole (over e) = Unit {0}
 DoesLegally i made n c c' whole (act c₁ c₂ a r m more) = ActIsLegal n c i made c₁ a × AllLegal i c₁ c₂ m.0 × DoesLegally i made (suc n) c₂ c' whole more
-DoesLegally i made n c c' whole (cut c₁ a m) = ActIsLegal n c i made c₁ a × AllLegal i c₁ c' m
+DoesLegally i made n c c' whole (cut c₁ a m short) = ActIsLegal n c i made c₁ a × AllLegal i c₁ c' m
 DoesLegally i made n c c' whole (cut_between l k) = Unit {0}
 
 abbrev pub PassIsLegal : (c : Cluster) (made : Event) (c' : Cluster) → Passes c made c' → Type 0

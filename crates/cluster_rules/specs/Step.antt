@@ -80,11 +80,15 @@ abbrev pub Remembers : {n : ℕ} {c : Cluster} {i : ℕ} {made : Event} {c' : Cl
 Remembers (takes input w' z is acts e) = acts.outcome ≢ Forgets
 Remembers other = Unit {0}
 
+-- An act is cut short where something is still due once its works stop, or where it forgot.
+abbrev pub IsShort : {n : ℕ} {c : Cluster} {i : ℕ} {made : Event} {c₁ : Cluster} → Acts n c i made c₁ → Cluster → Type 0
+IsShort {i = i} a c' = (due i c' ≢ None) ⊎ ¬ Remembers a
+
 -- The acts of an event from the one numbered n on, to the end (true) or cut short (false).
 pub data Does (i : ℕ) (made : Event) : ℕ → Cluster → Cluster → Bool → Type 0 where
   over : {n : ℕ} {c : Cluster} → n ≡ acts_of made → Does i made n c c true
   act : {n : ℕ} {c c' : Cluster} {whole : Bool} (c₁ c₂ : Cluster) (a : Acts n c i made c₁) → Remembers a → IsMadeUp i c₁ c₂ → Does i made (suc n) c₂ c' whole → Does i made n c c' whole
-  cut : {n : ℕ} {c c' : Cluster} (c₁ : Cluster) → Acts n c i made c₁ → Works i c₁ c' → Does i made n c c' false
+  cut : {n : ℕ} {c c' : Cluster} (c₁ : Cluster) (a : Acts n c i made c₁) → Works i c₁ c' → IsShort a c' → Does i made n c c' false
   cut_between : {n : ℕ} {c : Cluster} → 0 < n → n < acts_of made → Does i made n c c false
 
 -- where a request goes, as a server
