@@ -21,3 +21,6 @@ pub mod Waiting
 pub mod Marks
 pub mod Legal
 pub mod Measure
+pub mod Others
+pub mod Whole
+pub mod Running

@@ -95,6 +95,11 @@ pub fn halted_servers_hold_none()
     ensures { (c : Cluster) (i : ℕ) → due i c ≡ None → (node_of c.world i).halted ≡ true → Each (λ (h : Pending). h.server ≡ i → ⊥) c.held }
 {}
 
+/// Where each event of a run was whole, no server is behind.
+pub fn whole_runs_leave_none_behind()
+    ensures { (start : Cluster) → IsStart start → (moves : List Move) (c : Cluster) → Reached start true moves c → (i : ℕ) → due i c ≡ None }
+{}
+
 /// The marks of a run, taken as moves, are the moves that lead from its start to its end.
 #[tactic(auto, using(crate::proofs::Marks::marks_are_moves))]
 pub fn marks_lead()
