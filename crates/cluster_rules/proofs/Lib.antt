@@ -24,3 +24,4 @@ pub mod Measure
 pub mod Others
 pub mod Whole
 pub mod Running
+pub mod Halts

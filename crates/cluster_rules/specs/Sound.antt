@@ -81,6 +81,12 @@ abbrev pub RestartedAt : ℕ → ℕ → List Mark → Type 0
 RestartedAt number s [] = ⊥
 RestartedAt number s (m ∷ past) = ((m ≡ mark.Made (event.Restart s)) × (number ≡ events_in (m ∷ past))) ⊎ RestartedAt number s past
 
+-- how often server i's durable store failed, by the marks
+abbrev pub halts_in : ℕ → List Mark → ℕ
+halts_in i [] = 0
+halts_in i (mark.Halted s ∷ past) = (if s == i then 1 else 0) + halts_in i past
+halts_in i (other ∷ past) = halts_in i past
+
 -- A read's prefix is fresh: of a consistent one it is no shorter than what was agreed before its asking, of any other
 -- it is no shorter than what its server had applied then.
 abbrev pub LookedBefore : ℕ → List Start → ℕ → Type 0
