@@ -25,3 +25,4 @@ pub mod Others
 pub mod Whole
 pub mod Running
 pub mod Halts
+pub mod Settling

@@ -104,4 +104,4 @@ lowest (p ∷ ps) = Some p
 -- So many pairs of whole events from one cluster to another: the message of the lowest number is delivered, then lost.
 pub data Settling : ℕ → Cluster → Cluster → Type 0 where
   none : {c : Cluster} → Settling 0 c c
-  pair : {n : ℕ} {c c' : Cluster} (p : Packet) (c₁ c₂ : Cluster) → lowest c.world.bag.packets ≡ Some p → ClusterStep c (event.Deliver p.number) c₁ true → ClusterStep c₁ (event.Drop p.number) c₂ true → Settling n c₂ c' → Settling (suc n) c c'
+  pair : {n : ℕ} {c c' : Cluster} (p : Packet) (c₁ c₂ : Cluster) → lowest c.world.bag.packets ≡ Some p → Fits c (event.Deliver p.number) → ClusterStep c (event.Deliver p.number) c₁ true → Fits c₁ (event.Drop p.number) → ClusterStep c₁ (event.Drop p.number) c₂ true → Settling n c₂ c' → Settling (suc n) c c'

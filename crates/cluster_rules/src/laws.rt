@@ -1,7 +1,7 @@
 //! Laws of the definitions, each the contract of a function with an empty body. They hold whatever is lost, repeated,
 //! reordered, restarted or cut short for want of memory, and whichever store calls fail.
 
-ghost use Rattle.std.specs.Prelude.{Bool, List, None, length, false, true, ℕ, ◌≡◌, ◌<◌, ◌≤◌, ◌⊎◌};
+ghost use Rattle.std.specs.Prelude.{Bool, List, None, length, take, min, false, true, ℕ, ◌+◌, ◌-◌, ◌^◌, ◌≡◌, ◌<◌, ◌≤◌, ◌⊎◌};
 ghost use Rattle.std.specs.List.{AllByRecursion as Each};
 ghost use Rattle.cat_model.specs.declared.command.Command.{Command};
 ghost use Rattle.cat_model.specs.declared.request.Mode.TheVariants.{Default, Consistent};
@@ -16,14 +16,14 @@ ghost use Rattle.cat_model.specs.declared.reply.Role.TheVariants.{Follower};
 ghost use Rattle.raft_model.specs.World.{World, IsReached, Reaches};
 ghost use Rattle.cluster_rules.specs.Replies.{Question, came, entered};
 ghost use Rattle.cluster_rules.specs.Lasting.{IsWrite, IsEntered, Lasting};
-ghost use Rattle.cluster_rules.specs.Cluster.{Cluster, Pending, node_of};
+ghost use Rattle.cluster_rules.specs.Cluster.{Cluster, Pending, applied_of, node_of, server_of};
 ghost use Rattle.cluster_rules.specs.Due.{IsDue, Work, did, due};
 ghost use Rattle.cluster_rules.specs.Left.{left};
 ghost use Rattle.cluster_rules.specs.Legal.{StepIsLegal, StillWaits};
 ghost use Rattle.cluster_rules.specs.Step.{ClusterStep};
-ghost use Rattle.cluster_rules.specs.Reached.{IsStart, Move, Reached, moves_of};
+ghost use Rattle.cluster_rules.specs.Reached.{EndInPairs, IsStart, Move, Reached, Settling, moves_of};
 ghost use Rattle.cluster_rules.specs.Runs.{PutAndGet};
-ghost use Rattle.cluster_rules.specs.Sound.{Ascends, IsAmong, LookedBefore, NeverEnters, Sound, entries_before, found};
+ghost use Rattle.cluster_rules.specs.Sound.{Ascends, IsAmong, LookedBefore, NeverEnters, Sound, entered_in, entries_before, found, halts_in};
 
 /// Each step, whole or cut short, keeps a cluster sound.
 #[tactic(auto, using(crate::proofs::Keeping::step_keeps))]
@@ -104,6 +104,27 @@ pub fn whole_runs_leave_none_behind()
 #[tactic(auto, using(crate::proofs::Marks::marks_are_moves))]
 pub fn marks_lead()
     ensures { (start : Cluster) → IsStart start → (whole : Bool) (moves : List Move) (c : Cluster) → Reached start whole moves c → moves_of c.past ≡ moves }
+{}
+
+/// Whole pairs of a delivery and the same message's loss, the message of the lowest number first, are moves of the run
+/// that end in as many pairs more.
+pub fn settling_makes_pairs()
+    ensures { (start : Cluster) (whole : Bool) (n m : ℕ) (moves : List Move) (c c' : Cluster) → Reached start whole moves c → EndInPairs m moves → Settling n c c' →
+        (moves' : List Move) × Reached start whole moves' c' × EndInPairs (n + m) moves' }
+{}
+
+/// A server's durable store counts no fewer failures than there are marks of its halts.
+pub fn halts_are_counted()
+    ensures { (start : Cluster) → IsStart start → (whole : Bool) (moves : List Move) (c : Cluster) → Reached start whole moves c → (i : ℕ) → min (halts_in i c.past) (2 ^ 64 - 1) ≤ (node_of c.world i).store.faults }
+{}
+
+/// Each server has applied a front of the agreed log, up to its commit at most, and has its clock at each position; the
+/// marks tell the agreed log.
+pub fn servers_apply_fronts()
+    ensures front { (c : Cluster) → Sound c → (i : ℕ) → applied_of c i ≡ take (length (applied_of c i)) c.world.agreed }
+    ensures within { (c : Cluster) → Sound c → (i : ℕ) → length (applied_of c i) ≤ (node_of c.world i).commit }
+    ensures clocks { (c : Cluster) → Sound c → (i : ℕ) → length (server_of c.servers i).clocks ≡ length (applied_of c i) }
+    ensures entries { (c : Cluster) → Sound c → entered_in c.past ≡ c.world.agreed }
 {}
 
 /// Whatever is done of what is due at a server leaves less to do there, so making up comes to an end.
