@@ -26,3 +26,4 @@ pub mod Whole
 pub mod Running
 pub mod Halts
 pub mod Settling
+pub mod ThreeServers

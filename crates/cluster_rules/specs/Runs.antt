@@ -1,4 +1,4 @@
--- The smallest run that does something, computed: one server is elected, a key is set, and read.
+-- Small runs that compute. First one server that is elected, a key that is set, and read.
 use Rattle.std.specs.Prelude.{◌≡◌, ℕ, true, false, List, [], ◌∷◌, length, Some, None, codes}
 use Rattle.cat_model.specs.declared.query.Query.TheVariants as query
 use Rattle.cat_model.specs.declared.query.Answer.TheVariants as answer
@@ -12,9 +12,12 @@ use Rattle.cat_model.specs.declared.request.Asked.TheVariants.{Good}
 use Rattle.cat_model.specs.declared.request.Draw.{Draw}
 use Rattle.cat_model.specs.declared.request.Event.{Event}
 use Rattle.cat_model.specs.declared.request.Event.TheVariants as event
-use Rattle.cat_model.specs.declared.reply.Kind.TheVariants.{Acked, At}
+use Rattle.cat_model.specs.declared.reply.Kind.TheVariants.{Acked, At, Refused}
+use Rattle.cat_model.specs.declared.reply.Refusal.{Refusal}
+use Rattle.cat_model.specs.declared.reply.Refusal.TheVariants as refusal
+use Rattle.cat_model.specs.declared.reply.Role.TheVariants.{Follower}
 use Rattle.raft_model.specs.Runs.{fresh}
-use Rattle.cluster_rules.specs.Replies.{Out, Replied, Shows, Tells}
+use Rattle.cluster_rules.specs.Replies.{Out, Replied, Shows, Tells, Says}
 use Rattle.cluster_rules.specs.Cluster.{Cluster, started}
 use Rattle.cluster_rules.specs.Reached.{Move, Makes, Reached}
 
@@ -54,3 +57,17 @@ pub record PutAndGet : Type 0 where
   pub outs : cluster.tray ≡ put_and_get_outs
   pub agreed : length cluster.world.agreed ≡ 2
   pub none_held : cluster.held ≡ []
+
+-- Three servers. A read before any election finds no leader. After a timeout of the first, the delivery of its first
+-- message and of the answer, it leads, but has applied no entry of its term.
+abbrev pub not_ready : List Move
+not_ready = Makes (event.Ask 1 get_a drawn) ∷ Makes (event.Deliver 3) ∷ Makes (event.Deliver 1) ∷ Makes (event.Timeout 1) ∷ Makes (event.Ask 1 get_a drawn) ∷ []
+
+abbrev pub refused_out : ℕ → Refusal → Out
+refused_out number why = Replied (record { number = number; index = None; content = Says why; known = false; contact = 0; kind = Refused why })
+
+pub record NotReadyRun : Type 0 where
+  pub cluster : Cluster
+  pub reached : Reached (started (fresh 3) 1) true not_ready cluster
+  pub outs : cluster.tray ≡ refused_out 1 (refusal.NoLeader 0 Follower None) ∷ refused_out 2 (refusal.NotReady 1 0) ∷ []
+  pub agreed : cluster.world.agreed ≡ []

@@ -22,7 +22,7 @@ ghost use Rattle.cluster_rules.specs.Left.{left};
 ghost use Rattle.cluster_rules.specs.Legal.{StepIsLegal, StillWaits};
 ghost use Rattle.cluster_rules.specs.Step.{ClusterStep};
 ghost use Rattle.cluster_rules.specs.Reached.{EndInPairs, IsStart, Move, Reached, Settling, moves_of};
-ghost use Rattle.cluster_rules.specs.Runs.{PutAndGet};
+ghost use Rattle.cluster_rules.specs.Runs.{NotReadyRun, PutAndGet};
 ghost use Rattle.cluster_rules.specs.Sound.{Ascends, IsAmong, LookedBefore, NeverEnters, Sound, entered_in, entries_before, found, halts_in};
 
 /// Each step, whole or cut short, keeps a cluster sound.
@@ -142,4 +142,11 @@ pub fn leaders_have_terms()
 #[tactic(auto, using(crate::proofs::Rows::put_and_get))]
 pub fn smallest_run()
     ensures { PutAndGet }
+{}
+
+/// Three servers: a read before any election finds no leader, and one at a leader that has applied nothing of its term
+/// finds it not ready.
+#[tactic(auto, using(crate::proofs::ThreeServers::not_ready_run))]
+pub fn no_leader_then_not_ready()
+    ensures { NotReadyRun }
 {}
