@@ -1,10 +1,10 @@
 -- What the answers of a sound cluster promise, also over each later agreed log.
-use Rattle.std.proofs.Common.{◌≡◌, ℕ, ◌<◌, ◌≤◌, Bool, true, false, List, length, take, sym, ◌∙◌, subst, ap, arith}
+use Rattle.std.proofs.Common.{◌≡◌, ℕ, ◌<◌, ◌≤◌, Bool, true, false, ◌∙◌, subst, ap, arith}
 use Rattle.std.specs.Prelude.{nat_lt, nat_le, ◌&&◌}
 use Rattle.std.proofs.lemmas.Bool.Decides.{nat_tests}
 use Rattle.cat_model.specs.declared.command.Command.{Command}
-use Rattle.cat_model.specs.declared.request.Mode.TheVariants.{Default, Consistent, Stale}
-use Rattle.cat_model.specs.declared.request.Request.TheVariants.{Read, Write}
+use Rattle.cat_model.specs.declared.request.Mode.TheVariants.{Default, Consistent}
+use Rattle.cat_model.specs.declared.request.Request.TheVariants.{Write}
 use Rattle.cat_model.specs.declared.request.Asked.{Asked}
 use Rattle.cat_model.specs.declared.request.Asked.TheVariants.{Good}
 use Rattle.cat_model.specs.declared.reply.Kind.{Kind}
@@ -15,7 +15,7 @@ use Rattle.raft_model.specs.World.{World, Reaches}
 use Rattle.raft_model.proofs.Theorems.{grows_far}
 use Rattle.cluster_rules.specs.Replies.{Question, came, entered}
 use Rattle.cluster_rules.specs.Lasting.{IsWrite, IsEntered, LastsFor, Lasting}
-use Rattle.cluster_rules.specs.Cluster.{Start, Cluster}
+use Rattle.cluster_rules.specs.Cluster.{Cluster}
 use Rattle.cluster_rules.specs.Sound.{IsAmong, NeverEnters, entries_before, LookedBefore, LostFor, one_if, found, Sound}
 use Rattle.cluster_rules.proofs.Grows.{lasting_grows}
 use Rattle.cluster_rules.proofs.Reached.{Told, told_in}

@@ -1,26 +1,20 @@
 -- A request that was just asked, and its way.
-use Rattle.std.proofs.Common.{◌≡◌, ◌≢◌, ℕ, suc, ◌<◌, ◌≤◌, ◌⊎◌, inl, inr, Bool, true, false, not, cond, List, [], ◌∷◌, ◌++◌, length, refl, sym, ◌∙◌, ap, subst, arith, Option, Some, None}
-use Rattle.std.specs.Prelude.{◌==◌, nat_lt, nat_le, ◌&&◌, ◌||◌}
+use Rattle.std.proofs.Common.{◌≡◌, ◌≢◌, ℕ, ◌<◌, inr, Bool, true, false, cond, List, length, refl, sym, subst, arith, Option, Some, None}
+use Rattle.std.specs.Prelude.{◌||◌}
 use Rattle.std.specs.List.{AllByRecursion as Each}
 use Rattle.cat_model.specs.Role.{leads as is_leading}
-use Rattle.cat_model.specs.declared.request.Mode.{Mode}
 use Rattle.cat_model.specs.declared.request.Mode.TheVariants.{Default, Consistent, Stale}
 use Rattle.cat_model.specs.declared.request.Request.TheVariants.{Read, Execute, Write, Renew, Agent}
 use Rattle.cat_model.specs.declared.request.Asked.{Asked}
 use Rattle.cat_model.specs.declared.request.Asked.TheVariants.{Good, Bad}
-use Rattle.cat_model.specs.declared.request.Draw.{Draw}
-use Rattle.cat_model.specs.declared.reply.Kind.{Kind}
 use Rattle.cat_model.specs.declared.reply.Kind.TheVariants.{Refused}
-use Rattle.cat_model.specs.declared.reply.Mark.{Mark}
-use Rattle.cat_model.specs.declared.reply.Mark.TheVariants as mark
 use Rattle.cat_model.specs.declared.reply.Refusal.{Refusal}
 use Rattle.cat_model.specs.declared.reply.Refusal.TheVariants as refusal
-use Rattle.raft_model.specs.Node.{Node}
 use Rattle.raft_model.specs.World.{World, IsReached}
 use Rattle.raft_model.proofs.Tests.{at_bool}
 use Rattle.cluster_rules.specs.Replies.{Question, came}
-use Rattle.cluster_rules.specs.Lasting.{is_stale, IsRefused, NoneLeads}
-use Rattle.cluster_rules.specs.Cluster.{Pending, Start, Cluster, node_of, applied_of, runs_leading}
+use Rattle.cluster_rules.specs.Lasting.{is_stale, IsRefused}
+use Rattle.cluster_rules.specs.Cluster.{Pending, Start, Cluster, node_of, runs_leading}
 use Rattle.cluster_rules.specs.Due.{Work, Replies, Holds, Closes, Applies, did, IsDue, Works, none, work}
 use Rattle.cluster_rules.specs.Requests.{Way, Answers, Goes, to_leader, way_of, way, is_stale_read}
 use Rattle.cluster_rules.specs.Sound.{IsAmong, IsOpen, entries_before, RestsOn, LostFor}

@@ -1,6 +1,6 @@
 -- What the cluster uses of the world: that no step lowers a commit, a proposal's place, a probe's round, and what a
 -- node that leads or is halted has.
-use Rattle.std.proofs.Common.{◌≡◌, ◌≢◌, ℕ, zero, suc, ◌-◌, ◌+◌, ◌^◌, ◌<◌, ◌≤◌, ◌⊎◌, inl, inr, Bool, true, false, not, cond, List, [], ◌∷◌, ◌++◌, length, take, refl, sym, ◌∙◌, ap, subst, arith, Option, Some, None}
+use Rattle.std.proofs.Common.{◌≡◌, ℕ, zero, suc, ◌-◌, ◌^◌, ◌<◌, ◌≤◌, inl, inr, true, false, not, cond, List, [], ◌∷◌, ◌++◌, length, refl, sym, ◌∙◌, ap, subst, arith, Option, Some, None}
 use Rattle.std.specs.Prelude.{nat_lt, ◌==◌, ◌&&◌}
 use Rattle.std.proofs.lemmas.List.{length-take}
 use Rattle.cat_model.specs.Role.{leads as is_leading}
@@ -12,19 +12,16 @@ use Rattle.cat_model.specs.declared.request.Event.{Event}
 use Rattle.cat_model.specs.declared.request.Event.TheVariants as event
 use Rattle.raft_model.specs.declared.message.Message.{Message}
 use Rattle.raft_model.specs.declared.message.Message.TheVariants.{AskVote, Vote, Append, Yes, No}
-use Rattle.raft_model.specs.declared.message.Round.{Round}
 use Rattle.raft_model.specs.declared.message.Sent.{Sent}
-use Rattle.raft_model.specs.Facts.{IsPlaced, IsReady, next_round}
+use Rattle.raft_model.specs.Facts.{IsPlaced, next_round}
 use Rattle.raft_model.specs.Log.{Log, entry_at, term_at}
 use Rattle.raft_model.specs.Node.{Node, last, quiet, set_server}
 use Rattle.raft_model.specs.Rules.{Input, Timeout, Beat, Receive, Propose, Probe, append_all, appended, beats, candidate, does, done, has_room, of_lower_term, of_own_term, probes, proposal, proposes, received, risen, stands, term_of, timed_out}
 use Rattle.raft_model.specs.Step.{Outcome, Works, VoteFails, LogFails, Forgets, NodeStep}
-use Rattle.raft_model.specs.World.{World, Packet, Move, WorldStep, TimesOut, Beats, Proposes, Probes, Delivers, Acts, IsReached, IsServer, Reaches, numbered, raised, step}
+use Rattle.raft_model.specs.World.{World, Packet, Move, WorldStep, TimesOut, Beats, Proposes, Probes, Delivers, Acts, IsReached, IsServer, numbered, raised, step}
 use Rattle.raft_model.proofs.Committing.{appended_up}
-use Rattle.raft_model.proofs.Moving.{halted_done}
 use Rattle.raft_model.proofs.Rising.{candidate_up, own_up}
 use Rattle.raft_model.proofs.Servers.{running_done}
-use Rattle.raft_model.proofs.Sound.{IsSound, Runs, Rests}
 use Rattle.raft_model.proofs.Starts.{reached_sound}
 use Rattle.raft_model.proofs.Tests.{at_bool, eq_tells, no_bool}
 use Rattle.raft_model.proofs.Theorems.{agrees, placed, shows}
@@ -114,6 +111,7 @@ acts_rise w i input w' r a = subst (λ (z : World). Rises w z) (sym a.becomes) (
       let q = ap (λ (n : Node). n.commit) (ap (node_of w) e ∙ is_node w i a.old a.server) in omega arith)
       (omega arith);
 })
+
 -- the move of an act
 pub acts_proposes : (w : World) (i number : ℕ) (command : Command) (w' : World) → Acts w i (Propose number command) w' → WorldStep w (Proposes i number command) w'
 acts_proposes w i number command w' a = a

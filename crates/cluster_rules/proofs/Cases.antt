@@ -1,5 +1,5 @@
 -- All the ways in which something is due at a server, for any fact on works.
-use Rattle.std.proofs.Common.{◌≡◌, ℕ, ◌<◌, ◌≤◌, ◌⊎◌, inl, inr, Bool, true, false, cond, not, List, length, refl, subst, Option, Some, None}
+use Rattle.std.proofs.Common.{◌≡◌, ℕ, ◌<◌, ◌≤◌, ◌⊎◌, inl, inr, Bool, true, false, cond, not, length, refl, subst, Option, Some, None}
 use Rattle.std.specs.Prelude.{◌==◌, nat_lt, nat_le, ◌&&◌, ◌||◌}
 use Rattle.std.specs.List.{AllByRecursion as Each}
 use Rattle.cat_model.specs.declared.query.Query.{Query}
@@ -16,7 +16,6 @@ use Rattle.raft_model.specs.Rules.{is_confirmed}
 use Rattle.raft_model.proofs.Tests.{lt_tells, lt_tells_not, le_tells, eq_tells}
 use Rattle.cluster_rules.specs.Cluster.{Stand, AtPlace, InRound, ForIndex, Ended, Pending, Cluster, node_of, applied_of, clock_of}
 use Rattle.cluster_rules.specs.Due.{Work, Replies, Holds, Closes, Applies, landed, was_seen, is_new, waiting, asks_read, early_stand, is_ended, early_work, late_stand, late_work, IsDue, early, next_one, late}
-use Rattle.cluster_rules.specs.Sound.{IsAmong}
 use Rattle.cluster_rules.proofs.Tools.{both, neither, one_of, not_tells_not, le_tells_not, each_in}
 
 -- what a fact has to hold of for a held request

@@ -1,29 +1,22 @@
 -- No request is lost, and none is in two places.
-use Rattle.std.proofs.Common.{◌≡◌, ◌≢◌, ℕ, zero, suc, ◌+◌, ◌<◌, ◌≤◌, ◌⊎◌, inl, inr, Bool, true, false, cond, not, List, [], ◌∷◌, ◌++◌, length, map, refl, sym, ◌∙◌, ap, subst, arith, Option, Some, None}
+use Rattle.std.proofs.Common.{◌≡◌, ◌≢◌, ℕ, suc, ◌+◌, ◌≤◌, inl, inr, Bool, true, false, cond, not, List, [], ◌∷◌, ◌++◌, length, map, refl, sym, ◌∙◌, ap, subst, arith, Option, Some, None}
 use Rattle.std.specs.Prelude.{◌==◌, nat_lt, nat_le, ◌&&◌}
 use Rattle.std.specs.List.{AllByRecursion as Each}
 use Rattle.std.proofs.lemmas.Bool.Decides.{nat_tests}
-use Rattle.cat_model.specs.declared.request.Asked.{Asked}
-use Rattle.cat_model.specs.declared.request.Draw.{Draw}
-use Rattle.cat_model.specs.declared.request.Event.{Event}
-use Rattle.cat_model.specs.declared.request.Event.TheVariants as event
-use Rattle.cat_model.specs.declared.reply.Kind.{Kind}
 use Rattle.cat_model.specs.declared.reply.Kind.TheVariants.{Refused}
 use Rattle.cat_model.specs.declared.reply.Mark.{Mark}
 use Rattle.cat_model.specs.declared.reply.Mark.TheVariants as mark
 use Rattle.cat_model.specs.declared.reply.Refusal.{Refusal}
 use Rattle.raft_model.specs.Log.{Log}
-use Rattle.raft_model.specs.Rules.{Input}
 use Rattle.raft_model.specs.World.{World}
 use Rattle.raft_model.proofs.Tests.{at_bool, eq_tells}
-use Rattle.cluster_rules.specs.Replies.{Question, Out, Replied, Closed, number_of, reply_of}
-use Rattle.cluster_rules.specs.Cluster.{Stand, ForIndex, Ended, Pending, Start, Cluster, node_of, applied_of}
-use Rattle.cluster_rules.specs.Due.{Work, Replies, Holds, Closes, Applies, without, with_held, is_before, put_out, answered, did, IsDue, Works, none, work}
-use Rattle.cluster_rules.specs.Requests.{entries_past, halts_past, joined, moved_with, moved, halted_now, holding, refused, Handles, unready, full, proposes, stops, probes, reads}
-use Rattle.cluster_rules.specs.Step.{events_in, ended, begun_anew, input_of, Acts, takes, ticks, arms, restarts, handles, Does, over, act, cut, cut_between, Passes, loses, replies, noted, marked, shelved, ClusterStep, done, passed, cut_early}
+use Rattle.cluster_rules.specs.Replies.{Question, Out, Replied, number_of, reply_of}
+use Rattle.cluster_rules.specs.Cluster.{Stand, ForIndex, Ended, Pending, Start, Cluster, applied_of}
+use Rattle.cluster_rules.specs.Due.{Work, Replies, Holds, Closes, Applies, without, with_held, is_before, put_out, did, IsDue, Works, none, work}
+use Rattle.cluster_rules.specs.Requests.{entries_past, halts_past, joined, moved_with, holding, refused}
+use Rattle.cluster_rules.specs.Step.{events_in, ended, begun_anew}
 use Rattle.cluster_rules.specs.Sound.{IsAmong, one_if, is_of, held_times, out_times, taken_times, found, NoneLost}
-use Rattle.cluster_rules.proofs.Cases.{Leaves, due_cases}
-use Rattle.cluster_rules.proofs.Steps.{acts_first}
+use Rattle.cluster_rules.proofs.Cases.{due_cases}
 use Rattle.cluster_rules.proofs.Tools.{eq_tells_not, eq_self}
 use Rattle.cluster_rules.proofs.Works.{with_number}
 
@@ -220,8 +213,8 @@ refused_places n c q why e l k =
     let m = ap (λ z. one_if (z == k)) e in
     let f = l k in
     let w = at_bool (λ b. (q.number == k) ≡ b → held_times k (without q.number c.held) ≡ held_times k c.held) (q.number == k)
-        (λ _ t. let z = eq_tells q.number k t in ap (λ y. held_times k (without y c.held)) z ∙ without_same k c.held ∙ sym (none_held k (sym z ∙ e)))
-        (λ _ t. without_other k q.number (eq_tells_not q.number k t) c.held) refl in
+    (λ _ t. let z = eq_tells q.number k t in ap (λ y. held_times k (without y c.held)) z ∙ without_same k c.held ∙ sym (none_held k (sym z ∙ e)))
+    (λ _ t. without_other k q.number (eq_tells_not q.number k t) c.held) refl in
     omega (arith, p, m, f, w) ∙ next_place n k
   where
     above : (n : ℕ) → nat_le (suc n) n ≡ false

@@ -1,17 +1,15 @@
 -- What is due is right, so doing it leaves the cluster sound.
-use Rattle.std.proofs.Common.{◌≡◌, ◌≢◌, ℕ, suc, ◌<◌, ◌≤◌, ◌⊎◌, inl, inr, Bool, true, false, cond, List, [], ◌∷◌, length, take, refl, sym, ◌∙◌, ap, subst, arith, Option, Some, None}
-use Rattle.std.specs.Prelude.{◌==◌, ◌&&◌}
-use Rattle.std.specs.List.{AllByRecursion as Each}
+use Rattle.std.proofs.Common.{◌≡◌, ◌≢◌, ℕ, ◌<◌, ◌≤◌, ◌⊎◌, inl, inr, Bool, true, false, cond, List, [], ◌∷◌, length, take, refl, sym, ◌∙◌, ap, subst, arith, Option, Some, None}
+use Rattle.std.specs.Prelude.{◌==◌}
 use Rattle.std.proofs.lemmas.List.{take_all, length-take}
 use Rattle.cat_model.specs.declared.query.Query.{Query}
 use Rattle.cat_model.specs.declared.command.Command.{Command}
 use Rattle.cat_model.specs.declared.command.Entry.{Entry}
 use Rattle.cat_model.specs.declared.request.Mode.{Mode}
-use Rattle.cat_model.specs.declared.request.Mode.TheVariants.{Default, Consistent, Stale}
+use Rattle.cat_model.specs.declared.request.Mode.TheVariants.{Consistent}
 use Rattle.cat_model.specs.declared.request.Request.TheVariants.{Read, Execute, Write, Renew, Agent}
 use Rattle.cat_model.specs.declared.request.Asked.{Asked}
 use Rattle.cat_model.specs.declared.request.Asked.TheVariants.{Good, Bad}
-use Rattle.cat_model.specs.declared.reply.Kind.{Kind}
 use Rattle.cat_model.specs.declared.reply.Kind.TheVariants.{Acked, At, Refused}
 use Rattle.cat_model.specs.declared.reply.Mark.{Mark}
 use Rattle.cat_model.specs.declared.reply.Mark.TheVariants as mark
@@ -24,15 +22,15 @@ use Rattle.raft_model.specs.Facts.{IsPlaced}
 use Rattle.raft_model.specs.Log.{Log, term_at}
 use Rattle.raft_model.specs.Node.{Node}
 use Rattle.raft_model.specs.Rules.{is_confirmed}
-use Rattle.raft_model.specs.World.{World, Reaches, here, IsServer}
+use Rattle.raft_model.specs.World.{World, here, IsServer}
 use Rattle.raft_model.proofs.Logs.{agree_term}
 use Rattle.raft_model.proofs.Tests.{at_bool, eq_tells}
 use Rattle.raft_model.proofs.Theorems.{grows_far}
 use Rattle.cluster_rules.specs.Replies.{Question, came, entered}
-use Rattle.cluster_rules.specs.Lasting.{IsWrite, IsRead, RefusesRead, RefusesWrite, IsRefused, HasLostRound, LastsFor, Lasting, IsAnswerAt}
-use Rattle.cluster_rules.specs.Cluster.{Stand, AtPlace, InRound, ForIndex, Ended, Pending, Start, Proposed, Probed, Cluster, no_node, node_of, server_of, applied_of, clock_of}
-use Rattle.cluster_rules.specs.Due.{Work, Replies, Holds, landed, was_seen, waiting, is_ended, did, IsDue, Works, none, work}
-use Rattle.cluster_rules.specs.Sound.{IsAmong, NeverEnters, asked_in, entries_before, IsFresh, StartIsSound, WasBelow, StandIsSound, PendingIsSound, LostFor, RestsOn, PastIsSound, ServerIsSound, IsSoundAtWork}
+use Rattle.cluster_rules.specs.Lasting.{IsWrite, IsRead, RefusesRead, RefusesWrite, IsRefused, HasLostRound, LastsFor, IsAnswerAt}
+use Rattle.cluster_rules.specs.Cluster.{Stand, AtPlace, InRound, ForIndex, Ended, Pending, Start, Proposed, Probed, Cluster, node_of, server_of, applied_of, clock_of}
+use Rattle.cluster_rules.specs.Due.{Work, landed, waiting, is_ended, did, IsDue, Works, none, work}
+use Rattle.cluster_rules.specs.Sound.{IsAmong, NeverEnters, asked_in, entries_before, IsFresh, StartIsSound, WasBelow, StandIsSound, PendingIsSound, LostFor, PastIsSound, ServerIsSound, IsSoundAtWork}
 use Rattle.cluster_rules.proofs.Tools.{eq_tells_not, there_or_none, each_among}
 use Rattle.cluster_rules.proofs.Entries.{agree_entry}
 use Rattle.cluster_rules.proofs.Grows.{write_map, read_map}

@@ -1,9 +1,8 @@
 -- What the agreed log's growth leaves as it is.
-use Rattle.std.proofs.Common.{◌≡◌, ℕ, ◌-◌, ◌≤◌, ◌⊎◌, inl, inr, Bool, List, [], ◌∷◌, length, take, refl, sym, ◌∙◌, ap, subst, arith}
+use Rattle.std.proofs.Common.{◌≡◌, ℕ, ◌-◌, ◌≤◌, Bool, length, take, refl, sym, ◌∙◌, ap, arith}
 use Rattle.std.proofs.lemmas.List.{take_all, length-take}
 use Rattle.cat_model.specs.declared.query.Query.{Query}
 use Rattle.cat_model.specs.declared.command.Command.{Command}
-use Rattle.cat_model.specs.declared.command.Entry.{Entry}
 use Rattle.cat_model.specs.declared.request.Mode.{Mode}
 use Rattle.cat_model.specs.declared.request.Request.TheVariants.{Read, Execute, Write, Renew, Agent}
 use Rattle.cat_model.specs.declared.request.Asked.{Asked}
@@ -15,10 +14,10 @@ use Rattle.cat_model.specs.Log.{commands_of}
 use Rattle.cat_model.specs.Machine.{catalog_at, reply_to}
 use Rattle.cat_model.specs.Queries.{answer}
 use Rattle.raft_model.specs.declared.message.Round.{Round}
-use Rattle.raft_model.specs.Log.{Log, term_at, number_at}
+use Rattle.raft_model.specs.Log.{Log, term_at}
 use Rattle.raft_model.specs.World.{World, Move, WorldStep, Reaches, here, next, IsReached}
 use Rattle.raft_model.proofs.Logs.{front_take, agree_term}
-use Rattle.raft_model.proofs.Theorems.{grows, grows_far}
+use Rattle.raft_model.proofs.Theorems.{grows}
 use Rattle.cluster_rules.specs.Replies.{Question, entered, Shows, Tells, shown_write, shown_read, shown, reply_of, index_shown}
 use Rattle.cluster_rules.specs.Lasting.{IsWrite, IsRead, IsEntered, IsAnswerAt, LastsFor, Lasting}
 use Rattle.cluster_rules.specs.Sound.{NeverEnters, IsFreshRound}

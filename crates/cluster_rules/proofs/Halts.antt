@@ -1,5 +1,5 @@
 -- Each mark of a halt is of a failure that its server's durable store counted.
-use Rattle.std.proofs.Common.{◌≡◌, ◌≢◌, ℕ, zero, suc, ◌+◌, ◌-◌, ◌^◌, ◌≤◌, ◌⊎◌, inl, inr, Bool, true, false, cond, not, min, List, [], ◌∷◌, length, refl, sym, ◌∙◌, ap, subst, arith}
+use Rattle.std.proofs.Common.{◌≡◌, ◌≢◌, ℕ, suc, ◌+◌, ◌-◌, ◌^◌, ◌≤◌, ◌⊎◌, inl, inr, Bool, true, false, cond, not, min, List, [], ◌∷◌, refl, sym, ◌∙◌, ap, subst, arith}
 use Rattle.std.specs.Prelude.{◌==◌, ◌&&◌}
 use Rattle.cat_model.specs.declared.request.Event.{Event}
 use Rattle.cat_model.specs.declared.request.Event.TheVariants as event
@@ -7,16 +7,16 @@ use Rattle.cat_model.specs.declared.reply.Mark.{Mark}
 use Rattle.cat_model.specs.declared.reply.Mark.TheVariants as mark
 use Rattle.raft_model.specs.declared.message.Sent.{Sent}
 use Rattle.raft_model.specs.Log.{Log}
-use Rattle.raft_model.specs.Node.{Kept, Node, Store, set_server}
+use Rattle.raft_model.specs.Node.{Node, Store}
 use Rattle.raft_model.specs.Rules.{Input, done}
 use Rattle.raft_model.specs.Step.{Outcome, Works, VoteFails, LogFails, Forgets, NodeStep, VoteSaved, LogStored, RestartWorks, RestartFails, arms}
-use Rattle.raft_model.specs.World.{World, Acts as NodeActs, WorldStep, Restarts, Ticks, Arms, Drops}
+use Rattle.raft_model.specs.World.{World, Acts as NodeActs, WorldStep, Restarts}
 use Rattle.raft_model.proofs.Tests.{at_bool, eq_tells}
 use Rattle.cluster_rules.specs.Replies.{Question}
 use Rattle.cluster_rules.specs.Cluster.{Cluster, no_node, node_of}
 use Rattle.cluster_rules.specs.Due.{Work, Replies, Holds, Closes, Applies, did, Works as Made, none, work}
 use Rattle.cluster_rules.specs.Requests.{entries_past, halts_past, joined, moved_with, moved, halted_now, Handles, unready, full, proposes, stops, probes, reads}
-use Rattle.cluster_rules.specs.Step.{Acts, takes, ticks, arms as arms_it, restarts, handles, Does, over, act, cut, cut_between, Passes, loses, replies, noted, marked, shelved, ClusterStep, done as whole_step, passed, cut_early}
+use Rattle.cluster_rules.specs.Step.{Acts, takes, ticks, arms as arms_it, restarts, handles, Does, over, act, cut, cut_between, Passes, loses, replies, noted, marked, ClusterStep, done as whole_step, passed, cut_early}
 use Rattle.cluster_rules.specs.Reached.{IsStart, Move, Reached, at_start, by_event, by_taking, by_handing, by_settling}
 use Rattle.cluster_rules.specs.Sound.{halts_in}
 use Rattle.cluster_rules.proofs.Running.{done_up}

@@ -1,44 +1,38 @@
 -- A request's part at the server to which it went leaves the cluster sound.
-use Rattle.std.proofs.Common.{◌≡◌, ◌≢◌, ℕ, zero, suc, ◌+◌, ◌<◌, ◌≤◌, ◌⊎◌, inl, inr, Bool, true, false, not, cond, List, [], ◌∷◌, ◌++◌, length, take, refl, sym, ◌∙◌, ap, subst, arith, Option, Some, None}
+use Rattle.std.proofs.Common.{◌≡◌, ◌≢◌, ℕ, suc, ◌<◌, ◌≤◌, ◌⊎◌, inl, inr, Bool, true, false, List, [], ◌∷◌, ◌++◌, length, take, refl, sym, ◌∙◌, ap, subst, arith, Some, None}
 use Rattle.std.specs.Prelude.{nat_lt, nat_le, ◌&&◌}
 use Rattle.std.specs.List.{AllByRecursion as Each}
-use Rattle.std.proofs.lemmas.List.{take_all, length-take}
+use Rattle.std.proofs.lemmas.List.{take_all}
 use Rattle.cat_model.specs.LogLimits.{most_entries, most_bytes, log_bytes}
 use Rattle.cat_model.specs.declared.command.Command.{Command}
-use Rattle.cat_model.specs.declared.command.Entry.{Entry}
-use Rattle.cat_model.specs.declared.query.Query.{Query}
 use Rattle.cat_model.specs.declared.request.Mode.{Mode}
 use Rattle.cat_model.specs.declared.request.Mode.TheVariants.{Default, Consistent, Stale}
-use Rattle.cat_model.specs.declared.request.Request.TheVariants.{Read, Write}
+use Rattle.cat_model.specs.declared.request.Request.TheVariants.{Write}
 use Rattle.cat_model.specs.declared.request.Asked.{Asked}
 use Rattle.cat_model.specs.declared.request.Asked.TheVariants.{Good}
-use Rattle.cat_model.specs.declared.reply.Kind.{Kind}
 use Rattle.cat_model.specs.declared.reply.Kind.TheVariants.{Refused}
 use Rattle.cat_model.specs.declared.reply.Mark.{Mark}
 use Rattle.cat_model.specs.declared.reply.Refusal.{Refusal}
 use Rattle.cat_model.specs.declared.reply.Refusal.TheVariants as refusal
-use Rattle.raft_model.specs.declared.message.Round.{Round}
-use Rattle.raft_model.specs.Facts.{IsPlaced, next_round}
+use Rattle.raft_model.specs.Facts.{next_round}
 use Rattle.raft_model.specs.Log.{Log, term_at, last_term}
-use Rattle.raft_model.specs.Node.{Node}
-use Rattle.raft_model.specs.Rules.{Input, Propose, Probe, has_room, proposal}
+use Rattle.raft_model.specs.Rules.{Probe, proposal}
 use Rattle.raft_model.specs.World.{World, Acts as NodeActs, Proposes, Probes, IsServer}
 use Rattle.raft_model.proofs.Logs.{agree_term}
 use Rattle.raft_model.proofs.Tests.{at_bool, lt_tells, lt_tells_not}
 use Rattle.cluster_rules.specs.Replies.{Question, came, entered}
-use Rattle.cluster_rules.specs.Lasting.{IsWrite, IsRead, IsRefused, RefusesWrite, LastsFor, Lasting}
-use Rattle.cluster_rules.specs.Cluster.{Stand, AtPlace, InRound, ForIndex, Pending, Start, Proposed, Probed, Looked, Cluster, node_of, server_of, applied_of, clock_of, runs_leading}
-use Rattle.cluster_rules.specs.Due.{answered}
-use Rattle.cluster_rules.specs.Requests.{Goes, way, is_ready, is_stale_read, MayGo, wait_of, moved, halted_now, holding, refused, log_with, Handles, unready, full, proposes, stops, probes, reads}
-use Rattle.cluster_rules.specs.Sound.{IsAmong, ServerIsSound, IsOpen, entries_before, IsFresh, IsFreshRound, StartIsSound, WasBelow, PendingIsSound, OutIsSound, Ascends, RestsOn, IsSoundAtWork}
+use Rattle.cluster_rules.specs.Lasting.{IsWrite, IsRead, IsRefused, LastsFor}
+use Rattle.cluster_rules.specs.Cluster.{Stand, Pending, Start, Proposed, Probed, Looked, Cluster, node_of, server_of, applied_of, runs_leading}
+use Rattle.cluster_rules.specs.Requests.{Goes, way, is_ready, is_stale_read, MayGo, moved, halted_now, holding, refused, log_with, Handles, unready, full, proposes, stops, probes, reads}
+use Rattle.cluster_rules.specs.Sound.{IsAmong, ServerIsSound, IsOpen, IsFresh, IsFreshRound, StartIsSound, WasBelow, PendingIsSound, Ascends, RestsOn, IsSoundAtWork}
 use Rattle.cluster_rules.proofs.Asking.{AskIsNew, goes_leading, unready_refused}
 use Rattle.cluster_rules.proofs.Boundary.{acts_rise, acts_greatest, leader_there, leading_tells, term_bound, commit_within, proposed, probed}
 use Rattle.cluster_rules.proofs.Grows.{goes_nowhere}
-use Rattle.cluster_rules.proofs.Later.{Later, pending_later, start_later, out_later, past_later, same_past}
-use Rattle.cluster_rules.proofs.Moved.{Plain, plain_moved, moved_sound}
-use Rattle.cluster_rules.proofs.Terms.{HasTerm, reached_has}
-use Rattle.cluster_rules.proofs.Tools.{le_tells_not, not_tells, not_tells_not, both, each_map, each_append}
-use Rattle.cluster_rules.proofs.Works.{IsRight, answered_sound, commit_agrees}
+use Rattle.cluster_rules.proofs.Later.{Later, pending_later, past_later, same_past}
+use Rattle.cluster_rules.proofs.Moved.{plain_moved, moved_sound}
+use Rattle.cluster_rules.proofs.Terms.{reached_has}
+use Rattle.cluster_rules.proofs.Tools.{le_tells_not, not_tells, not_tells_not, each_map, each_append}
+use Rattle.cluster_rules.proofs.Works.{answered_sound, commit_agrees}
 
 -- One more held request, behind all others, with its start.
 ascends_more : (h : Pending) (hs : List Pending) → Each (λ (g : Pending). g.question.number < h.question.number) hs → Ascends hs → Ascends (hs ++ h ∷ [])
@@ -145,10 +139,11 @@ module _ (c : Cluster) (s : IsSoundAtWork c) (i : ℕ) (q : Question) (a : AskIs
       (p.was (came q) a.was) (p.open_ q.number a.open_) (as_write q command (λ z. IsRefused z (refusal.Halted i)) ask tt) tt)
   handles_sound c' (proposes command w' ask free go room b up e) = subst IsSoundAtWork (sym e)
       (let p = plain_moved (halted_now c.world w' i) i w' c in
-      holding_sound (moved i w' c) (moved_sound c s (halted_now c.world w' i) i w' (Proposes i q.number (entered q command)) b (acts_rise c.world i _ w' s.world b) (let k = acts_greatest c.world i _ w' b in let n = a.number in let l = a.numbers in omega arith)) q i _ _
-      (omega arith,
+      holding_sound (moved i w' c) (moved_sound c s (halted_now c.world w' i) i w' (Proposes i q.number (entered q command)) b (acts_rise c.world i _ w' s.world b) (let k = acts_greatest c.world i _ w' b in let n = a.number in let l = a.numbers in omega arith)) q i _ _ (
+        omega arith,
         proposed c.world s.world i q.number (entered q command) w' b (goes_leading c.world from i q.asked goes (as_write q command (λ z. is_stale_read z ≡ false) ask refl)) room up,
-        (q, p.was (came q) a.was, refl, as_write q command (λ z. IsWrite z (λ command'. entered q command ≡ entered q command')) ask refl))
+        (q, p.was (came q) a.was, refl, as_write q command (λ z. IsWrite z (λ command'. entered q command ≡ entered q command')) ask refl),
+      )
       (record {
         asked = p.was (came q) a.was;
         open_ = p.open_ q.number a.open_;

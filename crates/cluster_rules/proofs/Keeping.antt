@@ -1,6 +1,5 @@
 -- Each step keeps each request in exactly one place, and so the cluster sound.
-use Rattle.std.proofs.Common.{◌≡◌, ℕ, zero, suc, ◌+◌, ◌<◌, ◌≤◌, ◌⊎◌, inl, inr, Bool, true, false, List, [], ◌∷◌, ◌++◌, refl, sym, ◌∙◌, ap, subst, arith, Option, Some, None}
-use Rattle.std.specs.Prelude.{◌==◌}
+use Rattle.std.proofs.Common.{◌≡◌, ℕ, suc, ◌<◌, Bool, [], refl, sym, ◌∙◌, ap, subst, arith, Some, None}
 use Rattle.cat_model.specs.declared.request.Event.{Event}
 use Rattle.cat_model.specs.declared.request.Event.TheVariants as event
 use Rattle.cat_model.specs.declared.reply.Refusal.{Refusal}
@@ -8,10 +7,10 @@ use Rattle.raft_model.specs.Rules.{Input}
 use Rattle.raft_model.specs.World.{World}
 use Rattle.cluster_rules.specs.Replies.{Question}
 use Rattle.cluster_rules.specs.Cluster.{Stand, Start, Cluster, node_of}
-use Rattle.cluster_rules.specs.Due.{IsDue, Works, none, work}
+use Rattle.cluster_rules.specs.Due.{work}
 use Rattle.cluster_rules.specs.Requests.{moved_with, moved, halted_now, holding, refused, Handles, unready, full, proposes, stops, probes, reads}
-use Rattle.cluster_rules.specs.Step.{begun_anew, input_of, Acts, takes, ticks, arms, restarts, handles, Does, over, act, cut, cut_between, Passes, loses, replies, noted, marked, shelved, ClusterStep, done, passed, cut_early, acts_of}
-use Rattle.cluster_rules.specs.Sound.{NoneLost, found, out_times, IsSoundAtWork, Sound}
+use Rattle.cluster_rules.specs.Step.{begun_anew, input_of, Acts, takes, ticks, arms, restarts, handles, Does, over, act, cut, cut_between, Passes, loses, replies, noted, marked, shelved, ClusterStep, done, passed, cut_early}
+use Rattle.cluster_rules.specs.Sound.{NoneLost, found, Sound}
 use Rattle.cluster_rules.proofs.Counting.{works_keep, made_up_keep, works_asked, moved_keeps, restart_keeps, holding_places, refused_places, outs_times}
 use Rattle.cluster_rules.proofs.Steps.{acts_first, step_sound}
 

@@ -1,9 +1,6 @@
 -- More marks, more starts and a later world leave sound what was sound.
-use Rattle.std.proofs.Common.{◌≡◌, ◌≢◌, ℕ, suc, ◌<◌, ◌≤◌, ◌⊎◌, inl, inr, Bool, List, [], ◌∷◌, length, take, refl, sym, ◌∙◌, ap, subst, arith, Option, Some, None}
-use Rattle.std.proofs.lemmas.List.{take_all}
-use Rattle.std.specs.List.{AllByRecursion as Each}
+use Rattle.std.proofs.Common.{◌≡◌, ℕ, ◌≤◌, inr, List, [], ◌∷◌, length, take, refl, sym, ◌∙◌, subst, arith, Option, Some, None}
 use Rattle.cat_model.specs.declared.query.Query.{Query}
-use Rattle.cat_model.specs.declared.command.Entry.{Entry}
 use Rattle.cat_model.specs.declared.request.Mode.{Mode}
 use Rattle.cat_model.specs.declared.request.Mode.TheVariants.{Default, Consistent, Stale}
 use Rattle.cat_model.specs.declared.request.Request.TheVariants.{Read, Execute, Write, Renew, Agent}
@@ -17,14 +14,13 @@ use Rattle.cat_model.specs.declared.reply.Refusal.{Refusal}
 use Rattle.cat_model.specs.declared.reply.Refusal.TheVariants as refusal
 use Rattle.cat_model.specs.Indexes.{index_of}
 use Rattle.cat_model.specs.Log.{commands_of}
-use Rattle.raft_model.specs.Log.{Log, term_at}
+use Rattle.raft_model.specs.Log.{Log}
 use Rattle.raft_model.specs.World.{World}
 use Rattle.raft_model.proofs.Logs.{front_take}
-use Rattle.cluster_rules.specs.Replies.{Question, came, entered, Out, Replied, Closed, Synced}
-use Rattle.cluster_rules.specs.Lasting.{IsWrite}
+use Rattle.cluster_rules.specs.Replies.{Question, came, Out, Replied, Closed, Synced}
 use Rattle.cluster_rules.specs.Cluster.{Server, Stand, AtPlace, InRound, ForIndex, Ended, Pending, Start, Proposed, Probed, Looked, server_of}
-use Rattle.cluster_rules.specs.Sound.{IsAmong, IsOpen, entries_before, RestartedAt, IsFresh, IsFreshKind, StartIsSound, WasBelow, StandIsSound, PendingIsSound, LostFor, RestsOn, AnswerIsSound, PastIsSound, OutIsSound}
-use Rattle.cluster_rules.proofs.Grows.{GoesTo, write_map, read_map, front_length, lasting_grows, reply_same, term_grows, never_grows, round_grows, goes_nowhere}
+use Rattle.cluster_rules.specs.Sound.{IsAmong, IsOpen, entries_before, RestartedAt, IsFresh, IsFreshKind, StartIsSound, WasBelow, StandIsSound, PendingIsSound, LostFor, RestsOn, PastIsSound, OutIsSound}
+use Rattle.cluster_rules.proofs.Grows.{GoesTo, write_map, read_map, front_length, lasting_grows, reply_same, term_grows, never_grows, goes_nowhere}
 
 pub record Later (w w' : World) (past past' : List Mark) (starts starts' : List Start) : Type 0 where
   pub goes : GoesTo w w'
@@ -96,7 +92,11 @@ module _ (w w' : World) (past past' : List Mark) (starts starts' : List Start) (
 module _ (w w' : World) (g : GoesTo w w') (starts starts' : List Start) (more : (x : Start) → IsAmong x starts → IsAmong x starts') where
   lost_later : (q : Question) (asked : Asked) (old found : ℕ) → LostFor w starts q asked old found → LostFor w' starts' q asked old found
   lost_later q (Good (Write command)) old found x = (
-    x.0, x.1, more _ x.2, x.3, x.4,
+    x.0,
+    x.1,
+    more _ x.2,
+    x.3,
+    x.4,
     let k = front_length w.agreed w'.agreed g.grows in let z = x.5 in omega arith,
     term_grows w.agreed w'.agreed g.grows x.0 x.5 ∙ x.6,
     never_grows w w' g old q.number x.7,
@@ -129,15 +129,15 @@ module _ (w w' : World) (g : GoesTo w w') (starts starts' : List Start) (more : 
   past_later (mark.Entry entry ∷ past) x = past_later past x
   past_later (mark.Answered number kind known contact ∷ past) x = (
     let a = x.0 in
-    record {
-      question = a.question;
-      asked = a.asked;
-      number_is = a.number_is;
-      once = a.once;
-      lasts = lasting_grows w.agreed w'.agreed g.grows a.question kind a.lasts;
-      fresh = fresh_kind_later number past past refl starts starts' more kind a.fresh;
-      rests = rests_later a.question kind a.rests;
-    },
+        record {
+          question = a.question;
+          asked = a.asked;
+          number_is = a.number_is;
+          once = a.once;
+          lasts = lasting_grows w.agreed w'.agreed g.grows a.question kind a.lasts;
+          fresh = fresh_kind_later number past past refl starts starts' more kind a.fresh;
+          rests = rests_later a.question kind a.rests;
+        },
     past_later past x.1,
   )
   past_later (mark.Taken number ∷ past) x = past_later past x

@@ -1,29 +1,24 @@
 -- Each reply is legal where it is made.
-use Rattle.std.proofs.Common.{◌≡◌, ◌≢◌, ℕ, suc, ◌<◌, ◌≤◌, ◌⊎◌, inl, inr, Bool, true, false, cond, List, length, refl, sym, ◌∙◌, ap, subst, arith, Option, Some, None}
+use Rattle.std.proofs.Common.{◌≡◌, ℕ, suc, ◌<◌, ◌≤◌, inl, inr, Bool, true, false, cond, length, refl, sym, subst, arith, Some, None}
 use Rattle.std.specs.Prelude.{◌==◌}
-use Rattle.cat_model.specs.declared.query.Query.{Query}
-use Rattle.cat_model.specs.declared.request.Mode.{Mode}
-use Rattle.cat_model.specs.declared.request.Request.TheVariants.{Read, Write}
 use Rattle.cat_model.specs.declared.request.Asked.{Asked}
-use Rattle.cat_model.specs.declared.request.Asked.TheVariants.{Good}
 use Rattle.cat_model.specs.declared.request.Event.{Event}
 use Rattle.cat_model.specs.declared.reply.Kind.{Kind}
-use Rattle.cat_model.specs.declared.reply.Kind.TheVariants.{Acked, At, Refused}
+use Rattle.cat_model.specs.declared.reply.Kind.TheVariants.{Acked, Refused}
 use Rattle.cat_model.specs.declared.reply.Refusal.TheVariants as refusal
 use Rattle.cat_model.specs.Indexes.{index_of}
 use Rattle.cat_model.specs.Log.{commands_of}
 use Rattle.cat_model.specs.LogLimits.{log_bytes}
 use Rattle.raft_model.specs.Log.{term_at, last_term}
-use Rattle.raft_model.specs.World.{World}
 use Rattle.raft_model.proofs.Tests.{at_bool, eq_tells, lt_tells}
 use Rattle.cluster_rules.specs.Replies.{Question, came}
 use Rattle.cluster_rules.specs.Lasting.{IsRead, IsRefused, LastsFor}
 use Rattle.cluster_rules.specs.Cluster.{Stand, AtPlace, InRound, ForIndex, Ended, Pending, Cluster, node_of, applied_of, clock_of}
-use Rattle.cluster_rules.specs.Due.{Work, Replies, Holds, Closes, Applies, landed, waiting, is_ended, did, due, IsDue, Works, none, work}
-use Rattle.cluster_rules.specs.Requests.{Goes, way, asked_server, is_ready, is_stale_read, MayGo, log_with, moved, halted_now, Handles, unready, full, proposes, stops, probes, reads}
+use Rattle.cluster_rules.specs.Due.{Work, Replies, Holds, Closes, Applies, landed, is_ended, did, due, IsDue, Works, none, work}
+use Rattle.cluster_rules.specs.Requests.{Goes, way, asked_server, is_ready, is_stale_read, MayGo, log_with, halted_now, Handles, unready, full, proposes, stops, probes, reads}
 use Rattle.cluster_rules.specs.Step.{Acts, takes, ticks, arms, restarts, handles, Does, over, act, cut, cut_between, Passes, loses, replies, noted, marked, ClusterStep, done, passed, cut_early}
 use Rattle.cluster_rules.specs.Sound.{IsAmong, IsSoundAtWork, Sound}
-use Rattle.cluster_rules.specs.Legal.{AllowsIndex, Allows, Cause, waited, at_once, not_ready, no_room, stopped, IsLegal, WorkIsLegal, AllLegal, HandleIsLegal, ActIsLegal, DoesLegally, PassIsLegal, StepIsLegal}
+use Rattle.cluster_rules.specs.Legal.{Allows, Cause, waited, at_once, not_ready, no_room, stopped, WorkIsLegal, AllLegal, HandleIsLegal, ActIsLegal, DoesLegally, PassIsLegal, StepIsLegal}
 use Rattle.cluster_rules.proofs.Asking.{AskIsNew, now_refused, unready_refused}
 use Rattle.cluster_rules.proofs.Cases.{Leaves, due_cases}
 use Rattle.cluster_rules.proofs.Due.{due_right, works_sound}
@@ -148,8 +143,9 @@ does_legal i made n c c' whole (cut_between l k) s f up = tt
 
 pub step_legal : (c c' : Cluster) (made : Event) (whole : Bool) (p : ClusterStep c made c' whole) → Sound c → StepIsLegal c made c' whole p
 step_legal c c' made whole (done i c₁ c₂ m d e) s =
-    let s₀ = marked_sound c s.parts made in
-    (works_legal i (marked made c) c₁ m.0 s₀,
-      does_legal i made 0 c₁ c₂ whole d (works_sound i (marked made c) c₁ m.0 s₀) (λ _. facts_worked i (marked made c) c₁ made m.0 (facts_marked c s.parts made)) m.1)
+    let s₀ = marked_sound c s.parts made in (
+      works_legal i (marked made c) c₁ m.0 s₀,
+      does_legal i made 0 c₁ c₂ whole d (works_sound i (marked made c) c₁ m.0 s₀) (λ _. facts_worked i (marked made c) c₁ made m.0 (facts_marked c s.parts made)) m.1,
+    )
 step_legal c c' made whole (passed c₁ w p e) s = passes_legal (marked made c) (marked_sound c s.parts made) made (facts_marked c s.parts made) c₁ p
 step_legal c c' made whole (cut_early i w c₁ short for d more e) s = works_legal i (noted made c) c₁ (work w d more) (noted_sound c s.parts made)

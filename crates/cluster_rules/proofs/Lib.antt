@@ -27,3 +27,4 @@ pub mod Running
 pub mod Halts
 pub mod Settling
 pub mod ThreeServers
+pub mod Starting

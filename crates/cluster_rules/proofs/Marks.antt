@@ -1,5 +1,5 @@
 -- The marks of a run name its moves.
-use Rattle.std.proofs.Common.{◌≡◌, ℕ, suc, Bool, true, false, List, [], ◌∷◌, length, refl, sym, ◌∙◌, ap, subst}
+use Rattle.std.proofs.Common.{◌≡◌, ℕ, suc, Bool, true, false, List, [], ◌∷◌, refl, sym, ◌∙◌, ap, subst}
 use Rattle.cat_model.specs.declared.request.Event.{Event}
 use Rattle.cat_model.specs.declared.request.Event.TheVariants as event
 use Rattle.cat_model.specs.declared.reply.Mark.{Mark}
@@ -9,8 +9,8 @@ use Rattle.raft_model.specs.World.{World}
 use Rattle.cluster_rules.specs.Replies.{Question}
 use Rattle.cluster_rules.specs.Cluster.{Cluster, node_of}
 use Rattle.cluster_rules.specs.Due.{Work, Replies, Holds, Closes, Applies, did, Works, none, work}
-use Rattle.cluster_rules.specs.Requests.{entries_past, halts_past, joined, moved_with, moved, halted_now, Handles, unready, full, proposes, stops, probes, reads}
-use Rattle.cluster_rules.specs.Step.{begun_anew, Acts, takes, ticks, arms, restarts, handles, Does, over, act, cut, cut_between, Passes, loses, replies, noted, marked, shelved, ClusterStep, done, passed, cut_early}
+use Rattle.cluster_rules.specs.Requests.{entries_past, halts_past, joined, moved_with, halted_now, Handles, unready, full, proposes, stops, probes, reads}
+use Rattle.cluster_rules.specs.Step.{Acts, takes, ticks, arms, restarts, handles, Does, over, act, cut, cut_between, Passes, loses, replies, noted, marked, ClusterStep, done, passed, cut_early}
 use Rattle.cluster_rules.specs.Reached.{IsStart, Move, Makes, Takes, Settles, moves_of, Reached, at_start, by_event, by_taking, by_handing, by_settling}
 
 abbrev Same : Cluster → Cluster → Type 0

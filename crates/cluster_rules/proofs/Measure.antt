@@ -1,21 +1,19 @@
 -- Each work leaves less to do.
-use Rattle.std.proofs.Common.{◌≡◌, ◌≢◌, ℕ, zero, suc, ◌+◌, ◌*◌, ◌-◌, ◌<◌, ◌≤◌, inl, inr, Bool, true, false, cond, not, List, [], ◌∷◌, length, refl, sym, ◌∙◌, ap, subst, arith, Option, Some, None}
-use Rattle.std.specs.Prelude.{◌==◌, if◌then◌else◌}
+use Rattle.std.proofs.Common.{◌≡◌, ◌≢◌, ℕ, zero, suc, ◌+◌, ◌*◌, ◌-◌, ◌<◌, ◌≤◌, Bool, true, cond, not, List, [], ◌∷◌, length, refl, sym, ◌∙◌, ap, subst, arith, Some, None}
+use Rattle.std.specs.Prelude.{◌==◌}
 use Rattle.std.specs.List.{AllByRecursion as Each}
 use Rattle.std.proofs.lemmas.Bool.Decides.{nat_tests}
 use Rattle.std.proofs.lemmas.List.{length-append}
-use Rattle.raft_model.specs.Log.{Log, entry_at}
-use Rattle.raft_model.specs.Node.{Node, set_server}
-use Rattle.raft_model.specs.World.{World, IsServer}
+use Rattle.raft_model.specs.Log.{entry_at}
+use Rattle.raft_model.specs.Node.{set_server}
 use Rattle.raft_model.proofs.Tests.{at_bool}
-use Rattle.cluster_rules.specs.Cluster.{Server, Stand, AtPlace, InRound, ForIndex, Ended, Pending, Cluster, no_server, no_node, node_of, server_of, applied_of, clock_of}
+use Rattle.cluster_rules.specs.Cluster.{Server, Stand, AtPlace, InRound, ForIndex, Ended, Pending, Cluster, no_server, node_of, server_of, applied_of, clock_of}
 use Rattle.cluster_rules.specs.Due.{Work, Applies, without, with_held, was_seen, applies_entry, IsDue, did}
 use Rattle.cluster_rules.specs.Left.{stand_weight, weight, total, left}
-use Rattle.cluster_rules.specs.Sound.{Ascends, Sound, IsSoundAtWork}
-use Rattle.cluster_rules.proofs.Boundary.{commit_within}
+use Rattle.cluster_rules.specs.Sound.{Ascends}
 use Rattle.cluster_rules.proofs.Cases.{Leaves, due_cases}
 use Rattle.cluster_rules.proofs.Entries.{entry_there}
-use Rattle.cluster_rules.proofs.Tools.{each_map, eq_self, item_same, there_or_none, is_place}
+use Rattle.cluster_rules.proofs.Tools.{each_map, eq_self, item_same}
 
 stand_bounds : (len : ℕ) (s : Stand) → (1 ≤ stand_weight len s) × (stand_weight len s ≤ 3)
 stand_bounds len (Ended event) = (omega arith, omega arith)

@@ -1,5 +1,5 @@
 -- What a step of the world leaves sound.
-use Rattle.std.proofs.Common.{◌≡◌, ◌≢◌, ℕ, zero, suc, ◌+◌, ◌<◌, ◌≤◌, ◌⊎◌, inl, inr, Bool, true, false, cond, List, [], ◌∷◌, ◌++◌, length, take, drop, map, refl, sym, ◌∙◌, ap, subst, arith, append_assoc, Option, Some, None}
+use Rattle.std.proofs.Common.{◌≡◌, ◌≢◌, ℕ, ◌<◌, ◌≤◌, inr, Bool, true, false, cond, List, [], ◌∷◌, ◌++◌, length, take, drop, map, refl, sym, ◌∙◌, ap, subst, arith, append_assoc}
 use Rattle.std.specs.Prelude.{◌==◌}
 use Rattle.std.specs.List.{AllByRecursion as Each}
 use Rattle.std.proofs.lemmas.List.{take_all, take-append-drop, length-take}
@@ -9,17 +9,16 @@ use Rattle.cat_model.specs.declared.reply.Mark.{Mark}
 use Rattle.cat_model.specs.declared.reply.Mark.TheVariants as mark
 use Rattle.raft_model.specs.Log.{Log}
 use Rattle.raft_model.specs.Node.{Node, set_server}
-use Rattle.raft_model.specs.Step.{RestartWorks, RestartFails, arms}
-use Rattle.raft_model.specs.World.{World, Move, WorldStep, Restarts, Ticks, Arms, Drops, IsReached, step, IsServer}
+use Rattle.raft_model.specs.Step.{arms}
+use Rattle.raft_model.specs.World.{World, Move, WorldStep, Restarts, Ticks, Arms, Drops, IsReached, step}
 use Rattle.raft_model.proofs.Logs.{front_take}
 use Rattle.raft_model.proofs.Tests.{at_bool, eq_tells}
-use Rattle.cluster_rules.specs.Replies.{Out}
 use Rattle.cluster_rules.specs.Cluster.{Server, Ended, Pending, Start, Cluster, item_of, no_node, no_server, node_of, server_of}
-use Rattle.cluster_rules.specs.Requests.{entries_past, halts_past, joined, moved_with, moved, halted_now}
+use Rattle.cluster_rules.specs.Requests.{entries_past, halts_past, joined, moved_with}
 use Rattle.cluster_rules.specs.Step.{events_in, ended, begun_anew}
 use Rattle.cluster_rules.specs.Sound.{IsAmong, ServerIsSound, ServersAreSound, IsOpen, asked_in, entered_in, entries_before, RestartedAt, StartIsSound, PendingIsSound, Ascends, PastIsSound, OutIsSound, IsSoundAtWork}
 use Rattle.cluster_rules.proofs.Tools.{eq_tells_not, at_item, item_same, item_other, length_set_server, is_node, is_place, each_map}
-use Rattle.cluster_rules.proofs.Grows.{GoesTo, goes_by, front_length}
+use Rattle.cluster_rules.proofs.Grows.{GoesTo, goes_by}
 use Rattle.cluster_rules.proofs.Later.{Same, Later, pending_later, start_later, out_later, past_later}
 use Rattle.cluster_rules.proofs.Boundary.{Rises}
 

@@ -1,6 +1,6 @@
 -- What is done at one server leaves all others as they are: what is due there stays the same.
-use Rattle.std.proofs.Common.{◌≡◌, ◌≢◌, ℕ, zero, suc, ◌<◌, ◌≤◌, inl, inr, Bool, true, false, cond, not, List, [], ◌∷◌, ◌++◌, length, map, filter, refl, sym, ◌∙◌, ap, subst, arith, Option, Some, None}
-use Rattle.std.specs.Prelude.{◌==◌, nat_lt, nat_le, ◌&&◌, ◌||◌}
+use Rattle.std.proofs.Common.{◌≡◌, ◌≢◌, ℕ, suc, ◌<◌, inl, inr, Bool, true, false, cond, not, List, [], ◌∷◌, length, filter, refl, sym, ◌∙◌, ap, subst, arith, Option, Some, None}
+use Rattle.std.specs.Prelude.{◌==◌, nat_lt, nat_le, ◌&&◌}
 use Rattle.std.specs.List.{AllByRecursion as Each}
 use Rattle.std.proofs.lemmas.Bool.Decides.{nat_tests}
 use Rattle.cat_model.specs.declared.reply.Kind.{Kind}
@@ -10,13 +10,12 @@ use Rattle.raft_model.specs.Log.{Log}
 use Rattle.raft_model.specs.Node.{Node}
 use Rattle.raft_model.specs.Rules.{is_confirmed}
 use Rattle.raft_model.proofs.Tests.{at_bool, eq_tells}
-use Rattle.cluster_rules.specs.Cluster.{Stand, AtPlace, InRound, ForIndex, Ended, Pending, Cluster, no_server, node_of, server_of, applied_of, clock_of}
+use Rattle.cluster_rules.specs.Cluster.{Stand, AtPlace, InRound, ForIndex, Ended, Pending, Cluster, no_server, node_of, applied_of, clock_of}
 use Rattle.cluster_rules.specs.Due.{Work, Replies, Holds, Closes, Applies, or_work, first_work, landed, has_looked, waits, waiting, asks_read, early_stand, is_ended, early_work, late_stand, late_work, next_work, due, without, with_held, did, IsDue, Works, none, work}
-use Rattle.cluster_rules.specs.Step.{ended}
 use Rattle.cluster_rules.specs.Sound.{IsAmong, Ascends}
 use Rattle.cluster_rules.proofs.Cases.{Leaves, due_cases}
 use Rattle.cluster_rules.proofs.Steps.{or_left, or_right}
-use Rattle.cluster_rules.proofs.Tools.{eq_tells_not, each_map, each_among, all_among, item_other}
+use Rattle.cluster_rules.proofs.Tools.{each_map, each_among, all_among, item_other}
 use Rattle.cluster_rules.proofs.Works.{each_kept, each_with, ascends_without, ascends_with}
 
 -- what is due at server j reads no more than this
@@ -150,7 +149,7 @@ waiting_with j i d new at (h ∷ hs) x =
     let r = waiting_with j i d new at hs x.1 in
     at_bool (λ b. (h.question.number == new.question.number) ≡ b → waiting j (cond b new h ∷ with_held new hs) ≡ waiting j (h ∷ hs)) (h.question.number == new.question.number)
     (λ _ e. waiting_cons j new (with_held new hs) ∙ ap (λ b. waits_first b (waiting j (with_held new hs))) (not_waiting j i d new at) ∙ r
-      ∙ sym (waiting_cons j h hs ∙ ap (λ b. waits_first b (waiting j hs)) (not_waiting j i d h (x.0 (eq_tells h.question.number new.question.number e)))))
+    ∙ sym (waiting_cons j h hs ∙ ap (λ b. waits_first b (waiting j hs)) (not_waiting j i d h (x.0 (eq_tells h.question.number new.question.number e)))))
     (λ _ _. waiting_cons j h (with_held new hs) ∙ ap (waits_first (waits j h)) r ∙ sym (waiting_cons j h hs)) refl
 
 -- a number is of one held request

@@ -1,5 +1,5 @@
 -- A node whose store works and holds its values takes each input.
-use Rattle.std.proofs.Common.{◌≡◌, ℕ, List, Option, Some, ap, arith, inl, inr, refl, sym, ◌⊎◌}
+use Rattle.std.proofs.Common.{◌≡◌, Option, Some, ap, arith, inl, inr, refl, sym, ◌⊎◌}
 use Rattle.raft_model.specs.Node.{Kept, Node, Store}
 use Rattle.raft_model.specs.Log.{Log}
 use Rattle.raft_model.specs.Rules.{Input, done}

@@ -1,21 +1,19 @@
 -- What holds in every cluster of a run.
-use Rattle.std.proofs.Common.{◌≡◌, ◌≢◌, ℕ, zero, suc, ◌+◌, ◌<◌, ◌≤◌, ◌⊎◌, inl, inr, Bool, true, false, cond, List, [], ◌∷◌, ◌++◌, length, take, get_or, replicate, refl, sym, ◌∙◌, ap, subst, arith, Option, Some, None}
+use Rattle.std.proofs.Common.{◌≡◌, ℕ, zero, suc, ◌+◌, inl, inr, Bool, true, false, cond, List, [], ◌∷◌, ◌++◌, length, get_or, replicate, refl, sym, ◌∙◌, ap, subst, arith}
 use Rattle.std.specs.Prelude.{◌==◌, nat_lt, nat_le, ◌&&◌}
 use Rattle.std.specs.List.{AllByRecursion as Each}
 use Rattle.std.proofs.lemmas.Bool.Decides.{nat_tests}
 use Rattle.std.proofs.lemmas.List.{length-replicate}
-use Rattle.cat_model.specs.declared.request.Asked.{Asked}
 use Rattle.cat_model.specs.declared.reply.Kind.{Kind}
 use Rattle.cat_model.specs.declared.reply.Mark.{Mark}
 use Rattle.cat_model.specs.declared.reply.Mark.TheVariants as mark
-use Rattle.raft_model.specs.Node.{Store}
-use Rattle.raft_model.specs.World.{World, IsReached, empty, again, AreEmpty, HoldAll, Begins}
+use Rattle.raft_model.specs.World.{World, IsReached, empty, again}
 use Rattle.raft_model.proofs.Tests.{at_bool, eq_tells}
 use Rattle.cluster_rules.specs.Replies.{Question, came, Out, number_of}
 use Rattle.cluster_rules.specs.Lasting.{Lasting}
 use Rattle.cluster_rules.specs.Cluster.{Server, Start, Cluster, no_server, node_of, server_of, started}
 use Rattle.cluster_rules.specs.Reached.{IsStart, Move, Reached, at_start, by_event, by_taking, by_handing, by_settling}
-use Rattle.cluster_rules.specs.Sound.{IsAmong, ServerIsSound, IsOpen, asked_in, entered_in, entries_before, IsFresh, IsFreshKind, RestsOn, AnswerIsSound, PastIsSound, OutIsSound, one_if, is_of, out_times, found, NoneLost, IsSoundAtWork, Sound}
+use Rattle.cluster_rules.specs.Sound.{IsAmong, ServerIsSound, entered_in, entries_before, IsFreshKind, RestsOn, PastIsSound, OutIsSound, one_if, is_of, out_times, IsSoundAtWork, Sound}
 use Rattle.cluster_rules.proofs.Counting.{outs_times}
 use Rattle.cluster_rules.proofs.Due.{was_numbered}
 use Rattle.cluster_rules.proofs.Grows.{goes_nowhere}

@@ -1,6 +1,6 @@
 -- The smallest run, computed step by step.
 use Rattle.std.proofs.Common.{arith, inr}
-use Rattle.std.specs.Prelude.{◌≡◌, ◌≢◌, ℕ, [], ◌∷◌, Some, None, refl, codes, false, true, length}
+use Rattle.std.specs.Prelude.{◌≢◌, [], None, refl, codes, false, true}
 use Rattle.cat_model.specs.Tables.{put}
 use Rattle.cat_model.specs.Same.{same_kv}
 use Rattle.cat_model.specs.Catalog.{same_catalog}
@@ -10,18 +10,17 @@ use Rattle.cat_model.specs.Queries.{reads, answer_from}
 use Rattle.cat_model.specs.Indexes.{some_vanishes, touches, past_index}
 use Rattle.cat_model.specs.Spelling.{number_within}
 use Rattle.cat_model.specs.declared.query.Query.TheVariants as query
-use Rattle.cat_model.specs.declared.command.Command.{Command}
 use Rattle.cat_model.specs.declared.request.Mode.TheVariants.{Default}
 use Rattle.cat_model.specs.declared.request.Event.TheVariants as event
 use Rattle.cat_model.specs.declared.reply.Kind.TheVariants.{Acked, At}
-use Rattle.raft_model.specs.Node.{Node, begun}
-use Rattle.raft_model.specs.Rules.{Timeout, Propose, Input, done, does, timed_out, candidate, leads, proposes}
+use Rattle.raft_model.specs.Node.{begun}
+use Rattle.raft_model.specs.Rules.{Timeout, Propose, done, does, timed_out, candidate, leads, proposes}
 use Rattle.raft_model.specs.Runs.{fresh, given, saved, empty_store}
-use Rattle.raft_model.specs.Step.{Works as StoreWorks, Forgets, NodeStep}
+use Rattle.raft_model.specs.Step.{Works as StoreWorks, Forgets}
 use Rattle.raft_model.specs.World.{World, Acts as NodeActs, nothing_kept}
 use Rattle.cluster_rules.specs.Replies.{Question, entered, shown}
 use Rattle.cluster_rules.specs.Cluster.{AtPlace, ForIndex, Proposed, Looked, Cluster, started, node_of}
-use Rattle.cluster_rules.specs.Due.{Replies, Applies, did, due, none, work, next_one, early}
+use Rattle.cluster_rules.specs.Due.{Replies, Applies, did, none, work, next_one, early}
 use Rattle.cluster_rules.specs.Requests.{holding, moved, proposes as proposes_it, reads as reads_it}
 use Rattle.cluster_rules.specs.Step.{marked, shelved, takes, handles, act as acts, over, done as whole_step, ClusterStep}
 use Rattle.cluster_rules.specs.Reached.{at_start, by_event}

@@ -1,5 +1,5 @@
 -- A step in which the store works leaves a running node running.
-use Rattle.std.proofs.Common.{ℕ, Bool, None, Some, [], ◌∷◌, arith, cond, false, length, max, min, refl, subst, sym, suc, true, ◌++◌, ◌+◌, ◌-◌, ◌≡◌}
+use Rattle.std.proofs.Common.{ℕ, Bool, None, Some, [], ◌∷◌, cond, false, length, max, min, refl, subst, sym, true, ◌++◌, ◌+◌, ◌-◌, ◌≡◌}
 use Rattle.raft_model.specs.Rules.{accepts, Beat, Input, Probe, Propose, Receive, Timeout, after_yes, agreed_to, append_all, appended, ask_all, beats, candidate, counted, declined, does, done, follows, has_room, is_refused, is_up_to_date, leading, leads, matches, may_vote, noop, noted, of_lower_term, of_own_term, offered, probes, proposal, proposes, received, risen, stands, term_of, timed_out, voted, with_commit, with_voter, asked}
 use Rattle.cat_model.specs.declared.command.Command.{Command}
 use Rattle.cat_model.specs.declared.command.Entry.{Entry}
@@ -9,13 +9,11 @@ use Rattle.raft_model.proofs.Rising.{after_yes_is}
 use Rattle.raft_model.proofs.Tests.{at_bool}
 use Rattle.raft_model.specs.Limits.{is_full}
 use Rattle.raft_model.specs.Log.{Log, accepted}
-use Rattle.raft_model.specs.Node.{Node, Store, begun, last, quiet, reply, set_server}
+use Rattle.raft_model.specs.Node.{Node, last, quiet, reply}
 use Rattle.raft_model.specs.Quorum.{is_majority, members}
 use Rattle.raft_model.specs.declared.message.Message.{Message}
 use Rattle.raft_model.specs.declared.message.Message.TheVariants.{Append, AskVote, No, Vote, Yes}
-use Rattle.raft_model.specs.declared.message.Sent.{Sent}
 use Rattle.std.specs.Prelude.{nat_le, nat_lt, ◌&&◌, ◌==◌, ◌^◌}
-
 
 abbrev pub IsUp : Node → Type 0
 IsUp n = n.halted ≡ false
@@ -129,4 +127,3 @@ does_up n Probe b = probes_up n n.role b
 pub done_up : (n : Node) (input : Input) → IsUp n → IsUp (done n input).node
 unfolding done
 done_up n input b = at_bool (λ c. IsUp (cond c (quiet n) (does n input)).node) n.halted (λ _. b) (λ _. does_up n input b)
-

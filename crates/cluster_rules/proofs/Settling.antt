@@ -1,5 +1,5 @@
 -- Pairs of a delivery and the message's loss are events of a run.
-use Rattle.std.proofs.Common.{◌≡◌, ℕ, zero, suc, ◌+◌, Bool, true, false, List, [], ◌∷◌, refl, subst, arith, Option, Some, None}
+use Rattle.std.proofs.Common.{◌≡◌, ℕ, suc, ◌+◌, Bool, true, false, List, ◌∷◌, refl, subst, arith}
 use Rattle.std.specs.Prelude.{◌&&◌}
 use Rattle.cat_model.specs.declared.request.Event.TheVariants as event
 use Rattle.cluster_rules.specs.Cluster.{Cluster}

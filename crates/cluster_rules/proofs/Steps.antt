@@ -1,7 +1,6 @@
 -- Each step of the cluster keeps it sound at work.
-use Rattle.std.proofs.Common.{◌≡◌, ◌≢◌, ℕ, zero, suc, ◌+◌, ◌<◌, ◌≤◌, ◌⊎◌, inl, inr, Bool, true, false, cond, List, [], ◌∷◌, ◌++◌, length, take, refl, sym, ◌∙◌, ap, subst, arith, Option, Some, None}
+use Rattle.std.proofs.Common.{◌≡◌, ℕ, suc, ◌<◌, ◌≤◌, inl, inr, Bool, cond, List, [], ◌∷◌, length, refl, sym, ◌∙◌, ap, subst, arith, Option, Some, None}
 use Rattle.std.specs.Prelude.{◌==◌, nat_lt}
-use Rattle.std.specs.List.{AllByRecursion as Each}
 use Rattle.std.proofs.lemmas.List.{take_all}
 use Rattle.cat_model.specs.declared.request.Asked.{Asked}
 use Rattle.cat_model.specs.declared.request.Draw.{Draw}
@@ -9,13 +8,12 @@ use Rattle.cat_model.specs.declared.request.Event.{Event}
 use Rattle.cat_model.specs.declared.request.Event.TheVariants as event
 use Rattle.cat_model.specs.declared.reply.Mark.{Mark}
 use Rattle.cat_model.specs.declared.reply.Mark.TheVariants as mark
-use Rattle.raft_model.specs.World.{World, WorldStep, Drops, Ticks, Arms, Restarts, step as world_step}
-use Rattle.raft_model.specs.Node.{Node}
-use Rattle.raft_model.proofs.Tests.{at_bool, eq_tells, lt_tells, lt_tells_not}
-use Rattle.cluster_rules.specs.Replies.{Question, came, Out}
+use Rattle.raft_model.specs.World.{World, Drops, Ticks, Arms, step as world_step}
+use Rattle.raft_model.proofs.Tests.{at_bool, eq_tells, lt_tells_not}
+use Rattle.cluster_rules.specs.Replies.{Question, came}
 use Rattle.cluster_rules.specs.Cluster.{Pending, Start, Cluster, node_of, applied_of}
-use Rattle.cluster_rules.specs.Due.{Work, Replies, Holds, Closes, Applies, or_work, first_work, early_work, late_work, next_work, due, did, IsDue, Works, none, work, IsMadeUp}
-use Rattle.cluster_rules.specs.Requests.{asked_server, moved, halted_now, refused}
+use Rattle.cluster_rules.specs.Due.{Work, Replies, Holds, Closes, Applies, or_work, first_work, early_work, next_work, due, did, Works, none, work}
+use Rattle.cluster_rules.specs.Requests.{asked_server, halted_now}
 use Rattle.cluster_rules.specs.Step.{events_in, Acts, takes, ticks, arms, restarts, handles, Does, over, act, cut, cut_between, Passes, loses, replies, noted, marked, shelved, ClusterStep, done, passed, cut_early}
 use Rattle.cluster_rules.specs.Sound.{IsAmong, IsOpen, asked_in, entered_in, entries_before, RestartedAt, StartIsSound, PendingIsSound, PastIsSound, OutIsSound, IsSoundAtWork}
 use Rattle.cluster_rules.proofs.Asking.{AskIsNew, works_new, now_refused}
@@ -23,7 +21,7 @@ use Rattle.cluster_rules.proofs.Boundary.{acts_rise, acts_greatest, input_is}
 use Rattle.cluster_rules.proofs.Due.{was_numbered, works_sound}
 use Rattle.cluster_rules.proofs.Grows.{goes_by, goes_nowhere}
 use Rattle.cluster_rules.proofs.Handling.{handles_sound, refused_sound}
-use Rattle.cluster_rules.proofs.Later.{Same, Later, pending_later, start_later, out_later, past_later, later_mark}
+use Rattle.cluster_rules.proofs.Later.{Later, pending_later, start_later, out_later, later_mark}
 use Rattle.cluster_rules.proofs.Moved.{plain_same, plain_made, turned, held_as_before, servers_go, moved_sound, ticks_rise, arms_rise, drops_rise, restart_sound}
 use Rattle.cluster_rules.proofs.Tools.{each_map, each_append, eq_self}
 

@@ -1,5 +1,5 @@
 -- A candidate's or leader's term is above 0.
-use Rattle.std.proofs.Common.{ℕ, Bool, None, Some, [], ◌∷◌, ap, List, arith, cond, false, inl, inr, length, max, min, refl, subst, sym, suc, zero, true, ◌++◌, ◌+◌, ◌-◌, ◌<◌, ◌≡◌, ◌≢◌, ◌⊎◌}
+use Rattle.std.proofs.Common.{ℕ, Bool, None, Some, [], ◌∷◌, List, arith, cond, false, inl, inr, length, max, min, refl, subst, sym, suc, zero, true, ◌++◌, ◌+◌, ◌-◌, ◌<◌, ◌≡◌, ◌⊎◌}
 use Rattle.raft_model.specs.Rules.{accepts, Beat, Input, Probe, Propose, Receive, Timeout, after_yes, agreed_to, append_all, appended, ask_all, beats, candidate, counted, declined, does, done, follows, has_room, is_refused, is_up_to_date, leading, leads, matches, may_vote, noop, noted, of_lower_term, of_own_term, offered, probes, proposal, proposes, received, risen, stands, term_of, timed_out, voted, with_commit, with_voter, asked}
 use Rattle.cat_model.specs.declared.command.Command.{Command}
 use Rattle.cat_model.specs.declared.command.Entry.{Entry}
@@ -9,10 +9,10 @@ use Rattle.raft_model.proofs.Rising.{after_yes_is}
 use Rattle.raft_model.proofs.Tests.{at_bool}
 use Rattle.raft_model.specs.Limits.{is_full}
 use Rattle.raft_model.specs.Log.{Log, accepted}
-use Rattle.raft_model.specs.Node.{Node, Store, begun, last, quiet, reply, set_server}
+use Rattle.raft_model.specs.Node.{Node, Store, last, quiet, reply}
 use Rattle.raft_model.specs.Quorum.{is_majority, members}
-use Rattle.raft_model.specs.Step.{Outcome, Works, VoteFails, LogFails, Forgets, NodeStep, RestartWorks, RestartFails, arms, Starts}
-use Rattle.raft_model.specs.World.{World, Move, WorldStep, Acts, TimesOut, Beats, Proposes, Probes, Delivers, Drops, Restarts, Ticks, Arms, IsReached, empty, again, step, IsServer, StartAll, Begins}
+use Rattle.raft_model.specs.Step.{Outcome, Works, VoteFails, LogFails, Forgets, NodeStep, RestartWorks, RestartFails, arms}
+use Rattle.raft_model.specs.World.{World, Move, WorldStep, Acts, TimesOut, Beats, Proposes, Probes, Delivers, Drops, Restarts, Ticks, Arms, IsReached, empty, again, step, StartAll}
 use Rattle.raft_model.specs.declared.message.Message.{Message}
 use Rattle.raft_model.specs.declared.message.Message.TheVariants.{Append, AskVote, No, Vote, Yes}
 use Rattle.raft_model.specs.declared.message.Sent.{Sent}

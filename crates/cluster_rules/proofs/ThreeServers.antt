@@ -1,18 +1,17 @@
 -- A run of three servers, computed step by step.
 use Rattle.std.proofs.Common.{arith}
-use Rattle.std.specs.Prelude.{◌≡◌, ◌≢◌, ℕ, [], ◌∷◌, Some, None, refl, codes, false, true, length}
+use Rattle.std.specs.Prelude.{◌≢◌, None, refl, true}
 use Rattle.cat_model.specs.declared.request.Event.TheVariants as event
 use Rattle.cat_model.specs.declared.reply.Refusal.TheVariants as refusal
 use Rattle.cat_model.specs.declared.reply.Role.TheVariants.{Follower}
 use Rattle.raft_model.specs.declared.message.Message.TheVariants.{AskVote, Vote}
-use Rattle.raft_model.specs.Node.{Node}
-use Rattle.raft_model.specs.Rules.{Timeout, Receive, Input, done, does, timed_out, candidate, received, of_own_term, of_lower_term, asked, voted, counted, leads}
-use Rattle.raft_model.specs.Runs.{fresh, given, saved, empty_store}
-use Rattle.raft_model.specs.Step.{Works as StoreWorks, Forgets, NodeStep}
+use Rattle.raft_model.specs.Rules.{Timeout, Receive, done, does, timed_out, candidate, received, of_own_term, asked, voted, counted, leads}
+use Rattle.raft_model.specs.Runs.{fresh, given, saved}
+use Rattle.raft_model.specs.Step.{Works as StoreWorks, Forgets}
 use Rattle.raft_model.specs.World.{World, Acts as NodeActs}
 use Rattle.cluster_rules.specs.Replies.{Question, shown}
 use Rattle.cluster_rules.specs.Cluster.{Cluster, started, node_of}
-use Rattle.cluster_rules.specs.Due.{did, none}
+use Rattle.cluster_rules.specs.Due.{none}
 use Rattle.cluster_rules.specs.Requests.{refused, moved, unready}
 use Rattle.cluster_rules.specs.Step.{marked, shelved, takes, handles, act as acts, over, done as whole_step, passed, replies, ClusterStep}
 use Rattle.cluster_rules.specs.Reached.{at_start, by_event}

@@ -1,12 +1,12 @@
 -- Lists by server, lists of which something holds, and what tests tell.
-use Rattle.std.proofs.Common.{◌≡◌, ◌≢◌, ℕ, zero, suc, ◌<◌, ◌≤◌, inl, inr, ◌⊎◌, Bool, true, false, cond, not, List, [], ◌∷◌, ◌++◌, length, take, get_or, set, refl, sym, ◌∙◌, ap, subst, arith, Option, Some, None}
+use Rattle.std.proofs.Common.{◌≡◌, ◌≢◌, ℕ, zero, suc, ◌<◌, ◌≤◌, inl, inr, ◌⊎◌, Bool, true, false, not, List, [], ◌∷◌, ◌++◌, length, get_or, set, refl, sym, ◌∙◌, ap, subst, arith}
 use Rattle.std.specs.Prelude.{◌==◌, nat_lt, nat_le, ◌&&◌, ◌||◌}
 use Rattle.std.specs.List.{AllByRecursion as Each}
 use Rattle.std.proofs.lemmas.Bool.Decides.{nat_tests}
 use Rattle.std.proofs.lemmas.List.{length-set}
 use Rattle.raft_model.specs.Node.{Node, set_server}
 use Rattle.raft_model.specs.World.{World, IsServer}
-use Rattle.raft_model.proofs.Tests.{at_bool, eq_tells}
+use Rattle.raft_model.proofs.Tests.{at_bool}
 use Rattle.cluster_rules.specs.Cluster.{item_of, no_node, node_of}
 use Rattle.cluster_rules.specs.Sound.{IsAmong}
 

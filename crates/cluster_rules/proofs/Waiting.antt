@@ -1,5 +1,5 @@
 -- Where nothing is due at a server, each request held there waits for what it must.
-use Rattle.std.proofs.Common.{◌≡◌, ℕ, suc, ◌<◌, ◌≤◌, Bool, true, false, cond, not, List, [], ◌∷◌, length, refl, sym, ◌∙◌, ap, subst, arith, Option, Some, None}
+use Rattle.std.proofs.Common.{◌≡◌, ℕ, ◌<◌, ◌≤◌, Bool, true, false, cond, not, List, [], ◌∷◌, length, refl, ◌∙◌, ap, subst, arith, Option, Some, None}
 use Rattle.std.specs.Prelude.{◌==◌, nat_lt, nat_le, ◌&&◌, ◌||◌}
 use Rattle.std.specs.List.{AllByRecursion as Each}
 use Rattle.std.proofs.lemmas.Bool.Decides.{nat_tests}
@@ -14,7 +14,7 @@ use Rattle.raft_model.specs.Rules.{is_confirmed}
 use Rattle.raft_model.proofs.Tests.{lt_tells_not}
 use Rattle.cluster_rules.specs.Lasting.{IsRead}
 use Rattle.cluster_rules.specs.Cluster.{Stand, AtPlace, InRound, ForIndex, Ended, Pending, Cluster, node_of, server_of, applied_of, clock_of}
-use Rattle.cluster_rules.specs.Due.{Work, or_work, first_work, was_seen, is_new, waiting, asks_read, early_stand, is_ended, early_work, late_stand, late_work, next_work, due}
+use Rattle.cluster_rules.specs.Due.{Work, first_work, waiting, asks_read, early_stand, is_ended, early_work, late_stand, late_work, next_work, due}
 use Rattle.cluster_rules.specs.Sound.{StandIsSound, PendingIsSound, Sound}
 use Rattle.cluster_rules.specs.Legal.{StillWaits}
 use Rattle.cluster_rules.proofs.Steps.{or_left, or_right}

@@ -1,26 +1,25 @@
 -- A run of whole events leaves no server behind.
-use Rattle.std.proofs.Common.{◌≡◌, ◌≢◌, ℕ, zero, suc, ◌+◌, ◌<◌, ◌≤◌, ◌⊎◌, inl, inr, Bool, true, false, cond, not, List, [], ◌∷◌, ◌++◌, length, map, filter, refl, sym, ◌∙◌, ap, subst, arith, Option, Some, None}
+use Rattle.std.proofs.Common.{◌≡◌, ◌≢◌, ℕ, zero, suc, ◌<◌, inl, inr, Bool, true, false, cond, List, [], ◌∷◌, ◌++◌, length, map, refl, sym, ◌∙◌, ap, subst, arith, Some, None}
 use Rattle.std.specs.Prelude.{◌==◌, ◌&&◌, nat_lt}
 use Rattle.std.specs.List.{AllByRecursion as Each}
 use Rattle.std.proofs.lemmas.Bool.Decides.{nat_tests}
 use Rattle.cat_model.specs.declared.request.Event.{Event}
 use Rattle.cat_model.specs.declared.request.Event.TheVariants as event
 use Rattle.cat_model.specs.declared.reply.Refusal.{Refusal}
-use Rattle.raft_model.specs.Log.{Log}
 use Rattle.raft_model.specs.Node.{Node, Store, of_server, set_server}
 use Rattle.raft_model.specs.Rules.{Input}
-use Rattle.raft_model.specs.World.{World, Acts as NodeActs, WorldStep, Restarts, Ticks, Arms, Drops, StartAll, Begins}
+use Rattle.raft_model.specs.World.{World, Acts as NodeActs, StartAll}
 use Rattle.raft_model.proofs.Tests.{at_bool, eq_tells}
-use Rattle.cluster_rules.specs.Replies.{Question, Out}
-use Rattle.cluster_rules.specs.Cluster.{Stand, Start, Ended, Pending, Cluster, no_server, no_node, node_of, server_of, applied_of, clock_of, started}
-use Rattle.cluster_rules.specs.Due.{Applies, or_work, due, waits, waiting, without, Works, IsMadeUp}
+use Rattle.cluster_rules.specs.Replies.{Question}
+use Rattle.cluster_rules.specs.Cluster.{Stand, Start, Ended, Pending, Cluster, no_server, no_node, node_of, applied_of, clock_of, started}
+use Rattle.cluster_rules.specs.Due.{Applies, or_work, due, waits, waiting}
 use Rattle.cluster_rules.specs.Requests.{moved_with, moved, halted_now, holding, refused, Handles, unready, full, proposes, stops, probes, reads}
-use Rattle.cluster_rules.specs.Step.{ended, begun_anew, Acts, takes, ticks, arms, restarts, handles, Does, over, act, cut, cut_between, Passes, loses, replies, noted, marked, shelved, ClusterStep, done, passed, cut_early}
+use Rattle.cluster_rules.specs.Step.{ended, Acts, takes, ticks, arms, restarts, handles, Does, over, act, cut, cut_between, Passes, loses, replies, marked, ClusterStep, done, passed, cut_early}
 use Rattle.cluster_rules.specs.Reached.{IsStart, Move, Reached, at_start, by_event, by_taking, by_handing, by_settling}
-use Rattle.cluster_rules.specs.Sound.{IsAmong, Ascends, IsSoundAtWork, Sound}
+use Rattle.cluster_rules.specs.Sound.{IsAmong, IsSoundAtWork, Sound}
 use Rattle.cluster_rules.proofs.Asking.{AskIsNew}
 use Rattle.cluster_rules.proofs.Others.{SameAt, same_on, same_due, works_other, waiting_without, all_there, not_waiting, waiting_cons, waits_first}
-use Rattle.cluster_rules.proofs.Reached.{run_sound, start_sound}
+use Rattle.cluster_rules.proofs.Reached.{run_sound}
 use Rattle.cluster_rules.proofs.Steps.{Facts, acts_sound, acts_first, all_applied, marked_sound, facts_marked, facts_worked}
 use Rattle.cluster_rules.proofs.Due.{works_sound}
 use Rattle.cluster_rules.proofs.Tools.{eq_tells_not, set_other, item_other, each_map, each_append}
@@ -92,7 +91,7 @@ waiting_ended j i n d (h ∷ hs) =
     let r = waiting_ended j i n d hs in
     at_bool (λ b. (h.server == i) ≡ b → waiting j (cond b (record h { stand = Ended n }) h ∷ map (ended i n) hs) ≡ waiting j (h ∷ hs)) (h.server == i)
     (λ _ e. waiting_cons j (record h { stand = Ended n }) (map (ended i n) hs) ∙ ap (λ b. waits_first b (waiting j (map (ended i n) hs))) (not_waiting j i d (record h { stand = Ended n }) (eq_tells h.server i e)) ∙ r
-      ∙ sym (waiting_cons j h hs ∙ ap (λ b. waits_first b (waiting j hs)) (not_waiting j i d h (eq_tells h.server i e))))
+    ∙ sym (waiting_cons j h hs ∙ ap (λ b. waits_first b (waiting j hs)) (not_waiting j i d h (eq_tells h.server i e))))
     (λ _ _. waiting_cons j h (map (ended i n) hs) ∙ ap (waits_first (waits j h)) r ∙ sym (waiting_cons j h hs)) refl
 
 ended_there : (j i n : ℕ) → j ≢ i → (all hs : List Pending) → Each (λ (g : Pending). g.server ≡ j → IsAmong g all) hs → Each (λ (g : Pending). g.server ≡ j → IsAmong g all) (map (ended i n) hs)

@@ -1,6 +1,6 @@
 -- What a work leaves sound.
-use Rattle.std.proofs.Common.{◌≡◌, ◌≢◌, ℕ, suc, ◌<◌, ◌≤◌, inl, inr, Bool, true, false, cond, not, List, [], ◌∷◌, ◌++◌, length, take, refl, sym, ◌∙◌, ap, subst, arith, Option, Some, None}
-use Rattle.std.specs.Prelude.{◌==◌, nat_lt}
+use Rattle.std.proofs.Common.{◌≡◌, ◌≢◌, ℕ, suc, ◌<◌, inl, inr, Bool, cond, not, List, [], ◌∷◌, ◌++◌, length, take, refl, sym, ◌∙◌, ap, subst, arith, Option, Some, None}
+use Rattle.std.specs.Prelude.{◌==◌}
 use Rattle.std.specs.List.{AllByRecursion as Each}
 use Rattle.std.proofs.lemmas.List.{take_all, take-append-le, length-append}
 use Rattle.cat_model.specs.declared.command.Entry.{Entry}
@@ -14,13 +14,13 @@ use Rattle.raft_model.proofs.Tests.{at_bool, eq_tells}
 use Rattle.raft_model.proofs.Theorems.{agrees}
 use Rattle.cluster_rules.specs.Replies.{Question, came, reply_of, Out, Replied, Closed, number_of}
 use Rattle.cluster_rules.specs.Lasting.{Lasting}
-use Rattle.cluster_rules.specs.Cluster.{Server, Pending, Start, Cluster, no_node, no_server, node_of, server_of, applied_of, clock_of}
+use Rattle.cluster_rules.specs.Cluster.{Server, Pending, Cluster, no_server, node_of, server_of, applied_of, clock_of}
 use Rattle.cluster_rules.specs.Due.{Work, Replies, Holds, Closes, Applies, without, with_held, put_out, is_before, answered, applies_entry, applies, did}
-use Rattle.cluster_rules.specs.Sound.{IsAmong, IsOpen, IsFreshKind, RestartedAt, WasAsked, RestsOn, StartIsSound, PendingIsSound, PastIsSound, OutIsSound, Ascends, ServerIsSound, IsSoundAtWork}
+use Rattle.cluster_rules.specs.Sound.{IsAmong, IsOpen, IsFreshKind, RestsOn, StartIsSound, PendingIsSound, OutIsSound, Ascends, ServerIsSound, IsSoundAtWork}
 use Rattle.cluster_rules.proofs.Tools.{eq_tells_not, at_item, length_set_server, there_or_none, each_map}
 use Rattle.cluster_rules.proofs.Entries.{agree_entry, take_next}
-use Rattle.cluster_rules.proofs.Grows.{lasting_grows, reply_same, goes_nowhere}
-use Rattle.cluster_rules.proofs.Later.{Same, Later, pending_later, start_later, out_later, past_later, same_past, later_nothing, later_mark}
+use Rattle.cluster_rules.proofs.Grows.{lasting_grows, reply_same}
+use Rattle.cluster_rules.proofs.Later.{Same, pending_later, start_later, out_later, same_past, later_nothing, later_mark}
 
 pub each_put : (P : Out → Type 0) (o : Out) (os : List Out) → P o → Each P os → Each P (put_out o os)
 each_put P o [] x xs = (x, xs)

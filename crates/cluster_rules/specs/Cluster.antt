@@ -1,14 +1,13 @@
 -- The cluster over plain values: its world, what each server has applied, the requests that it holds, and the marks.
-use Rattle.std.specs.Prelude.{◌≡◌, ℕ, zero, suc, ◌+◌, ◌-◌, nat_le, ◌==◌, ◌&&◌, ◌||◌, not, ◌⊎◌, Bool, true, false, List, [], ◌∷◌, length, get_or, replicate, is_some, if◌then◌else◌, Option, Some, None}
+use Rattle.std.specs.Prelude.{ℕ, zero, suc, ◌-◌, ◌&&◌, ◌||◌, not, Bool, false, List, [], length, get_or, replicate, is_some, if◌then◌else◌, Option, Some, None}
 use Rattle.cat_model.specs.declared.command.Entry.{Entry}
-use Rattle.cat_model.specs.declared.request.Mode.{Mode}
 use Rattle.cat_model.specs.declared.reply.Kind.{Kind}
 use Rattle.cat_model.specs.declared.reply.Kind.TheVariants.{At}
 use Rattle.cat_model.specs.declared.reply.Mark.{Mark}
 use Rattle.cat_model.specs.Role.{leads}
 use Rattle.raft_model.specs.declared.message.Round.{Round}
 use Rattle.raft_model.specs.Log.{Log}
-use Rattle.raft_model.specs.Node.{Node, Store, begun, of_server}
+use Rattle.raft_model.specs.Node.{Node, begun, of_server}
 use Rattle.raft_model.specs.World.{World, nothing_kept}
 use Rattle.cluster_rules.specs.Lasting.{is_stale}
 use Rattle.cluster_rules.specs.Replies.{Question, Out}

@@ -13,9 +13,8 @@ use Rattle.cat_model.specs.declared.reply.Mark.TheVariants as mark
 use Rattle.cat_model.specs.declared.reply.Refusal.TheVariants as refusal
 use Rattle.cat_model.specs.Indexes.{index_of}
 use Rattle.cat_model.specs.Log.{commands_of}
-use Rattle.raft_model.specs.declared.message.Round.{Round}
 use Rattle.raft_model.specs.Log.{Log, entry_at, term_at}
-use Rattle.raft_model.specs.Node.{Node, set_server}
+use Rattle.raft_model.specs.Node.{set_server}
 use Rattle.raft_model.specs.Rules.{is_confirmed}
 use Rattle.cluster_rules.specs.Replies.{Question, Out, Replied, Closed, number_of, reply_of}
 use Rattle.cluster_rules.specs.Cluster.{Server, Stand, AtPlace, InRound, ForIndex, Ended, Pending, Cluster, node_of, server_of, applied_of, clock_of, knows, contact_of}

@@ -1,10 +1,10 @@
 -- When a reply is legal in the cluster in which it is made, and what a held request waits for where nothing is due.
-use Rattle.std.specs.Prelude.{◌≡◌, ◌≢◌, ℕ, suc, ◌+◌, ◌<◌, ◌≤◌, ◌⊎◌, not, nat_le, ◌&&◌, Bool, true, false, length, Option, Some, None}
+use Rattle.std.specs.Prelude.{◌≡◌, ◌≢◌, ℕ, suc, ◌<◌, ◌≤◌, nat_le, ◌&&◌, Bool, true, false, length, Option, Some, None}
 use Rattle.cat_model.specs.declared.command.Command.{Command}
 use Rattle.cat_model.specs.declared.request.Asked.{Asked}
 use Rattle.cat_model.specs.declared.request.Asked.TheVariants.{Good}
 use Rattle.cat_model.specs.declared.request.Event.{Event}
-use Rattle.cat_model.specs.declared.request.Request.TheVariants.{Read, Write}
+use Rattle.cat_model.specs.declared.request.Request.TheVariants.{Write}
 use Rattle.cat_model.specs.declared.reply.Kind.{Kind}
 use Rattle.cat_model.specs.declared.reply.Kind.TheVariants.{Acked, At, Refused}
 use Rattle.cat_model.specs.declared.reply.Refusal.{Refusal}

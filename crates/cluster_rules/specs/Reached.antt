@@ -1,7 +1,5 @@
 -- Runs of a cluster: which events fit, how it starts, and what is done to it.
-use Rattle.std.specs.Prelude.{◌≡◌, ℕ, zero, suc, ◌+◌, ◌^◌, ◌<◌, ◌≤◌, ◌&&◌, ◌⊎◌, Bool, true, false, List, [], ◌∷◌, ◌++◌, length, Option, Some, None, min}
-use Rattle.cat_model.specs.declared.request.Asked.{Asked}
-use Rattle.cat_model.specs.declared.request.Draw.{Draw}
+use Rattle.std.specs.Prelude.{◌≡◌, ℕ, zero, suc, ◌+◌, ◌^◌, ◌<◌, ◌≤◌, ◌&&◌, ◌⊎◌, Bool, true, false, List, [], ◌∷◌, ◌++◌, length, Option, Some, None}
 use Rattle.cat_model.specs.declared.request.Event.{Event}
 use Rattle.cat_model.specs.declared.request.Event.TheVariants as event
 use Rattle.cat_model.specs.declared.reply.Mark.{Mark}

@@ -1,6 +1,6 @@
 -- Requests with their numbers, and what a reply shows. The cluster knows no JSON: a reply's status, body and form are
 -- a function of its content (Consul, HTTP API, version 1).
-use Rattle.std.specs.Prelude.{ℕ, ◌+◌, ◌-◌, ◌/◌, ◌%◌, nat_lt, if◌then◌else◌, Bool, true, false, List, [], ◌∷◌, ◌++◌, take, Option, Some, None, codes}
+use Rattle.std.specs.Prelude.{ℕ, ◌+◌, ◌-◌, ◌/◌, ◌%◌, nat_lt, if◌then◌else◌, Bool, true, List, [], ◌∷◌, ◌++◌, take, Option, Some, None, codes}
 use Rattle.cat_model.specs.declared.query.Query.{Query}
 use Rattle.cat_model.specs.declared.query.Answer.{Answer}
 use Rattle.cat_model.specs.declared.command.Command.{Command}

@@ -8,21 +8,17 @@ use Rattle.cat_model.specs.declared.command.Command.TheVariants.{KvLock, Txn}
 use Rattle.cat_model.specs.declared.command.TxnOp.{TxnOp}
 use Rattle.cat_model.specs.declared.command.Verb.{Verb}
 use Rattle.cat_model.specs.declared.command.Verb.TheVariants.{Lock}
-use Rattle.cat_model.specs.declared.command.Entry.{Entry}
 use Rattle.cat_model.specs.declared.request.Mode.{Mode}
 use Rattle.cat_model.specs.declared.request.Mode.TheVariants.{Consistent}
-use Rattle.cat_model.specs.declared.request.Request.{Request}
 use Rattle.cat_model.specs.declared.request.Request.TheVariants.{Read, Write}
 use Rattle.cat_model.specs.declared.request.Asked.{Asked}
 use Rattle.cat_model.specs.declared.request.Asked.TheVariants.{Good, Bad}
-use Rattle.cat_model.specs.declared.reply.Kind.{Kind}
 use Rattle.cat_model.specs.declared.reply.Kind.TheVariants.{Refused}
 use Rattle.cat_model.specs.declared.reply.Mark.{Mark}
 use Rattle.cat_model.specs.declared.reply.Mark.TheVariants as mark
 use Rattle.cat_model.specs.declared.reply.Refusal.{Refusal}
 use Rattle.cat_model.specs.declared.reply.Refusal.TheVariants as refusal
 use Rattle.cat_model.specs.LogLimits.{log_bytes}
-use Rattle.cat_model.specs.Role.{leads}
 use Rattle.raft_model.specs.Facts.{next_round}
 use Rattle.raft_model.specs.Log.{Log, last_term}
 use Rattle.raft_model.specs.Node.{Node}
@@ -30,7 +26,7 @@ use Rattle.raft_model.specs.Rules.{Propose, Probe, has_room, proposal}
 use Rattle.raft_model.specs.World.{World, Acts as NodeActs}
 use Rattle.cluster_rules.specs.Replies.{Question, entered}
 use Rattle.cluster_rules.specs.Lasting.{is_stale}
-use Rattle.cluster_rules.specs.Cluster.{Stand, AtPlace, InRound, ForIndex, Pending, Start, Proposed, Probed, Looked, Cluster, node_of, applied_of, clock_of, runs_leading}
+use Rattle.cluster_rules.specs.Cluster.{Stand, AtPlace, InRound, ForIndex, Start, Proposed, Probed, Looked, Cluster, node_of, applied_of, clock_of, runs_leading}
 use Rattle.cluster_rules.specs.Due.{answered}
 
 -- Where a request goes: it is answered at once, or a server handles it.

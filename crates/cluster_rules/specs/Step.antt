@@ -14,10 +14,9 @@ use Rattle.cat_model.specs.declared.reply.Refusal.{Refusal}
 use Rattle.cat_model.specs.Log.{commands_of}
 use Rattle.raft_model.specs.Node.{set_server}
 use Rattle.raft_model.specs.Rules.{Input, Timeout, Beat, Receive}
-use Rattle.raft_model.specs.Step.{Outcome, Forgets}
+use Rattle.raft_model.specs.Step.{Forgets}
 use Rattle.raft_model.specs.World.{World, Packet, WorldStep, numbered, Acts as NodeActs}
 use Rattle.raft_model.specs.World as world
-use Rattle.cluster_rules.specs.Replies.{Question, came}
 use Rattle.cluster_rules.specs.Cluster.{Ended, Pending, Cluster, no_server, node_of, applied_of, runs_leading}
 use Rattle.cluster_rules.specs.Due.{Work, did, due, IsDue, Works, IsMadeUp}
 use Rattle.cluster_rules.specs.Requests.{Way, Answers, Goes, way, asked_server, moved_with, moved, refused, Handles}

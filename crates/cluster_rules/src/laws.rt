@@ -13,10 +13,11 @@ ghost use Rattle.cat_model.specs.declared.reply.Kind.TheVariants.{Acked, At, Ref
 ghost use Rattle.cat_model.specs.declared.reply.Mark.TheVariants.{Answered};
 ghost use Rattle.cat_model.specs.declared.reply.Refusal.TheVariants.{Lost};
 ghost use Rattle.cat_model.specs.declared.reply.Role.TheVariants.{Follower};
+ghost use Rattle.raft_model.specs.Runs.{fresh};
 ghost use Rattle.raft_model.specs.World.{World, IsReached, Reaches};
 ghost use Rattle.cluster_rules.specs.Replies.{Question, came, entered};
 ghost use Rattle.cluster_rules.specs.Lasting.{IsWrite, IsEntered, Lasting};
-ghost use Rattle.cluster_rules.specs.Cluster.{Cluster, Pending, applied_of, node_of, server_of};
+ghost use Rattle.cluster_rules.specs.Cluster.{Cluster, Pending, applied_of, node_of, server_of, started};
 ghost use Rattle.cluster_rules.specs.Due.{IsDue, Work, did, due};
 ghost use Rattle.cluster_rules.specs.Left.{left};
 ghost use Rattle.cluster_rules.specs.Legal.{StepIsLegal, StillWaits};
@@ -29,6 +30,11 @@ ghost use Rattle.cluster_rules.specs.Sound.{Ascends, IsAmong, LookedBefore, Neve
 #[tactic(auto, using(crate::proofs::Keeping::step_keeps))]
 pub fn steps_keep_sound()
     ensures { (c c' : Cluster) (made : Event) (whole : Bool) → ClusterStep c made c' whole → Sound c → Sound c' }
+{}
+
+/// Servers with empty stores are a start.
+pub fn fresh_servers_start()
+    ensures { (servers agents : ℕ) → 0 < servers → servers ≤ 7 → agents ≤ 64 → IsStart (started (fresh servers) agents) }
 {}
 
 /// Each cluster of a run is sound.
