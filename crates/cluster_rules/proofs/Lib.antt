@@ -28,3 +28,5 @@ pub mod Halts
 pub mod Settling
 pub mod ThreeServers
 pub mod Starting
+pub mod Once
+pub mod Wrong

@@ -80,6 +80,12 @@ abbrev pub RestartedAt : ℕ → ℕ → List Mark → Type 0
 RestartedAt number s [] = ⊥
 RestartedAt number s (m ∷ past) = ((m ≡ mark.Made (event.Restart s)) × (number ≡ events_in (m ∷ past))) ⊎ RestartedAt number s past
 
+-- how often a request was answered
+abbrev pub answers_in : ℕ → List Mark → ℕ
+answers_in k [] = 0
+answers_in k (mark.Answered number kind known contact ∷ past) = (if number == k then 1 else 0) + answers_in k past
+answers_in k (other ∷ past) = answers_in k past
+
 -- how often server i's durable store failed, by the marks
 abbrev pub halts_in : ℕ → List Mark → ℕ
 halts_in i [] = 0

@@ -1,18 +1,23 @@
 //! Laws of the definitions, each the contract of a function with an empty body. They hold whatever is lost, repeated,
 //! reordered, restarted or cut short for want of memory, and whichever store calls fail.
 
-ghost use Rattle.std.specs.Prelude.{Bool, List, None, length, take, min, false, true, ℕ, ◌+◌, ◌-◌, ◌^◌, ◌≡◌, ◌<◌, ◌≤◌, ◌⊎◌};
+ghost use Rattle.std.specs.Prelude.{Bool, List, None, length, take, min, false, true, ℕ, ◌+◌, ◌-◌, ◌^◌, ◌≡◌, ◌≢◌, ◌<◌, ◌≤◌, ◌⊎◌};
 ghost use Rattle.std.specs.List.{AllByRecursion as Each};
 ghost use Rattle.cat_model.specs.declared.command.Command.{Command};
+ghost use Rattle.cat_model.specs.declared.query.Query.{Query};
+ghost use Rattle.cat_model.specs.declared.request.Mode.{Mode};
 ghost use Rattle.cat_model.specs.declared.request.Mode.TheVariants.{Default, Consistent};
-ghost use Rattle.cat_model.specs.declared.request.Request.TheVariants.{Write};
-ghost use Rattle.cat_model.specs.declared.request.Asked.TheVariants.{Good};
+ghost use Rattle.cat_model.specs.declared.request.Request.{Request};
+ghost use Rattle.cat_model.specs.declared.request.Request.TheVariants.{Read, Write};
+ghost use Rattle.cat_model.specs.declared.request.Asked.TheVariants.{Bad, Good};
 ghost use Rattle.cat_model.specs.declared.request.Event.{Event};
 ghost use Rattle.cat_model.specs.declared.reply.Kind.{Kind};
 ghost use Rattle.cat_model.specs.declared.reply.Kind.TheVariants.{Acked, At, Refused};
 ghost use Rattle.cat_model.specs.declared.reply.Mark.TheVariants.{Answered};
-ghost use Rattle.cat_model.specs.declared.reply.Refusal.TheVariants.{Lost};
+ghost use Rattle.cat_model.specs.declared.reply.Refusal.TheVariants.{Invalid, LogFull, Lost, TooMany};
 ghost use Rattle.cat_model.specs.declared.reply.Role.TheVariants.{Follower};
+ghost use Rattle.cat_model.specs.declared.reply.Refusal.{Refusal};
+ghost use Rattle.raft_model.specs.Log.{Log};
 ghost use Rattle.raft_model.specs.Runs.{fresh};
 ghost use Rattle.raft_model.specs.World.{World, IsReached, Reaches};
 ghost use Rattle.cluster_rules.specs.Replies.{Question, came, entered};
@@ -24,7 +29,7 @@ ghost use Rattle.cluster_rules.specs.Legal.{StepIsLegal, StillWaits};
 ghost use Rattle.cluster_rules.specs.Step.{ClusterStep};
 ghost use Rattle.cluster_rules.specs.Reached.{EndInPairs, IsStart, Move, Reached, Settling, moves_of};
 ghost use Rattle.cluster_rules.specs.Runs.{NotReadyRun, PutAndGet};
-ghost use Rattle.cluster_rules.specs.Sound.{Ascends, IsAmong, LookedBefore, NeverEnters, Sound, entered_in, entries_before, found, halts_in};
+ghost use Rattle.cluster_rules.specs.Sound.{answers_in, Ascends, IsAmong, LookedBefore, NeverEnters, Sound, entered_in, entries_before, found, halts_in};
 
 /// Each step, whole or cut short, keeps a cluster sound.
 #[tactic(auto, using(crate::proofs::Keeping::step_keeps))]
@@ -87,6 +92,23 @@ pub fn replies_are_legal()
 pub fn none_is_lost()
     ensures once { (c : Cluster) → Sound c → (k : ℕ) → 0 < k → k ≤ c.asked → found k c ≡ 1 }
     ensures none { (c : Cluster) → Sound c → (k : ℕ) → c.asked < k → found k c ≡ 0 }
+{}
+
+/// A request is answered at most once, and not while it is held.
+pub fn requests_are_answered_once()
+    ensures once { (c : Cluster) → Sound c → (k : ℕ) → answers_in k c.past ≤ 1 }
+    ensures held { (c : Cluster) → Sound c → Each (λ (h : Pending). answers_in h.question.number c.past ≡ 0) c.held }
+{}
+
+/// A request that is one is never refused as if it were none, and one that is none gets just the refusal that it came
+/// with. Leadership is lost by writes and consistent reads alone, only reads find too many waiting, and only writes find
+/// the log full.
+pub fn refusals_fit_their_requests()
+    ensures good { (q : Question) (request : Request) (field : List ℕ) (log : Log) → q.asked ≡ Good request → Lasting q (Refused (Invalid field)) log → ⊥ }
+    ensures bad { (q : Question) (why other : Refusal) (log : Log) → q.asked ≡ Bad why → Lasting q (Refused other) log → other ≡ why }
+    ensures lost { (q : Question) (query : Query) (mode : Mode) (least wait : ℕ) (raw : Bool) (old found : ℕ) (log : Log) → mode ≢ Consistent → q.asked ≡ Good (Read query mode least wait raw) → Lasting q (Refused (Lost old found)) log → ⊥ }
+    ensures crowded { (q : Question) (command : Command) (n : ℕ) (log : Log) → q.asked ≡ Good (Write command) → Lasting q (Refused (TooMany n)) log → ⊥ }
+    ensures full { (q : Question) (query : Query) (mode : Mode) (least wait : ℕ) (raw : Bool) (entries bytes : ℕ) (log : Log) → q.asked ≡ Good (Read query mode least wait raw) → Lasting q (Refused (LogFull entries bytes)) log → ⊥ }
 {}
 
 /// Where nothing is due at a running server, each request held there waits for what it must: its position is not
