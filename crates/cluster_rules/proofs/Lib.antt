@@ -30,3 +30,4 @@ pub mod ThreeServers
 pub mod Starting
 pub mod Once
 pub mod Wrong
+pub mod FullWait

@@ -70,3 +70,38 @@ pub record NotReadyRun : Type 0 where
   pub reached : Reached (started (fresh 3) 1) true not_ready cluster
   pub outs : cluster.tray ≡ refused_out 1 (refusal.NoLeader 0 Follower None) ∷ refused_out 2 (refusal.NotReady 1 0) ∷ []
   pub agreed : cluster.world.agreed ≡ []
+
+-- One server and a read that waits: it is answered unchanged once its full wait is over, though another key is set
+-- meanwhile.
+abbrev pub wait_a : Asked
+wait_a = Good (Read (query.Key (codes "a")) Default 1 10000 false)
+
+abbrev pub set_b : Command
+set_b = KvSet (codes "b") 0 (codes "x")
+
+abbrev pub put_b : Asked
+put_b = Good (Write set_b)
+
+abbrev pub full_wait : List Move
+full_wait =
+    Makes (event.Tick 1 1) ∷ Makes (event.Tick 1 9999) ∷ Makes (event.Ask 1 put_b drawn) ∷ Makes (event.Ask 1 wait_a drawn)
+    ∷ Makes (event.Timeout 1) ∷ []
+
+abbrev pub full_wait_outs : List Out
+full_wait_outs =
+    Replied (record { number = 2; index = None; content = Tells set_b applied.Yes; known = false; contact = 0; kind = Acked 2 })
+    ∷ Replied (record {
+      number = 1;
+      index = Some 1;
+      content = Shows (query.Key (codes "a")) false answer.Absent;
+      known = true;
+      contact = 0;
+      kind = At Default 2 1 10000 10000;
+    })
+    ∷ []
+
+pub record FullWaitRun : Type 0 where
+  pub cluster : Cluster
+  pub reached : Reached (started (fresh 1) 1) true full_wait cluster
+  pub outs : cluster.tray ≡ full_wait_outs
+  pub none_held : cluster.held ≡ []

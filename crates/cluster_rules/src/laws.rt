@@ -28,7 +28,7 @@ ghost use Rattle.cluster_rules.specs.Left.{left};
 ghost use Rattle.cluster_rules.specs.Legal.{StepIsLegal, StillWaits};
 ghost use Rattle.cluster_rules.specs.Step.{ClusterStep};
 ghost use Rattle.cluster_rules.specs.Reached.{EndInPairs, IsStart, Move, Reached, Settling, moves_of};
-ghost use Rattle.cluster_rules.specs.Runs.{NotReadyRun, PutAndGet};
+ghost use Rattle.cluster_rules.specs.Runs.{FullWaitRun, NotReadyRun, PutAndGet};
 ghost use Rattle.cluster_rules.specs.Sound.{answers_in, Ascends, IsAmong, LookedBefore, NeverEnters, Sound, entered_in, entries_before, found, halts_in};
 
 /// Each step, whole or cut short, keeps a cluster sound.
@@ -177,4 +177,10 @@ pub fn smallest_run()
 #[tactic(auto, using(crate::proofs::ThreeServers::not_ready_run))]
 pub fn no_leader_then_not_ready()
     ensures { NotReadyRun }
+{}
+
+/// A read that waits is answered unchanged once its full wait is over.
+#[tactic(auto, using(crate::proofs::FullWait::full_wait_run))]
+pub fn unchanged_after_the_full_wait()
+    ensures { FullWaitRun }
 {}
