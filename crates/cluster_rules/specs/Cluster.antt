@@ -38,6 +38,7 @@ pub data Start : Type 0 where
   Probed : (number server : ℕ) (round : Round) → Start
   Looked : (number server applied : ℕ) → Start
 
+-- the cluster
 pub record Cluster : Type 0 where
   pub world : World
   pub servers : List Server
@@ -49,6 +50,7 @@ pub record Cluster : Type 0 where
   pub tray : List Out
   pub past : List Mark  -- the last one first
 
+-- what stands for a server that is not there
 abbrev pub no_node : Node
 no_node = begun 0 0 (record { contents = None; armed = 0; faults = 0 }) nothing_kept
 
@@ -60,15 +62,19 @@ abbrev pub item_of : {A : Type 0} → A → List A → ℕ → A
 item_of none items zero = none
 item_of none items (suc i) = get_or items i none
 
+-- server i's node
 abbrev pub node_of : World → ℕ → Node
 node_of w i = item_of no_node w.nodes i
 
+-- what server i has applied, with its clocks
 abbrev pub server_of : List Server → ℕ → Server
 server_of servers i = item_of no_server servers i
 
+-- what server i has applied
 abbrev pub applied_of : Cluster → ℕ → Log
 applied_of c i = (server_of c.servers i).applied
 
+-- server i's clock, in milliseconds
 abbrev pub clock_of : World → ℕ → ℕ
 clock_of w i = of_server w.clocks i
 
@@ -76,12 +82,14 @@ clock_of w i = of_server w.clocks i
 abbrev pub runs_leading : World → ℕ → Bool
 runs_leading w i = not (node_of w i).halted && leads (node_of w i).role
 
+-- Consul, "Consistency Modes": the headers KnownLeader and LastContact.
 -- A default or consistent answer knows a leader, and a stale one where its server leads or holds one for leader. No
 -- other reply speaks of it.
 abbrev pub knows : World → ℕ → Kind → Bool
 knows w i (At mode prefix index clock deadline) = not (is_stale mode) || leads (node_of w i).role || is_some (node_of w i).leader
 knows w i other = false
 
+-- the time since then, and 0 where there was nothing
 abbrev pub since : Option ℕ → ℕ → ℕ
 since None now = 0
 since (Some last) now = now - last

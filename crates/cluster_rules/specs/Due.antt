@@ -1,5 +1,7 @@
 -- What is due at a server, and what doing it does to the cluster. A server is behind exactly where something is due
--- there; making up is doing it.
+-- there; making up is doing it. (Consul, "Blocking Queries": an answer comes with an index above the one given, or once
+-- the wait is over. Extended Raft paper, figure 2, "All Servers": entries are applied up to the commit; its section on
+-- read-only operations for rounds.)
 use Rattle.std.specs.Prelude.{◌≡◌, ℕ, suc, ◌==◌, nat_le, nat_lt, not, ◌&&◌, ◌||◌, Bool, true, false, List, [], ◌∷◌, ◌++◌, length, map, filter, if◌then◌else◌, Option, Some, None}
 use Rattle.cat_model.specs.declared.query.Query.{Query}
 use Rattle.cat_model.specs.declared.command.Entry.{Entry}
@@ -26,10 +28,12 @@ pub data Work : Type 0 where
   Closes : (number event : ℕ) → Work
   Applies : Work
 
+-- the first of two works that is there
 abbrev pub or_work : Option Work → Option Work → Option Work
 or_work None other = other
 or_work (Some work) other = Some work
 
+-- the first work of a list of held requests
 abbrev pub first_work : (Pending → Option Work) → List Pending → Option Work
 first_work f [] = None
 first_work f (h ∷ hs) = or_work (f h) (first_work f hs)
@@ -38,10 +42,12 @@ first_work f (h ∷ hs) = or_work (f h) (first_work f hs)
 abbrev pub landed : ℕ → ℕ → Log → Kind
 landed index term applied = if term_at index applied == term then Acked index else Refused (refusal.Lost term (term_at index applied))
 
+-- the query was looked for at just so many positions
 abbrev pub was_seen : Option ℕ → ℕ → Bool
 was_seen None n = false
 was_seen (Some m) n = m == n
 
+-- it was not looked for yet
 abbrev pub is_new : Option ℕ → Bool
 is_new None = true
 is_new (Some n) = false
@@ -51,9 +57,11 @@ abbrev pub has_looked : Stand → Bool
 has_looked (ForIndex deadline seen) = not (is_new seen)
 has_looked other = false
 
+-- a request that waits at server i for an index
 abbrev pub waits : ℕ → Pending → Bool
 waits i h = h.server == i && has_looked h.stand
 
+-- how many do
 abbrev pub waiting : ℕ → List Pending → ℕ
 waiting i held = length (filter (waits i) held)
 
@@ -67,6 +75,7 @@ asks h others clock applied deadline seen query mode least =
     else if is_new seen && nat_le 4096 others then Some (Replies h.question (Refused (refusal.TooMany others)))
     else Some (Holds (record h { stand = ForIndex deadline (Some (length applied)) }))
 
+-- a held read; no other request waits for an index
 abbrev pub asks_read : Pending → ℕ → ℕ → Log → ℕ → Option ℕ → Asked → Option Work
 asks_read h others clock applied deadline seen (Good (Read query mode least wait raw)) = asks h others clock applied deadline seen query mode least
 asks_read h others clock applied deadline seen other = None
@@ -80,10 +89,12 @@ early_stand c i h (InRound round deadline) =
     if nat_lt round.term (node_of c.world i).term then Some (Replies h.question (Refused (refusal.Lost round.term (node_of c.world i).term))) else None
 early_stand c i h (ForIndex deadline seen) = asks_read h (waiting i c.held) (clock_of c.world i) (applied_of c i) deadline seen h.question.asked
 
+-- it is to be closed
 abbrev pub is_ended : Stand → Bool
 is_ended (Ended event) = true
 is_ended other = false
 
+-- A halted server answers all that it holds, but for what is to be closed.
 abbrev pub early_work : Cluster → ℕ → Pending → Option Work
 early_work c i h =
     if h.server == i
@@ -100,18 +111,23 @@ late_stand c i h (InRound round deadline) =
     else None
 late_stand c i h other = None
 
+-- the same of a held request of server i
 abbrev pub late_work : Cluster → ℕ → Pending → Option Work
 late_work c i h = if h.server == i then late_stand c i h h.stand else None
 
+-- the next position, where more is committed than applied
 abbrev pub next_work : Cluster → ℕ → Option Work
 next_work c i = if nat_lt (length (applied_of c i)) (node_of c.world i).commit then Some Applies else None
 
+-- what is due at server i: the first early work, else the next position, else the first confirmed round
 abbrev pub due : ℕ → Cluster → Option Work
 due i c = or_work (first_work (early_work c i) c.held) (or_work (next_work c i) (first_work (late_work c i) c.held))
 
+-- the held requests of other numbers
 abbrev pub without : ℕ → List Pending → List Pending
 without number held = filter (λ h. not (h.question.number == number)) held
 
+-- with this one in place of the one of its number
 abbrev pub with_held : Pending → List Pending → List Pending
 with_held new held = map (λ h. if h.question.number == new.question.number then new else h) held
 
@@ -121,6 +137,7 @@ is_before None other = false
 is_before (Some a) None = true
 is_before (Some a) (Some b) = nat_lt a b
 
+-- an out in its place among those of the event
 abbrev pub put_out : Out → List Out → List Out
 put_out out [] = out ∷ []
 put_out out (o ∷ outs) = if is_before (number_of out) (number_of o) then out ∷ o ∷ outs else o ∷ put_out out outs
@@ -134,10 +151,12 @@ answered q kind known contact log c =
       past = mark.Answered q.number kind known contact ∷ c.past;
     }
 
+-- a server with one more entry, applied at this time of its clock
 abbrev pub applies_entry : ℕ → Server → Option Entry → Server
 applies_entry clock s None = s
 applies_entry clock s (Some e) = record s { applied = s.applied ++ e ∷ []; clocks = s.clocks ++ clock ∷ [] }
 
+-- server i applies its next position
 abbrev pub applies : ℕ → Cluster → Cluster
 applies i c =
     record c {

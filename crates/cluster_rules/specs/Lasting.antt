@@ -49,6 +49,7 @@ abbrev pub NoneLeads : Option leader.Held → Type 0
 NoneLeads None = Unit {0}
 NoneLeads (Some held) = leads held.role ≡ false
 
+-- the read is by the asked server as it stands
 abbrev pub is_stale : Mode → Bool
 is_stale Default = false
 is_stale Consistent = false
@@ -93,5 +94,6 @@ LastsFor q asked (At by prefix index clock deadline) log =
 LastsFor q asked (Refused why) log = IsRefused asked why
 LastsFor q asked other log = ⊥
 
+-- what a reply of this kind says of a log
 abbrev pub Lasting : Question → Kind → Log → Type 0
 Lasting q kind log = LastsFor q q.asked kind log

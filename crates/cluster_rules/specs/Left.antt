@@ -3,15 +3,18 @@ use Rattle.std.specs.Prelude.{ℕ, ◌+◌, ◌*◌, ◌-◌, ◌==◌, if◌the
 use Rattle.cluster_rules.specs.Cluster.{Stand, AtPlace, InRound, ForIndex, Ended, Pending, Cluster, node_of, applied_of}
 use Rattle.cluster_rules.specs.Due.{was_seen}
 
+-- how many things may be done for a request before more is applied
 abbrev pub stand_weight : ℕ → Stand → ℕ
 stand_weight len (Ended event) = 1
 stand_weight len (AtPlace index term) = 1
 stand_weight len (InRound round deadline) = 3
 stand_weight len (ForIndex deadline seen) = if was_seen seen len then 1 else 2
 
+-- and for one of another server
 abbrev pub weight : ℕ → ℕ → Pending → ℕ
 weight i len h = if h.server == i then stand_weight len h.stand else 3
 
+-- for all that are held
 abbrev pub total : ℕ → ℕ → List Pending → ℕ
 total i len [] = 0
 total i len (h ∷ hs) = weight i len h + total i len hs

@@ -63,6 +63,7 @@ pub record IsLegal (c : Cluster) (i : ℕ) (q : Question) (kind : Kind) (known :
   pub known_is : known ≡ knows c.world i kind
   pub contact_is : contact ≡ contact_of c.world i kind
 
+-- a work at server i is legal: an answer, a closing of a request whose server restarted, or a position that is committed
 abbrev pub WorkIsLegal : Cluster → ℕ → Work → Type 0
 WorkIsLegal c i (Replies q kind) = IsLegal c i q kind (knows c.world i kind) (contact_of c.world i kind)
 WorkIsLegal c i (Holds h) = Unit {0}
@@ -94,6 +95,7 @@ HandleIsLegal c i q c' (stops command w' ask free go room a down e) = IsLegal (m
 HandleIsLegal c i q c' (probes query least wait raw w' ask go a e) = Unit {0}
 HandleIsLegal c i q c' (reads query mode least wait raw ask d go e) = Unit {0}
 
+-- only a request is answered in an act
 abbrev pub ActIsLegal : (n : ℕ) (c : Cluster) (i : ℕ) (made : Event) (c' : Cluster) → Acts n c i made c' → Type 0
 ActIsLegal n c i made c' (takes input w' z is a e) = Unit {0}
 ActIsLegal n c i made c' (ticks ms w' z is calm st e) = Unit {0}
@@ -101,12 +103,14 @@ ActIsLegal n c i made c' (arms nth w' z is st e) = Unit {0}
 ActIsLegal n c i made c' (restarts w' z is st e) = Unit {0}
 ActIsLegal n c i made c' (handles agent asked draw z is goes h) = HandleIsLegal c i (record { number = c.asked; agent = agent; asked = asked; draw = draw }) c' h
 
+-- the acts of an event, and what is made up for between them
 abbrev pub DoesLegally : (i : ℕ) (made : Event) (n : ℕ) (c c' : Cluster) (whole : Bool) → Does i made n c c' whole → Type 0
 DoesLegally i made n c c' whole (over e) = Unit {0}
 DoesLegally i made n c c' whole (act c₁ c₂ a r m more) = ActIsLegal n c i made c₁ a × AllLegal i c₁ c₂ m.0 × DoesLegally i made (suc n) c₂ c' whole more
 DoesLegally i made n c c' whole (cut c₁ a m short) = ActIsLegal n c i made c₁ a × AllLegal i c₁ c' m
 DoesLegally i made n c c' whole (cut_between l k) = Unit {0}
 
+-- a request that is answered at once
 abbrev pub PassIsLegal : (c : Cluster) (made : Event) (c' : Cluster) → Passes c made c' → Type 0
 PassIsLegal c made c' (loses k w' is st e) = Unit {0}
 PassIsLegal c made c' (replies agent asked draw why is goes e) =

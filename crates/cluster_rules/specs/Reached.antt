@@ -10,12 +10,15 @@ use Rattle.cluster_rules.specs.Replies.{Out, number_of}
 use Rattle.cluster_rules.specs.Cluster.{Cluster, clock_of, started}
 use Rattle.cluster_rules.specs.Step.{ClusterStep}
 
+-- servers are numbered from 1
 abbrev pub IsServerNumber : Cluster → ℕ → Type 0
 IsServerNumber c s = (0 < s) × (s ≤ length c.servers)
 
+-- and so are agents
 abbrev pub IsAgentNumber : Cluster → ℕ → Type 0
 IsAgentNumber c agent = (0 < agent) × (agent ≤ c.agents)
 
+-- a message of this number is on its way
 abbrev pub IsUnderWay : Cluster → ℕ → Type 0
 IsUnderWay c k = (p : Packet) × (numbered k c.world.bag.packets ≡ Some p)
 
@@ -68,6 +71,7 @@ abbrev pub EndInCutPairs : ℕ → List Move → Type 0
 EndInCutPairs n (Makes (event.Deliver k) ∷ moves) = EndInPairs n moves
 EndInCutPairs n moves = EndInPairs n moves
 
+-- the moves end in the pairs that were made, where memory sufficed or not
 abbrev pub Settled : ℕ → Bool → List Move → Type 0
 Settled pairs true moves = EndInPairs pairs moves
 Settled pairs false moves = EndInCutPairs pairs moves

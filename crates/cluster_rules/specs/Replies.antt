@@ -37,6 +37,7 @@ came q = mark.Asked q.number q.agent q.asked q.draw
 abbrev pub digits : ℕ → List ℕ
 digits n = if nat_lt n 10 then (48 + n) ∷ [] else (48 + n / 10) ∷ (48 + n % 10) ∷ []
 
+-- the name of an agent's node
 abbrev pub agent_node : ℕ → List ℕ
 agent_node agent = codes "agent-" ++ digits agent
 
@@ -62,10 +63,12 @@ shown_write q (Good (Write command)) position log =
     Tells (entered q command) (reply_to (commands_of (take (position - 1) log)) (entered q command))
 shown_write q other position log = Blank
 
+-- a read shows the catalog at its prefix
 abbrev pub shown_read : Asked → ℕ → List Entry → Content
 shown_read (Good (Read query mode least wait raw)) prefix log = Shows query raw (answer query (catalog_at (commands_of (take prefix log))))
 shown_read other prefix log = Blank
 
+-- what a reply of this kind shows over a log
 unfoldable pub shown : Question → Kind → List Entry → Content
 shown q (Acked position) log = shown_write q q.asked position log
 shown q (At mode prefix index clock deadline) log = shown_read q.asked prefix log
@@ -77,6 +80,7 @@ abbrev pub index_shown : Kind → Option ℕ
 index_shown (At mode prefix index clock deadline) = Some index
 index_shown other = None
 
+-- a reply as the cluster makes it
 pub record Reply : Type 0 where
   pub number : ℕ
   pub index : Option ℕ

@@ -1,4 +1,6 @@
--- The way of a request, and its part at the server to which it went. Requests of agents, executions and renewals are
+-- The way of a request, and its part at the server to which it went (Consul, "Consistency Modes": default and
+-- consistent requests go to the leader, stale ones are answered by any server; "Blocking Queries": a wait is five
+-- minutes where none is given, and ten at most). Requests of agents, executions and renewals are
 -- cases to be added, as are writes that lock keys, which a lock delay may refuse: they have no way or no act yet.
 use Rattle.std.specs.Prelude.{◌≡◌, ◌≢◌, ℕ, suc, ◌+◌, ◌-◌, ◌%◌, ◌==◌, nat_lt, min, not, ◌&&◌, ◌||◌, ◌⊎◌, Bool, true, false, List, [], ◌∷◌, ◌++◌, length, drop, if◌then◌else◌, Option, Some, None}
 use Rattle.std.specs.List.{list_any}
@@ -48,6 +50,7 @@ way_of w a stale =
     else if stale || runs_leading w a then Goes a
     else to_leader w a (node_of w a).leader
 
+-- the way of a request from the asked server
 abbrev pub way : World → ℕ → Asked → Option Way
 way w a (Bad why) = Some (Answers why)
 way w a (Good (Read query mode least wait raw)) = Some (way_of w a (is_stale mode))
@@ -62,6 +65,7 @@ asked_server servers agent = (agent - 1) % servers + 1
 abbrev pub is_ready : Cluster → ℕ → Bool
 is_ready c i = not (nat_lt (last_term (applied_of c i)) (node_of c.world i).term)
 
+-- it is a stale read
 abbrev pub is_stale_read : Asked → Bool
 is_stale_read (Good (Read query mode least wait raw)) = is_stale mode
 is_stale_read other = false
@@ -106,6 +110,7 @@ moved_with failed i w' c = record c { world = w'; past = entries_past (joined c.
 abbrev pub halted_now : World → World → ℕ → Bool
 halted_now w w' i = not (node_of w i).halted && (node_of w' i).halted
 
+-- the cluster after a step of server i's node
 abbrev pub moved : ℕ → World → Cluster → Cluster
 moved i w' c = moved_with (halted_now c.world w' i) i w' c
 

@@ -20,12 +20,14 @@ use Rattle.cluster_rules.specs.Replies.{Out, Replied, Shows, Tells, Says}
 use Rattle.cluster_rules.specs.Cluster.{Cluster, started}
 use Rattle.cluster_rules.specs.Reached.{Move, Makes, Reached}
 
+-- the words that are drawn for each request here
 abbrev pub drawn : Draw
 drawn = record { hi = 0; lo = 0 }
 
 abbrev pub set_a : Command
 set_a = KvSet (codes "a") 0 (codes "hello")
 
+-- the requests of the run
 abbrev pub put_a : Asked
 put_a = Good (Write set_a)
 
@@ -50,6 +52,7 @@ put_and_get_outs =
     })
     ∷ []
 
+-- the run, and what it gives
 pub record PutAndGet : Type 0 where
   pub cluster : Cluster
   pub reached : Reached (started (fresh 1) 1) true put_and_get cluster
@@ -62,9 +65,11 @@ pub record PutAndGet : Type 0 where
 abbrev pub not_ready : List Move
 not_ready = Makes (event.Ask 1 get_a drawn) ∷ Makes (event.Deliver 3) ∷ Makes (event.Deliver 1) ∷ Makes (event.Timeout 1) ∷ Makes (event.Ask 1 get_a drawn) ∷ []
 
+-- the reply that refuses a request
 abbrev pub refused_out : ℕ → Refusal → Out
 refused_out number why = Replied (record { number = number; index = None; content = Says why; known = false; contact = 0; kind = Refused why })
 
+-- the run, and what it gives
 pub record NotReadyRun : Type 0 where
   pub cluster : Cluster
   pub reached : Reached (started (fresh 3) 1) true not_ready cluster
@@ -79,14 +84,17 @@ wait_a = Good (Read (query.Key (codes "a")) Default 1 10000 false)
 abbrev pub set_b : Command
 set_b = KvSet (codes "b") 0 (codes "x")
 
+-- the write of another key
 abbrev pub put_b : Asked
 put_b = Good (Write set_b)
 
+-- the events, the last one first
 abbrev pub full_wait : List Move
 full_wait =
     Makes (event.Tick 1 1) ∷ Makes (event.Tick 1 9999) ∷ Makes (event.Ask 1 put_b drawn) ∷ Makes (event.Ask 1 wait_a drawn)
     ∷ Makes (event.Timeout 1) ∷ []
 
+-- the replies, the second request first
 abbrev pub full_wait_outs : List Out
 full_wait_outs =
     Replied (record { number = 2; index = None; content = Tells set_b applied.Yes; known = false; contact = 0; kind = Acked 2 })
@@ -100,6 +108,7 @@ full_wait_outs =
     })
     ∷ []
 
+-- the run, and what it gives
 pub record FullWaitRun : Type 0 where
   pub cluster : Cluster
   pub reached : Reached (started (fresh 1) 1) true full_wait cluster

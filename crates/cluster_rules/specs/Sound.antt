@@ -47,6 +47,7 @@ pub record ServerIsSound (agreed : Log) (commit : ℕ) (s : Server) : Type 0 whe
   pub within : length s.applied ≤ commit
   pub clocks : length s.clocks ≡ length s.applied
 
+-- all servers
 pub record ServersAreSound (w : World) (servers : List Server) : Type 0 where
   pub count : length servers ≡ length w.nodes
   pub each : (i : ℕ) → ServerIsSound w.agreed (node_of w i).commit (server_of servers i)
@@ -58,6 +59,7 @@ IsOpen number [] = Unit {0}
 IsOpen number (mark.Answered k kind known contact ∷ past) = (k ≢ number) × IsOpen number past
 IsOpen number (other ∷ past) = IsOpen number past
 
+-- how many requests were asked
 abbrev pub asked_in : List Mark → ℕ
 asked_in [] = 0
 asked_in (mark.Asked number agent asked draw ∷ past) = suc (asked_in past)
@@ -97,11 +99,13 @@ halts_in i (other ∷ past) = halts_in i past
 abbrev pub LookedBefore : ℕ → List Start → ℕ → Type 0
 LookedBefore number starts prefix = (server : ℕ) × (applied : ℕ) × IsAmong (Looked number server applied) starts × (applied ≤ prefix)
 
+-- of a read of each mode
 abbrev pub IsFresh : Mode → ℕ → List Mark → List Start → ℕ → Type 0
 IsFresh Default number past starts prefix = LookedBefore number starts prefix
 IsFresh Consistent number past starts prefix = entries_before number past ≤ prefix
 IsFresh Stale number past starts prefix = LookedBefore number starts prefix
 
+-- of an answer; only reads have a prefix
 abbrev pub IsFreshKind : Kind → ℕ → List Mark → List Start → Type 0
 IsFreshKind (Acked position) number past starts = Unit {0}
 IsFreshKind (At mode prefix index clock deadline) number past starts = IsFresh mode number past starts prefix
@@ -118,6 +122,7 @@ WasProposed past e = (q : Question) × IsAmong (came q) past × (q.number ≡ e.
 abbrev pub WasAsked : List Mark → ℕ → Type 0
 WasAsked past number = (q : Question) × IsAmong (came q) past × (q.number ≡ number)
 
+-- a proposal has its place, a probe's round shows what was agreed before its request was asked
 abbrev pub StartIsSound : World → List Mark → Start → Type 0
 StartIsSound w past (Proposed index entry) = (0 < index) × IsPlaced w index entry × WasProposed past entry
 StartIsSound w past (Probed number server round) = IsFreshRound w (entries_before number past) round × WasAsked past number
@@ -128,6 +133,7 @@ abbrev pub WasBelow : Query → ℕ → Option ℕ → Log → Type 0
 WasBelow query least None applied = Unit {0}
 WasBelow query least (Some n) applied = (n ≤ length applied) × (index_of query (commands_of (take n applied)) ≤ least)
 
+-- what a held request waits for is so, by what its server has applied
 abbrev pub StandIsSound : Log → List Mark → List Start → ℕ → Question → Stand → Type 0
 StandIsSound applied past starts server q (AtPlace index term) =
     IsWrite q.asked (λ command. IsAmong (Proposed index (record { term = term; number = q.number; command = entered q command })) starts)
@@ -137,6 +143,7 @@ StandIsSound applied past starts server q (ForIndex deadline seen) =
     IsRead q.asked (λ query mode least. IsFresh mode q.number past starts (length applied) × WasBelow query least seen applied)
 StandIsSound applied past starts server q (Ended number) = RestartedAt number server past
 
+-- a held request
 pub record PendingIsSound (servers : List Server) (past : List Mark) (starts : List Start) (h : Pending) : Type 0 where
   pub asked : IsAmong (came h.question) past
   pub open_ : IsOpen h.question.number past
@@ -158,6 +165,7 @@ LostFor w starts q (Good (Read query mode least wait raw)) old found =
     (server : ℕ) × (round : Round) × IsAmong (Probed q.number server round) starts × (round.term ≡ old)
 LostFor w starts q other old found = Unit {0}
 
+-- what an answer rests on beside the agreed log
 abbrev pub RestsOn : World → List Start → Question → Kind → Type 0
 RestsOn w starts q (Acked position) = (e : Entry) × IsAmong (Proposed position e) starts × (e.number ≡ q.number)
 RestsOn w starts q (Refused (refusal.Lost old found)) = LostFor w starts q q.asked old found
@@ -189,6 +197,7 @@ pub record ReplyIsSound (w : World) (past : List Mark) (r : Reply) : Type 0 wher
   pub is : r ≡ reply_of question r.kind r.known r.contact w.agreed
   pub lasts : Lasting question r.kind w.agreed
 
+-- an out that nobody has taken
 abbrev pub OutIsSound : World → List Mark → Out → Type 0
 OutIsSound w past (Replied r) = ReplyIsSound w past r
 OutIsSound w past (Closed number event) = WasAsked past number × ((server : ℕ) × RestartedAt event server past)
@@ -217,23 +226,28 @@ pub record IsSoundAtWork (c : Cluster) : Type 0 where
 abbrev pub one_if : Bool → ℕ
 one_if b = if b then 1 else 0
 
+-- it is of request k
 abbrev pub is_of : ℕ → Option ℕ → Bool
 is_of k None = false
 is_of k (Some number) = number == k
 
+-- how often request k is held
 abbrev pub held_times : ℕ → List Pending → ℕ
 held_times k [] = 0
 held_times k (h ∷ hs) = one_if (h.question.number == k) + held_times k hs
 
+-- how often it has an out here
 abbrev pub out_times : ℕ → List Out → ℕ
 out_times k [] = 0
 out_times k (o ∷ os) = one_if (is_of k (number_of o)) + out_times k os
 
+-- how often its out was taken
 abbrev pub taken_times : ℕ → List Mark → ℕ
 taken_times k [] = 0
 taken_times k (mark.Taken number ∷ past) = one_if (number == k) + taken_times k past
 taken_times k (other ∷ past) = taken_times k past
 
+-- in how many places it is
 abbrev pub found : ℕ → Cluster → ℕ
 found k c = held_times k c.held + out_times k c.fresh + out_times k c.tray + taken_times k c.past
 

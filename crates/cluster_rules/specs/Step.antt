@@ -32,6 +32,7 @@ events_in (other ∷ past) = events_in past
 abbrev pub ended : ℕ → ℕ → Pending → Pending
 ended i event h = if h.server == i then record h { stand = Ended event } else h
 
+-- server i begins anew, in the event that was marked last
 abbrev pub begun_anew : ℕ → Cluster → Cluster
 begun_anew i c = record c { servers = set_server c.servers i no_server; held = map (ended i (events_in c.past)) c.held }
 
@@ -40,6 +41,7 @@ abbrev pub received : ℕ → Option Packet → Option Input
 received i None = None
 received i (Some p) = if p.to == i then Some (Receive p.from p.message) else None
 
+-- the input that an event gives node i, if it gives one
 abbrev pub input_of : World → ℕ → Event → Option Input
 input_of w i (event.Timeout s) = if s == i then Some Timeout else None
 input_of w i (event.Beat s) = if s == i then Some Beat else None
@@ -96,6 +98,7 @@ goes None = None
 goes (Some (Answers why)) = None
 goes (Some (Goes i)) = Some i
 
+-- the server to which a message goes
 abbrev pub receiver : Option Packet → Option ℕ
 receiver None = None
 receiver (Some p) = Some p.to
