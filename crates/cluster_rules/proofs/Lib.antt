@@ -31,3 +31,4 @@ pub mod Starting
 pub mod Once
 pub mod Wrong
 pub mod FullWait
+pub mod LostWrite

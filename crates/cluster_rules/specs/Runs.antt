@@ -15,6 +15,7 @@ use Rattle.cat_model.specs.declared.reply.Kind.TheVariants.{Acked, At, Refused}
 use Rattle.cat_model.specs.declared.reply.Refusal.{Refusal}
 use Rattle.cat_model.specs.declared.reply.Refusal.TheVariants as refusal
 use Rattle.cat_model.specs.declared.reply.Role.TheVariants.{Follower}
+use Rattle.raft_model.specs.Rules.{noop}
 use Rattle.raft_model.specs.Runs.{fresh}
 use Rattle.cluster_rules.specs.Replies.{Out, Replied, Shows, Tells, Says}
 use Rattle.cluster_rules.specs.Cluster.{Cluster, started}
@@ -114,3 +115,16 @@ pub record FullWaitRun : Type 0 where
   pub reached : Reached (started (fresh 1) 1) true full_wait cluster
   pub outs : cluster.tray ≡ full_wait_outs
   pub none_held : cluster.held ≡ []
+
+-- Three servers and a lost write: the first is elected and has its Noop agreed; it takes a write; the second is elected
+-- by the third, and has its own Noop agreed at the write's position.
+abbrev pub lost_write : List Move
+lost_write =
+    Makes (event.Deliver 17) ∷ Makes (event.Deliver 16) ∷ Makes (event.Deliver 14) ∷ Makes (event.Deliver 13) ∷ Makes (event.Deliver 12) ∷ Makes (event.Timeout 2) ∷ Makes (event.Ask 1 put_a drawn) ∷ Makes (event.Deliver 6) ∷ Makes (event.Deliver 4) ∷ Makes (event.Deliver 3) ∷ Makes (event.Deliver 1) ∷ Makes (event.Timeout 1) ∷ []
+
+-- the run, and what it gives
+pub record LostWriteRun : Type 0 where
+  pub cluster : Cluster
+  pub reached : Reached (started (fresh 3) 1) true lost_write cluster
+  pub outs : cluster.tray ≡ refused_out 1 (refusal.Lost 1 2) ∷ []
+  pub agreed : cluster.world.agreed ≡ noop 1 ∷ noop 2 ∷ []

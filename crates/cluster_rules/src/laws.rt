@@ -28,7 +28,7 @@ ghost use Rattle.cluster_rules.specs.Left.{left};
 ghost use Rattle.cluster_rules.specs.Legal.{StepIsLegal, StillWaits};
 ghost use Rattle.cluster_rules.specs.Step.{ClusterStep};
 ghost use Rattle.cluster_rules.specs.Reached.{EndInPairs, IsStart, Move, Reached, Settling, moves_of};
-ghost use Rattle.cluster_rules.specs.Runs.{FullWaitRun, NotReadyRun, PutAndGet};
+ghost use Rattle.cluster_rules.specs.Runs.{FullWaitRun, LostWriteRun, NotReadyRun, PutAndGet};
 ghost use Rattle.cluster_rules.specs.Sound.{answers_in, Ascends, IsAmong, LookedBefore, NeverEnters, Sound, entered_in, entries_before, found, halts_in};
 
 /// Each step, whole or cut short, keeps a cluster sound.
@@ -183,4 +183,10 @@ pub fn no_leader_then_not_ready()
 #[tactic(auto, using(crate::proofs::FullWait::full_wait_run))]
 pub fn unchanged_after_the_full_wait()
     ensures { FullWaitRun }
+{}
+
+/// Three servers: a write is answered that its leadership was lost, since another leader's entry stands at its place.
+#[tactic(auto, using(crate::proofs::LostWrite::lost_write_run))]
+pub fn a_write_is_lost()
+    ensures { LostWriteRun }
 {}
