@@ -1,13 +1,12 @@
 -- A write whose leadership is lost, in a run of three servers, computed step by step: the second server is elected
 -- before the first one's entry reaches another.
 use Rattle.std.proofs.Common.{arith, inr}
-use Rattle.std.specs.Prelude.{ℕ, ◌≡◌, ◌≢◌, ◌∷◌, [], None, Some, refl, codes, false, true}
+use Rattle.std.specs.Prelude.{◌≢◌, ◌∷◌, [], refl, true}
 use Rattle.cat_model.specs.Spelling.{number_within}
 use Rattle.cat_model.specs.declared.request.Event.TheVariants as event
 use Rattle.cat_model.specs.declared.reply.Kind.TheVariants.{Refused}
 use Rattle.cat_model.specs.declared.reply.Refusal.TheVariants as refusal
 use Rattle.raft_model.specs.declared.message.Message.TheVariants.{AskVote, Vote, Append, Yes}
-use Rattle.raft_model.specs.Node.{Node}
 use Rattle.raft_model.specs.Rules.{Timeout, Receive, Propose, noop, done, does, timed_out, candidate, received, of_own_term, of_lower_term, asked, voted, counted, leads, offered, accepts, agreed_to, after_yes, proposes}
 use Rattle.raft_model.specs.Runs.{fresh, given, saved}
 use Rattle.raft_model.specs.Step.{Works as StoreWorks, Forgets}

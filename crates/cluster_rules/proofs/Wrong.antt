@@ -1,5 +1,5 @@
 -- Answers that do not last, whatever the log.
-use Rattle.std.proofs.Common.{◌≡◌, ◌≢◌, ℕ, ◌≤◌, Bool, List, refl, subst}
+use Rattle.std.proofs.Common.{◌≡◌, ◌≢◌, ℕ, Bool, List, refl, subst}
 use Rattle.cat_model.specs.declared.command.Command.{Command}
 use Rattle.cat_model.specs.declared.query.Query.{Query}
 use Rattle.cat_model.specs.declared.request.Mode.{Mode}
