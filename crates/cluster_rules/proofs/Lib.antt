@@ -32,3 +32,4 @@ pub mod Once
 pub mod Wrong
 pub mod FullWait
 pub mod LostWrite
+pub mod StoreFails

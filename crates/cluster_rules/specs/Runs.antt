@@ -18,8 +18,9 @@ use Rattle.cat_model.specs.declared.reply.Role.TheVariants.{Follower}
 use Rattle.raft_model.specs.Rules.{noop}
 use Rattle.raft_model.specs.Runs.{fresh}
 use Rattle.cluster_rules.specs.Replies.{Out, Replied, Shows, Tells, Says}
-use Rattle.cluster_rules.specs.Cluster.{Cluster, started}
+use Rattle.cluster_rules.specs.Cluster.{Cluster, node_of, started}
 use Rattle.cluster_rules.specs.Reached.{Move, Makes, Reached}
+use Rattle.cluster_rules.specs.Sound.{halts_in}
 
 -- the words that are drawn for each request here
 abbrev pub drawn : Draw
@@ -128,3 +129,19 @@ pub record LostWriteRun : Type 0 where
   pub reached : Reached (started (fresh 3) 1) true lost_write cluster
   pub outs : cluster.tray ≡ refused_out 1 (refusal.Lost 1 2) ∷ []
   pub agreed : cluster.world.agreed ≡ noop 1 ∷ noop 2 ∷ []
+
+-- One server whose durable store fails at a write: it halts and refuses all that it holds and all that comes, until it
+-- restarts.
+abbrev pub store_fails : List Move
+store_fails =
+    Makes (event.Restart 1) ∷ Makes (event.Ask 1 get_a drawn) ∷ Makes (event.Ask 1 put_a drawn) ∷ Makes (event.FailKeep 1 1)
+    ∷ Makes (event.Ask 1 wait_a drawn) ∷ Makes (event.Timeout 1) ∷ []
+
+-- the run, and what it gives
+pub record StoreFailsRun : Type 0 where
+  pub cluster : Cluster
+  pub reached : Reached (started (fresh 1) 1) true store_fails cluster
+  pub outs : cluster.tray ≡ refused_out 1 (refusal.Halted 1) ∷ refused_out 2 (refusal.Halted 1) ∷ refused_out 3 (refusal.Halted 1) ∷ []
+  pub halts : halts_in 1 cluster.past ≡ 1
+  pub runs : (node_of cluster.world 1).halted ≡ false
+  pub none_held : cluster.held ≡ []

@@ -28,7 +28,7 @@ ghost use Rattle.cluster_rules.specs.Left.{left};
 ghost use Rattle.cluster_rules.specs.Legal.{StepIsLegal, StillWaits};
 ghost use Rattle.cluster_rules.specs.Step.{ClusterStep};
 ghost use Rattle.cluster_rules.specs.Reached.{EndInPairs, IsStart, Move, Reached, Settling, moves_of};
-ghost use Rattle.cluster_rules.specs.Runs.{FullWaitRun, LostWriteRun, NotReadyRun, PutAndGet};
+ghost use Rattle.cluster_rules.specs.Runs.{FullWaitRun, LostWriteRun, NotReadyRun, PutAndGet, StoreFailsRun};
 ghost use Rattle.cluster_rules.specs.Sound.{answers_in, Ascends, IsAmong, LookedBefore, NeverEnters, Sound, entered_in, entries_before, found, halts_in};
 
 /// Each step, whole or cut short, keeps a cluster sound.
@@ -189,4 +189,10 @@ pub fn unchanged_after_the_full_wait()
 #[tactic(auto, using(crate::proofs::LostWrite::lost_write_run))]
 pub fn a_write_is_lost()
     ensures { LostWriteRun }
+{}
+
+/// A server whose durable store fails at a write refuses what it holds and what comes, until it restarts.
+#[tactic(auto, using(crate::proofs::StoreFails::store_fails_run))]
+pub fn a_failed_store_halts()
+    ensures { StoreFailsRun }
 {}
