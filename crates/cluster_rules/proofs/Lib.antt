@@ -33,3 +33,4 @@ pub mod Wrong
 pub mod FullWait
 pub mod LostWrite
 pub mod StoreFails
+pub mod ConsistentRead

@@ -1,6 +1,6 @@
 -- A server whose durable store fails, computed step by step.
 use Rattle.std.proofs.Common.{arith, inl, inr, ap, ◌≡◌}
-use Rattle.std.specs.Prelude.{length, zero, suc, ℕ, Option, ◌≢◌, ◌∷◌, [], None, Some, refl, codes, false, true}
+use Rattle.std.specs.Prelude.{length, zero, suc, ℕ, Option, ◌≢◌, [], None, Some, refl, codes, false, true}
 use Rattle.cat_model.specs.Tables.{put}
 use Rattle.cat_model.specs.Same.{same_kv}
 use Rattle.cat_model.specs.Catalog.{same_catalog}
@@ -14,13 +14,13 @@ use Rattle.cat_model.specs.declared.request.Mode.TheVariants.{Default}
 use Rattle.cat_model.specs.declared.request.Event.TheVariants as event
 use Rattle.cat_model.specs.declared.reply.Kind.TheVariants.{Refused}
 use Rattle.cat_model.specs.declared.reply.Refusal.TheVariants as refusal
-use Rattle.raft_model.specs.Node.{Node, Store, Kept, begun, set_server}
+use Rattle.raft_model.specs.Node.{Store, Kept, begun, set_server}
 use Rattle.raft_model.specs.Rules.{Timeout, Propose, done, does, timed_out, candidate, leads, proposes}
 use Rattle.raft_model.specs.Runs.{fresh, given, saved, empty_store}
 use Rattle.raft_model.specs.Step.{Works as StoreWorks, LogFails, Forgets, halts, arms as arms_node, restarted}
 use Rattle.raft_model.specs.World.{World, Acts as NodeActs, after, nothing_kept}
 use Rattle.cluster_rules.specs.Replies.{Question, entered, shown}
-use Rattle.cluster_rules.specs.Cluster.{Pending, AtPlace, ForIndex, Proposed, Looked, Cluster, started, node_of}
+use Rattle.cluster_rules.specs.Cluster.{Pending, ForIndex, Looked, Cluster, started, node_of}
 use Rattle.cluster_rules.specs.Due.{Replies, Holds, Applies, did, none, work, next_one, early}
 use Rattle.cluster_rules.specs.Requests.{holding, moved, moved_with, refused, stops, reads as reads_it}
 use Rattle.cluster_rules.specs.Step.{marked, shelved, takes, arms, restarts, handles, act as acts, over, done as whole_step, passed, replies, begun_anew, ClusterStep}

@@ -5,7 +5,7 @@ use Rattle.cat_model.specs.declared.query.Answer.TheVariants as answer
 use Rattle.cat_model.specs.declared.command.Command.{Command}
 use Rattle.cat_model.specs.declared.command.Command.TheVariants.{KvSet}
 use Rattle.cat_model.specs.declared.applied.Applied.TheVariants as applied
-use Rattle.cat_model.specs.declared.request.Mode.TheVariants.{Default}
+use Rattle.cat_model.specs.declared.request.Mode.TheVariants.{Default, Consistent}
 use Rattle.cat_model.specs.declared.request.Request.TheVariants.{Read, Write}
 use Rattle.cat_model.specs.declared.request.Asked.{Asked}
 use Rattle.cat_model.specs.declared.request.Asked.TheVariants.{Good}
@@ -18,7 +18,7 @@ use Rattle.cat_model.specs.declared.reply.Role.TheVariants.{Follower}
 use Rattle.raft_model.specs.Rules.{noop}
 use Rattle.raft_model.specs.Runs.{fresh}
 use Rattle.cluster_rules.specs.Replies.{Out, Replied, Shows, Tells, Says}
-use Rattle.cluster_rules.specs.Cluster.{Cluster, node_of, started}
+use Rattle.cluster_rules.specs.Cluster.{Cluster, Probed, node_of, started}
 use Rattle.cluster_rules.specs.Reached.{Move, Makes, Reached}
 use Rattle.cluster_rules.specs.Sound.{halts_in}
 
@@ -145,3 +145,21 @@ pub record StoreFailsRun : Type 0 where
   pub halts : halts_in 1 cluster.past ≡ 1
   pub runs : (node_of cluster.world 1).halted ≡ false
   pub none_held : cluster.held ≡ []
+
+-- One server and a consistent read: its round is confirmed by the server alone.
+abbrev pub sure_a : Asked
+sure_a = Good (Read (query.Key (codes "a")) Consistent 0 0 false)
+
+-- the run, and what it gives
+pub record ConsistentRun : Type 0 where
+  pub cluster : Cluster
+  pub reached : Reached (started (fresh 1) 1) true (Makes (event.Ask 1 sure_a drawn) ∷ Makes (event.Timeout 1) ∷ []) cluster
+  pub outs : cluster.tray ≡ Replied (record {
+    number = 1;
+    index = Some 1;
+    content = Shows (query.Key (codes "a")) false answer.Absent;
+    known = true;
+    contact = 0;
+    kind = At Consistent 1 1 0 300000;
+  }) ∷ []
+  pub probed : cluster.starts ≡ Probed 1 1 (record { term = 1; number = 1; commit = 1 }) ∷ []

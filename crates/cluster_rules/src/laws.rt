@@ -28,7 +28,7 @@ ghost use Rattle.cluster_rules.specs.Left.{left};
 ghost use Rattle.cluster_rules.specs.Legal.{StepIsLegal, StillWaits};
 ghost use Rattle.cluster_rules.specs.Step.{ClusterStep};
 ghost use Rattle.cluster_rules.specs.Reached.{EndInPairs, IsStart, Move, Reached, Settling, moves_of};
-ghost use Rattle.cluster_rules.specs.Runs.{FullWaitRun, LostWriteRun, NotReadyRun, PutAndGet, StoreFailsRun};
+ghost use Rattle.cluster_rules.specs.Runs.{ConsistentRun, FullWaitRun, LostWriteRun, NotReadyRun, PutAndGet, StoreFailsRun};
 ghost use Rattle.cluster_rules.specs.Sound.{answers_in, Ascends, IsAmong, LookedBefore, NeverEnters, Sound, entered_in, entries_before, found, halts_in};
 
 /// Each step, whole or cut short, keeps a cluster sound.
@@ -195,4 +195,10 @@ pub fn a_write_is_lost()
 #[tactic(auto, using(crate::proofs::StoreFails::store_fails_run))]
 pub fn a_failed_store_halts()
     ensures { StoreFailsRun }
+{}
+
+/// A consistent read is answered once its round is confirmed.
+#[tactic(auto, using(crate::proofs::ConsistentRead::consistent_run))]
+pub fn a_consistent_read_has_its_round()
+    ensures { ConsistentRun }
 {}
