@@ -20,7 +20,7 @@ ghost use Rattle.cat_model.specs.declared.reply.Refusal.{Refusal};
 ghost use Rattle.raft_model.specs.Log.{Log};
 ghost use Rattle.raft_model.specs.Runs.{fresh};
 ghost use Rattle.raft_model.specs.World.{World, IsReached, Reaches};
-ghost use Rattle.cluster_rules.specs.Replies.{Question, came, entered};
+ghost use Rattle.cluster_rules.specs.Replies.{Out, Question, came, entered};
 ghost use Rattle.cluster_rules.specs.Lasting.{IsWrite, IsEntered, Lasting};
 ghost use Rattle.cluster_rules.specs.Cluster.{Cluster, Pending, applied_of, node_of, server_of, started};
 ghost use Rattle.cluster_rules.specs.Due.{IsDue, Work, did, due};
@@ -29,7 +29,7 @@ ghost use Rattle.cluster_rules.specs.Legal.{StepIsLegal, StillWaits};
 ghost use Rattle.cluster_rules.specs.Step.{ClusterStep};
 ghost use Rattle.cluster_rules.specs.Reached.{EndInPairs, IsStart, Move, Reached, Settling, moves_of};
 ghost use Rattle.cluster_rules.specs.Runs.{ConsistentRun, FullWaitRun, LostWriteRun, NotReadyRun, PutAndGet, StoreFailsRun};
-ghost use Rattle.cluster_rules.specs.Sound.{answers_in, Ascends, IsAmong, LookedBefore, NeverEnters, Sound, entered_in, entries_before, found, halts_in};
+ghost use Rattle.cluster_rules.specs.Sound.{OutIsSound, answers_in, Ascends, IsAmong, LookedBefore, NeverEnters, Sound, entered_in, entries_before, found, halts_in};
 
 /// Each step, whole or cut short, keeps a cluster sound.
 #[tactic(auto, using(crate::proofs::Keeping::step_keeps))]
@@ -92,6 +92,12 @@ pub fn replies_are_legal()
 pub fn none_is_lost()
     ensures once { (c : Cluster) → Sound c → (k : ℕ) → 0 < k → k ≤ c.asked → found k c ≡ 1 }
     ensures none { (c : Cluster) → Sound c → (k : ℕ) → c.asked < k → found k c ≡ 0 }
+{}
+
+/// A reply that nobody has taken is that of its mark, and shows what the agreed log holds. A request is closed only
+/// where a server restarted, in the event of that number.
+pub fn outs_are_sound()
+    ensures { (c : Cluster) → Sound c → (o : Out) → IsAmong o c.tray → OutIsSound c.world c.past o }
 {}
 
 /// A request is answered at most once, and not while it is held.
