@@ -1,0 +1,178 @@
+-- A request's part at the server to which it went leaves the cluster sound.
+use Rattle.std.proofs.Common.{◌≡◌, ◌≢◌, ℕ, suc, ◌<◌, ◌≤◌, ◌⊎◌, inl, inr, Bool, true, false, List, [], ◌∷◌, ◌++◌, length, take, refl, sym, ◌∙◌, ap, subst, arith, Some, None}
+use Rattle.std.specs.Prelude.{nat_lt, nat_le, ◌&&◌}
+use Rattle.std.specs.List.{AllByRecursion as Each}
+use Rattle.std.proofs.lemmas.List.{take_all}
+use Rattle.cat_model.specs.LogLimits.{most_entries, most_bytes, log_bytes}
+use Rattle.cat_model.specs.declared.command.Command.{Command}
+use Rattle.cat_model.specs.declared.request.Mode.{Mode}
+use Rattle.cat_model.specs.declared.request.Mode.TheVariants.{Default, Consistent, Stale}
+use Rattle.cat_model.specs.declared.request.Request.TheVariants.{Write}
+use Rattle.cat_model.specs.declared.request.Asked.{Asked}
+use Rattle.cat_model.specs.declared.request.Asked.TheVariants.{Good}
+use Rattle.cat_model.specs.declared.reply.Kind.TheVariants.{Refused}
+use Rattle.cat_model.specs.declared.reply.Mark.{Mark}
+use Rattle.cat_model.specs.declared.reply.Refusal.{Refusal}
+use Rattle.cat_model.specs.declared.reply.Refusal.TheVariants as refusal
+use Rattle.raft_model.specs.Facts.{next_round}
+use Rattle.raft_model.specs.Log.{Log, term_at, last_term}
+use Rattle.raft_model.specs.Rules.{Probe, proposal}
+use Rattle.raft_model.specs.World.{World, Acts as NodeActs, Proposes, Probes, IsServer}
+use Rattle.raft_model.proofs.Logs.{agree_term}
+use Rattle.raft_model.proofs.Tests.{at_bool, lt_tells, lt_tells_not}
+use Rattle.cluster_rules.specs.Replies.{Question, came, entered}
+use Rattle.cluster_rules.specs.Lasting.{IsWrite, IsRead, IsRefused, LastsFor}
+use Rattle.cluster_rules.specs.Cluster.{Stand, Pending, Start, Proposed, Probed, Looked, Cluster, node_of, server_of, applied_of, runs_leading}
+use Rattle.cluster_rules.specs.Requests.{Goes, way, is_ready, is_stale_read, MayGo, moved, halted_now, holding, refused, log_with, Handles, unready, full, proposes, stops, probes, reads}
+use Rattle.cluster_rules.specs.Sound.{IsAmong, ServerIsSound, IsOpen, IsFresh, IsFreshRound, StartIsSound, WasBelow, PendingIsSound, Ascends, RestsOn, IsSoundAtWork}
+use Rattle.cluster_rules.proofs.Asking.{AskIsNew, goes_leading, unready_refused}
+use Rattle.cluster_rules.proofs.Boundary.{acts_rise, acts_greatest, leader_there, leading_tells, term_bound, commit_within, proposed, probed}
+use Rattle.cluster_rules.proofs.Grows.{goes_nowhere}
+use Rattle.cluster_rules.proofs.Later.{Later, pending_later, past_later, same_past}
+use Rattle.cluster_rules.proofs.Moved.{plain_moved, moved_sound}
+use Rattle.cluster_rules.proofs.Terms.{reached_has}
+use Rattle.cluster_rules.proofs.Tools.{le_tells_not, not_tells, not_tells_not, each_map, each_append}
+use Rattle.cluster_rules.proofs.Works.{answered_sound, commit_agrees}
+
+-- One more held request, behind all others, with its start.
+ascends_more : (h : Pending) (hs : List Pending) → Each (λ (g : Pending). g.question.number < h.question.number) hs → Ascends hs → Ascends (hs ++ h ∷ [])
+ascends_more h [] d a = (tt, tt)
+ascends_more h (x ∷ hs) d a = (each_append (λ (g : Pending). x.question.number < g.question.number) hs (h ∷ []) a.0 (d.0, tt), ascends_more h hs d.1 a.1)
+
+pub holding_sound : (c : Cluster) → IsSoundAtWork c → (q : Question) (i : ℕ) (stand : Stand) (start : Start) → StartIsSound c.world c.past start →
+    PendingIsSound c.servers c.past (start ∷ c.starts) (record { question = q; server = i; stand = stand }) → Each (λ (g : Pending). g.question.number < q.number) c.held → IsSoundAtWork (holding q i stand start c)
+holding_sound c s q i stand start x y above =
+    let later : Later c.world c.world c.past c.past c.starts (start ∷ c.starts) = record { goes = goes_nowhere c.world; was = λ m z. z; restarted = λ e t z. z; more = λ z m. inr m } in
+    record {
+      world = s.world;
+      servers = s.servers;
+      starts = (x, s.starts);
+      held = each_append (PendingIsSound c.servers c.past (start ∷ c.starts)) c.held (record { question = q; server = i; stand = stand } ∷ [])
+          (each_map (PendingIsSound c.servers c.past c.starts) (PendingIsSound c.servers c.past (start ∷ c.starts))
+          (λ h z. pending_later c.world c.world c.past c.past c.starts (start ∷ c.starts) later c.servers c.servers h (same_past h.question.number c.past) (take_all _ _ (omega arith)) z) c.held s.held) (y, tt);
+      ascends = ascends_more (record { question = q; server = i; stand = stand }) c.held above s.ascends;
+      marks = past_later c.world c.world (goes_nowhere c.world) c.starts (start ∷ c.starts) (λ z m. inr m) c.past s.marks;
+      fresh = s.fresh;
+      tray = s.tray;
+      counts = s.counts;
+    }
+
+-- a refusal at once
+pub refused_sound : (c : Cluster) → IsSoundAtWork c → (q : Question) (why : Refusal) → IsAmong (came q) c.past → IsOpen q.number c.past → IsRefused q.asked why → RestsOn c.world c.starts q (Refused why) → IsSoundAtWork (refused q why c)
+unfolding LastsFor
+refused_sound c s q why was open_ r rests = answered_sound c s q (Refused why) false 0 [] refl (record { asked = was; open_ = open_; lasts = r; fresh = tt; rests = rests })
+
+not_both : (a b : Bool) → (a && b) ≡ false → (a ≡ false) ⊎ (b ≡ false)
+not_both true b e = inr e
+not_both false b e = inl refl
+
+-- a log past its limits
+pub past_limits : (log : Log) → (nat_le (length log) most_entries && nat_le (log_bytes log) most_bytes) ≡ false → (most_entries < length log) ⊎ (most_bytes < log_bytes log)
+past_limits log e = elim (not_both (nat_le (length log) most_entries) (nat_le (log_bytes log) most_bytes) e) [
+  | inl x ↦ inl (le_tells_not (length log) most_entries x)
+  | inr x ↦ inr (le_tells_not (log_bytes log) most_bytes x)
+]
+
+-- A fact of a request that is known to be a write, or a read.
+pub as_write : (q : Question) (command : Command) (P : Asked → Type 0) → q.asked ≡ Good (Write command) → P (Good (Write command)) → P q.asked
+as_write q command P e x = subst P (sym e) x
+
+fresh_looked : (mode : Mode) (number : ℕ) (past : List Mark) (starts : List Start) (i n : ℕ) → mode ≢ Consistent → IsFresh mode number past (Looked number i n ∷ starts) n
+fresh_looked Default number past starts i n d = (i, n, inl refl, omega arith)
+fresh_looked Stale number past starts i n d = (i, n, inl refl, omega arith)
+fresh_looked Consistent number past starts i n d = absurd (d refl)
+
+module _ (c : Cluster) (s : IsSoundAtWork c) (i : ℕ) (q : Question) (a : AskIsNew c q) (from : ℕ) (goes : way c.world from q.asked ≡ Some (Goes i)) (made_up : (node_of c.world i).commit ≤ length (applied_of c i)) where
+  own : ServerIsSound c.world.agreed (node_of c.world i).commit (server_of c.servers i)
+  own = s.servers.each i
+
+  at_commit : (node_of c.world i).commit ≡ length (applied_of c i)
+  at_commit = let k = own.within in omega (arith, made_up)
+
+  last_is : term_at (node_of c.world i).commit (node_of c.world i).log ≡ last_term (applied_of c i)
+  last_is =
+      agree_term (node_of c.world i).commit (node_of c.world i).commit (node_of c.world i).log c.world.agreed (omega arith) (commit_agrees c.world s.world i)
+      ∙ agree_term (node_of c.world i).commit (node_of c.world i).commit c.world.agreed (applied_of c i) (omega arith)
+      (ap (λ z. take z c.world.agreed) at_commit ∙ sym own.front ∙ sym (take_all (node_of c.world i).commit (applied_of c i) (omega (arith, at_commit))))
+      ∙ ap (λ z. term_at z (applied_of c i)) at_commit
+
+  -- a server that is ready, and so may begin a round
+  module _ (lead : runs_leading c.world i ≡ true) (ready : is_ready c i ≡ true) where
+    above : (node_of c.world i).term ≤ last_term (applied_of c i)
+    above = lt_tells_not (last_term (applied_of c i)) (node_of c.world i).term (not_tells_not _ ready)
+
+    has_term : 0 < (node_of c.world i).term
+    has_term = elim (reached_has c.world s.world i) [
+      | inl e ↦ absurd (let l = (leading_tells c.world i lead).1 in cc (e, l))
+      | inr l ↦ l
+    ]
+
+    some : 0 < (node_of c.world i).commit
+    some = at_bool (λ b. nat_lt 0 (node_of c.world i).commit ≡ b → 0 < (node_of c.world i).commit) (nat_lt 0 (node_of c.world i).commit) (λ _ z. lt_tells 0 _ z)
+        (λ _ z. absurd (let k = lt_tells_not 0 (node_of c.world i).commit z in let l = ap (λ y. term_at y (node_of c.world i).log) (zero_of (node_of c.world i).commit k) in omega (arith, l, last_is, above, has_term))) refl
+      where
+        zero_of : (m : ℕ) → m ≤ 0 → m ≡ 0
+        zero_of m l = omega arith
+
+    at : IsServer c.world i (node_of c.world i)
+    at = leader_there c.world i lead
+
+    own_term : term_at (node_of c.world i).commit (node_of c.world i).log ≡ (node_of c.world i).term
+    own_term =
+        let b = term_bound c.world s.world i (node_of c.world i) at (leading_tells c.world i lead).0 (node_of c.world i).commit some (commit_within c.world s.world i (node_of c.world i) at) in
+        omega (arith, b, above, last_is)
+
+    round : (w' : World) → NodeActs c.world i Probe w' → IsFreshRound w' (length c.world.agreed) (next_round (node_of c.world i))
+    round w' b = probed c.world s.world i w' b lead some own_term
+
+  pub handles_sound : (c' : Cluster) → Handles c i q c' → IsSoundAtWork c'
+  handles_sound c' (unready st r e) = subst IsSoundAtWork (sym e)
+      (refused_sound c s q _ a.was a.open_ (unready_refused c.world from i q.asked _ _ goes st (lt_tells (last_term (applied_of c i)) (node_of c.world i).term (not_tells _ r))) tt)
+  handles_sound c' (full command w' ask free go room b e) = subst IsSoundAtWork (sym e)
+      (let p = plain_moved (halted_now c.world w' i) i w' c in
+      refused_sound (moved i w' c) (moved_sound c s (halted_now c.world w' i) i w' (Proposes i q.number (entered q command)) b (acts_rise c.world i _ w' s.world b) (let k = acts_greatest c.world i _ w' b in let n = a.number in let l = a.numbers in omega arith)) q _
+      (p.was (came q) a.was) (p.open_ q.number a.open_)
+      (as_write q command (λ z. IsRefused z (refusal.LogFull (length (log_with (node_of c.world i) q command)) (log_bytes (log_with (node_of c.world i) q command)))) ask (past_limits (log_with (node_of c.world i) q command) room)) tt)
+  handles_sound c' (stops command w' ask free go room b down e) = subst IsSoundAtWork (sym e)
+      (let p = plain_moved (halted_now c.world w' i) i w' c in
+      refused_sound (moved i w' c) (moved_sound c s (halted_now c.world w' i) i w' (Proposes i q.number (entered q command)) b (acts_rise c.world i _ w' s.world b) (let k = acts_greatest c.world i _ w' b in let n = a.number in let l = a.numbers in omega arith)) q _
+      (p.was (came q) a.was) (p.open_ q.number a.open_) (as_write q command (λ z. IsRefused z (refusal.Halted i)) ask tt) tt)
+  handles_sound c' (proposes command w' ask free go room b up e) = subst IsSoundAtWork (sym e)
+      (let p = plain_moved (halted_now c.world w' i) i w' c in
+      holding_sound (moved i w' c) (moved_sound c s (halted_now c.world w' i) i w' (Proposes i q.number (entered q command)) b (acts_rise c.world i _ w' s.world b) (let k = acts_greatest c.world i _ w' b in let n = a.number in let l = a.numbers in omega arith)) q i _ _ (
+        omega arith,
+        proposed c.world s.world i q.number (entered q command) w' b (goes_leading c.world from i q.asked goes (as_write q command (λ z. is_stale_read z ≡ false) ask refl)) room up,
+        (q, p.was (came q) a.was, refl, as_write q command (λ z. IsWrite z (λ command'. entered q command ≡ entered q command')) ask refl),
+      )
+      (record {
+        asked = p.was (came q) a.was;
+        open_ = p.open_ q.number a.open_;
+        stand = as_write q command (λ z. IsWrite z (λ command'. IsAmong (Proposed (suc (length (node_of c.world i).log)) (record { term = (node_of c.world i).term; number = q.number; command = entered q command' })) (Proposed (suc (length (node_of c.world i).log)) (proposal (node_of c.world i) q.number (entered q command)) ∷ c.starts))) ask (inl refl);
+      }) a.above)
+  handles_sound c' (probes query least wait raw w' ask go b e) = subst IsSoundAtWork (sym e)
+      (let p = plain_moved (halted_now c.world w' i) i w' c in
+      holding_sound (moved i w' c) (moved_sound c s (halted_now c.world w' i) i w' (Probes i) b (acts_rise c.world i _ w' s.world b) (let k = acts_greatest c.world i _ w' b in let n = a.number in let l = a.numbers in omega arith)) q i _ _
+      (subst (λ z. IsFreshRound w' z (next_round (node_of c.world i))) (sym (p.before q.number ∙ a.before)) (round lead (ready go) w' b), (q, p.was (came q) a.was, refl))
+      (record {
+        asked = p.was (came q) a.was;
+        open_ = p.open_ q.number a.open_;
+        stand = subst (λ z. IsRead z (λ query' mode least'. (mode ≡ Consistent) × IsAmong (Probed q.number i (next_round (node_of c.world i))) (Probed q.number i (next_round (node_of c.world i)) ∷ c.starts))) (sym ask) (refl, inl refl);
+      }) a.above)
+    where
+      fresh : is_stale_read q.asked ≡ false
+      fresh = subst (λ z. is_stale_read z ≡ false) (sym ask) refl
+
+      lead : runs_leading c.world i ≡ true
+      lead = goes_leading c.world from i q.asked goes fresh
+
+      ready : MayGo c i q → is_ready c i ≡ true
+      ready (inl z) = absurd (cc (z, fresh))
+      ready (inr z) = z
+  handles_sound c' (reads query mode least wait raw ask d go e) = subst IsSoundAtWork (sym e)
+      (holding_sound c s q i _ _ (q, a.was, refl)
+      (record {
+        asked = a.was;
+        open_ = a.open_;
+        stand = subst (λ z. IsRead z (λ query' mode' least'. IsFresh mode' q.number c.past (Looked q.number i (length (applied_of c i)) ∷ c.starts) (length (applied_of c i)) × WasBelow query' least' None (applied_of c i))) (sym ask)
+            (fresh_looked mode q.number c.past c.starts i (length (applied_of c i)) d, tt);
+      }) a.above)

@@ -1,0 +1,163 @@
+-- What holds in every cluster of a run.
+use Rattle.std.proofs.Common.{◌≡◌, ℕ, zero, suc, ◌+◌, inl, inr, Bool, true, false, cond, List, [], ◌∷◌, ◌++◌, length, get_or, replicate, refl, sym, ◌∙◌, ap, subst, arith}
+use Rattle.std.specs.Prelude.{◌==◌, nat_lt, nat_le, ◌&&◌}
+use Rattle.std.specs.List.{AllByRecursion as Each}
+use Rattle.std.proofs.lemmas.Bool.Decides.{nat_tests}
+use Rattle.std.proofs.lemmas.List.{length-replicate}
+use Rattle.cat_model.specs.declared.reply.Kind.{Kind}
+use Rattle.cat_model.specs.declared.reply.Mark.{Mark}
+use Rattle.cat_model.specs.declared.reply.Mark.TheVariants as mark
+use Rattle.raft_model.specs.World.{World, IsReached, empty, again}
+use Rattle.raft_model.proofs.Tests.{at_bool, eq_tells}
+use Rattle.cluster_rules.specs.Replies.{Question, came, Out, number_of}
+use Rattle.cluster_rules.specs.Lasting.{Lasting}
+use Rattle.cluster_rules.specs.Cluster.{Server, Start, Cluster, no_server, node_of, server_of, started}
+use Rattle.cluster_rules.specs.Reached.{IsStart, Move, Reached, at_start, by_event, by_taking, by_handing, by_settling}
+use Rattle.cluster_rules.specs.Sound.{IsAmong, ServerIsSound, entered_in, entries_before, IsFreshKind, RestsOn, PastIsSound, OutIsSound, one_if, is_of, out_times, IsSoundAtWork, Sound}
+use Rattle.cluster_rules.proofs.Counting.{outs_times}
+use Rattle.cluster_rules.proofs.Due.{was_numbered}
+use Rattle.cluster_rules.proofs.Grows.{goes_nowhere}
+use Rattle.cluster_rules.proofs.Keeping.{step_keeps}
+use Rattle.cluster_rules.proofs.Later.{fresh_kind_later}
+use Rattle.cluster_rules.proofs.Moved.{Plain, plain_taken, plain_settled, turned, held_as_before}
+use Rattle.cluster_rules.proofs.Tools.{each_but}
+
+-- The start.
+get_replicate : {A : Type 0} (n j : ℕ) (x : A) → get_or (replicate n x) j x ≡ x
+get_replicate zero j x = refl
+get_replicate (suc n) zero x = refl
+get_replicate (suc n) (suc j) x = get_replicate n j x
+
+fresh_server : (n i : ℕ) → server_of (replicate n no_server) i ≡ no_server
+fresh_server n zero = refl
+fresh_server n (suc i) = get_replicate n i no_server
+
+none_asked : (k : ℕ) → one_if (nat_lt 0 k && nat_le k 0) ≡ 0
+none_asked k = at_bool (λ b. nat_lt 0 k ≡ b → one_if (b && nat_le k 0) ≡ 0) (nat_lt 0 k) (λ _ e. ap one_if (above k e)) (λ _ _. refl) refl
+  where
+    above : (k : ℕ) → nat_lt 0 k ≡ true → nat_le k 0 ≡ false
+    above k e = grind (arith, nat_tests)
+
+started_sound : (w : World) (agents : ℕ) → IsReached w → w.agreed ≡ [] → w.greatest ≡ 0 → Sound (started w agents)
+started_sound w agents r a g = record {
+  parts = record {
+    world = r;
+    servers = record {
+      count = length-replicate (length w.nodes) no_server;
+      each = λ i. subst (λ (s : Server). ServerIsSound w.agreed (node_of w i).commit s) (sym (fresh_server (length w.nodes) i)) (record { front = refl; within = omega arith; clocks = refl });
+    };
+    starts = tt;
+    held = tt;
+    ascends = tt;
+    marks = tt;
+    fresh = tt;
+    tray = tt;
+    counts = record { asked_is = refl; proposed = omega (arith, g); entries = sym a };
+  };
+  none_lost = λ k. sym (none_asked k);
+  shelved = refl;
+}
+
+pub start_sound : (c : Cluster) → IsStart c → Sound c
+start_sound c s = subst Sound (sym s.is) (started_sound s.world s.agents reached s.begins.agreed s.begins.greatest)
+  where
+    reached : IsReached s.world
+    reached = elim s.kept [
+      | inl e ↦ empty s.stores e s.begins
+      | inr x ↦ again s.stores x.1 x.2 s.begins
+    ]
+
+-- More marks, which are of no request's fate, and fewer outs.
+marks_sound : (c : Cluster) → IsSoundAtWork c → (past' : List Mark) → Plain c.past past' → entered_in past' ≡ entered_in c.past → IsSoundAtWork (record c { past = past' })
+marks_sound c s past' p e =
+    turned c s c.world s.world (goes_nowhere c.world) past' p (e ∙ s.counts.entries) s.counts.proposed c.servers s.servers c.held (held_as_before c s c.world (goes_nowhere c.world) past' p) s.ascends
+
+less_tray : (c : Cluster) → IsSoundAtWork c → (out : Out) (before after : List Out) → c.tray ≡ before ++ out ∷ after → IsSoundAtWork (record c { tray = before ++ after })
+less_tray c s out before after e = record {
+  world = s.world;
+  servers = s.servers;
+  starts = s.starts;
+  held = s.held;
+  ascends = s.ascends;
+  marks = s.marks;
+  fresh = s.fresh;
+  tray = each_but (OutIsSound c.world c.past) before out after (subst (Each (OutIsSound c.world c.past)) e s.tray);
+  counts = s.counts;
+}
+
+tray_times : (k : ℕ) (tray before : List Out) (out : Out) (after : List Out) → tray ≡ before ++ out ∷ after → out_times k tray ≡ one_if (is_of k (number_of out)) + out_times k (before ++ after)
+tray_times k tray before out after e =
+    let a = ap (out_times k) e in let b = outs_times k before (out ∷ after) in let d = outs_times k before after in omega (arith, a, b, d)
+
+-- Each cluster of a run is sound.
+pub run_sound : (start : Cluster) → IsStart start → (whole : Bool) (moves : List Move) (c : Cluster) → Reached start whole moves c → Sound c
+run_sound start i whole moves c at_start = start_sound start i
+run_sound start i whole moves c (by_event {whole = w} {moves = ms} {c = b} made all r fits s) = step_keeps b c made all s (run_sound start i w ms b r)
+run_sound start i whole moves c (by_taking {whole = w} {moves = ms} {c = b} number out before after r is e) =
+    let s = run_sound start i w ms b r in
+    record {
+      parts = marks_sound (record b { tray = before ++ after }) (less_tray b s.parts out before after e) (mark.Taken number ∷ b.past) (plain_taken number b.past) refl;
+      none_lost = λ k. let t = tray_times k b.tray before out after e in let n = ap (λ z. one_if (is_of k z)) is in let f = s.none_lost k in omega (arith, t, n, f);
+      shelved = s.shelved;
+    }
+run_sound start i whole moves c (by_handing {whole = w} {moves = ms} {c = b} out before after r is e) =
+    let s = run_sound start i w ms b r in
+    record {
+      parts = less_tray b s.parts out before after e;
+      none_lost = λ k. let t = tray_times k b.tray before out after e in let n = ap (λ z. one_if (is_of k z)) is in let f = s.none_lost k in omega (arith, t, n, f);
+      shelved = s.shelved;
+    }
+run_sound start i whole moves c (by_settling {whole = w} {moves = ms} {c = b} pairs all r ends) =
+    let s = run_sound start i w ms b r in
+    record { parts = marks_sound b s.parts (mark.Settled pairs all ∷ b.past) (plain_settled pairs all b.past) refl; none_lost = s.none_lost; shelved = s.shelved }
+
+-- What a mark of an answer says.
+pub record Told (w : World) (past : List Mark) (starts : List Start) (number : ℕ) (kind : Kind) : Type 0 where
+  pub question : Question
+  pub asked : IsAmong (came question) past
+  pub number_is : question.number ≡ number
+  pub lasts : Lasting question kind w.agreed
+  pub fresh : IsFreshKind kind number past starts
+  pub rests : RestsOn w starts question kind
+
+-- with one more mark, which does not ask this request
+told_on : (w : World) (past : List Mark) (starts : List Start) (number : ℕ) (kind : Kind) (m : Mark) → entries_before number (m ∷ past) ≡ entries_before number past → Told w past starts number kind → Told w (m ∷ past) starts number kind
+told_on w past starts number kind m e t = record {
+  question = t.question;
+  asked = inr t.asked;
+  number_is = t.number_is;
+  lasts = t.lasts;
+  fresh = fresh_kind_later number past (m ∷ past) e starts starts (λ x y. y) kind t.fresh;
+  rests = t.rests;
+}
+
+pub told_in : (w : World) (starts : List Start) (past : List Mark) → PastIsSound w starts past → (number : ℕ) (kind : Kind) (known : Bool) (contact : ℕ) → IsAmong (mark.Answered number kind known contact) past → Told w past starts number kind
+told_in w starts [] x number kind known contact y = absurd y
+told_in w starts (mark.Answered n k kn co ∷ past) x number kind known contact (inl e) =
+    let a = x.0 in
+    let t : Told w (mark.Answered n k kn co ∷ past) starts n k = record { question = a.question; asked = inr a.asked; number_is = a.number_is; lasts = a.lasts; fresh = fresh_kind_later n past (mark.Answered n k kn co ∷ past) refl starts starts (λ x y. y) k a.fresh; rests = a.rests } in
+    subst (λ z. Told w (mark.Answered n k kn co ∷ past) starts z kind) (sym (number_is e)) (subst (λ z. Told w (mark.Answered n k kn co ∷ past) starts n z) (sym (kind_is e)) t)
+  where
+    kind_is : mark.Answered number kind known contact ≡ mark.Answered n k kn co → kind ≡ k
+    kind_is e = cc e
+
+    number_is : mark.Answered number kind known contact ≡ mark.Answered n k kn co → number ≡ n
+    number_is e = cc e
+told_in w starts (mark.Answered n k kn co ∷ past) x number kind known contact (inr y) = told_on w past starts number kind (mark.Answered n k kn co) refl (told_in w starts past x.1 number kind known contact y)
+told_in w starts (mark.Asked n agent asked draw ∷ past) x number kind known contact (inl e) = absurd (cc e)
+told_in w starts (mark.Asked n agent asked draw ∷ past) x number kind known contact (inr y) =
+    let t = told_in w starts past x.1 number kind known contact y in
+    told_on w past starts number kind (mark.Asked n agent asked draw) (at_bool (λ b. (n == number) ≡ b → cond b (length (entered_in past)) (entries_before number past) ≡ entries_before number past) (n == number)
+    (λ _ q. absurd (let k = eq_tells n number q in let l = (was_numbered w starts past x.1 t.question t.asked).1 in let z = x.0 in let r = t.number_is in omega arith)) (λ _ _. refl) refl) t
+told_in w starts (mark.Made made ∷ past) x number kind known contact (inl e) = absurd (cc e)
+told_in w starts (mark.Made made ∷ past) x number kind known contact (inr y) = told_on w past starts number kind (mark.Made made) refl (told_in w starts past x number kind known contact y)
+told_in w starts (mark.Advanced ms made ∷ past) x number kind known contact (inl e) = absurd (cc e)
+told_in w starts (mark.Advanced ms made ∷ past) x number kind known contact (inr y) = told_on w past starts number kind (mark.Advanced ms made) refl (told_in w starts past x number kind known contact y)
+told_in w starts (mark.Settled pairs whole ∷ past) x number kind known contact (inl e) = absurd (cc e)
+told_in w starts (mark.Settled pairs whole ∷ past) x number kind known contact (inr y) = told_on w past starts number kind (mark.Settled pairs whole) refl (told_in w starts past x number kind known contact y)
+told_in w starts (mark.Halted server ∷ past) x number kind known contact (inl e) = absurd (cc e)
+told_in w starts (mark.Halted server ∷ past) x number kind known contact (inr y) = told_on w past starts number kind (mark.Halted server) refl (told_in w starts past x number kind known contact y)
+told_in w starts (mark.Entry entry ∷ past) x number kind known contact (inl e) = absurd (cc e)
+told_in w starts (mark.Entry entry ∷ past) x number kind known contact (inr y) = told_on w past starts number kind (mark.Entry entry) refl (told_in w starts past x number kind known contact y)
+told_in w starts (mark.Taken m ∷ past) x number kind known contact (inl e) = absurd (cc e)
+told_in w starts (mark.Taken m ∷ past) x number kind known contact (inr y) = told_on w past starts number kind (mark.Taken m) refl (told_in w starts past x number kind known contact y)

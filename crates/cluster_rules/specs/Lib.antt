@@ -1,0 +1,11 @@
+pub mod Replies
+pub mod Lasting
+pub mod Cluster
+pub mod Due
+pub mod Requests
+pub mod Step
+pub mod Reached
+pub mod Sound
+pub mod Legal
+pub mod Runs
+pub mod Left

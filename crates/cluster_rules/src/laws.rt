@@ -1,0 +1,210 @@
+//! Laws of the definitions, each the contract of a function with an empty body. They hold whatever is lost, repeated,
+//! reordered, restarted or cut short for want of memory, and whichever store calls fail.
+
+ghost use Rattle.std.specs.Prelude.{Bool, List, None, length, take, min, false, true, ℕ, ◌+◌, ◌-◌, ◌^◌, ◌≡◌, ◌≢◌, ◌<◌, ◌≤◌, ◌⊎◌};
+ghost use Rattle.std.specs.List.{AllByRecursion as Each};
+ghost use Rattle.cat_model.specs.declared.command.Command.{Command};
+ghost use Rattle.cat_model.specs.declared.query.Query.{Query};
+ghost use Rattle.cat_model.specs.declared.request.Mode.{Mode};
+ghost use Rattle.cat_model.specs.declared.request.Mode.TheVariants.{Default, Consistent};
+ghost use Rattle.cat_model.specs.declared.request.Request.{Request};
+ghost use Rattle.cat_model.specs.declared.request.Request.TheVariants.{Read, Write};
+ghost use Rattle.cat_model.specs.declared.request.Asked.TheVariants.{Bad, Good};
+ghost use Rattle.cat_model.specs.declared.request.Event.{Event};
+ghost use Rattle.cat_model.specs.declared.reply.Kind.{Kind};
+ghost use Rattle.cat_model.specs.declared.reply.Kind.TheVariants.{Acked, At, Refused};
+ghost use Rattle.cat_model.specs.declared.reply.Mark.TheVariants.{Answered};
+ghost use Rattle.cat_model.specs.declared.reply.Refusal.TheVariants.{Invalid, LogFull, Lost, TooMany};
+ghost use Rattle.cat_model.specs.declared.reply.Role.TheVariants.{Follower};
+ghost use Rattle.cat_model.specs.declared.reply.Refusal.{Refusal};
+ghost use Rattle.raft_model.specs.Log.{Log};
+ghost use Rattle.raft_model.specs.Runs.{fresh};
+ghost use Rattle.raft_model.specs.World.{World, IsReached, Reaches};
+ghost use Rattle.cluster_rules.specs.Replies.{Out, Question, came, entered};
+ghost use Rattle.cluster_rules.specs.Lasting.{IsWrite, IsEntered, Lasting};
+ghost use Rattle.cluster_rules.specs.Cluster.{Cluster, Pending, applied_of, node_of, server_of, started};
+ghost use Rattle.cluster_rules.specs.Due.{IsDue, Work, did, due};
+ghost use Rattle.cluster_rules.specs.Left.{left};
+ghost use Rattle.cluster_rules.specs.Legal.{StepIsLegal, StillWaits};
+ghost use Rattle.cluster_rules.specs.Step.{ClusterStep};
+ghost use Rattle.cluster_rules.specs.Reached.{EndInPairs, IsStart, Move, Reached, Settling, moves_of};
+ghost use Rattle.cluster_rules.specs.Runs.{ConsistentRun, FullWaitRun, LostWriteRun, NotReadyRun, PutAndGet, StoreFailsRun};
+ghost use Rattle.cluster_rules.specs.Sound.{OutIsSound, answers_in, Ascends, IsAmong, LookedBefore, NeverEnters, Sound, entered_in, entries_before, found, halts_in};
+
+/// Each step, whole or cut short, keeps a cluster sound.
+#[tactic(auto, using(crate::proofs::Keeping::step_keeps))]
+pub fn steps_keep_sound()
+    ensures { (c c' : Cluster) (made : Event) (whole : Bool) → ClusterStep c made c' whole → Sound c → Sound c' }
+{}
+
+/// Servers with empty stores are a start.
+pub fn fresh_servers_start()
+    ensures { (servers agents : ℕ) → 0 < servers → servers ≤ 7 → agents ≤ 64 → IsStart (started (fresh servers) agents) }
+{}
+
+/// Each cluster of a run is sound.
+#[tactic(auto, using(crate::proofs::Reached::run_sound))]
+pub fn runs_are_sound()
+    ensures { (start : Cluster) → IsStart start → (whole : Bool) (moves : List Move) (c : Cluster) → Reached start whole moves c → Sound c }
+{}
+
+/// What an answer rests on is so of each later agreed log.
+#[tactic(auto, using(crate::proofs::Answers::answers_last))]
+pub fn answers_last()
+    ensures { (c : Cluster) → Sound c → (w : World) → Reaches c.world w → (number : ℕ) (kind : Kind) (known : Bool) (contact : ℕ) → IsAmong (Answered number kind known contact) c.past →
+        (q : Question) × IsAmong (came q) c.past × (q.number ≡ number) × Lasting q kind w.agreed }
+{}
+
+/// An acknowledged write stands at its position in each later agreed log.
+#[tactic(auto, using(crate::proofs::Answers::writes_stand))]
+pub fn acknowledged_writes_stand()
+    ensures { (c : Cluster) → Sound c → (w : World) → Reaches c.world w → (number position : ℕ) (known : Bool) (contact : ℕ) → IsAmong (Answered number (Acked position) known contact) c.past →
+        (q : Question) × IsAmong (came q) c.past × (q.number ≡ number) × IsWrite q.asked (λ command. IsEntered position number (entered q command) w.agreed) }
+{}
+
+/// The entry of a write that was answered that its leadership was lost, told by its term and number, stands in no
+/// agreed log, then or later.
+#[tactic(auto, using(crate::proofs::Answers::lost_never))]
+pub fn lost_writes_never_enter()
+    ensures { (c : Cluster) → Sound c → (number old found : ℕ) (known : Bool) (contact : ℕ) → IsAmong (Answered number (Refused (Lost old found)) known contact) c.past →
+        (q : Question) × IsAmong (came q) c.past × (q.number ≡ number) × ((command : Command) → q.asked ≡ Good (Write command) → NeverEnters c.world old number) }
+{}
+
+/// A consistent read's prefix is no shorter than what was agreed before its asking.
+#[tactic(auto, using(crate::proofs::Answers::consistent_fresh))]
+pub fn consistent_reads_are_fresh()
+    ensures { (c : Cluster) → Sound c → (number prefix index clock deadline : ℕ) (known : Bool) (contact : ℕ) → IsAmong (Answered number (At Consistent prefix index clock deadline) known contact) c.past → entries_before number c.past ≤ prefix }
+{}
+
+/// A default read's prefix is no shorter than what its server had applied at its asking.
+#[tactic(auto, using(crate::proofs::Answers::default_fresh))]
+pub fn default_reads_look_no_earlier()
+    ensures { (c : Cluster) → Sound c → (number prefix index clock deadline : ℕ) (known : Bool) (contact : ℕ) → IsAmong (Answered number (At Default prefix index clock deadline) known contact) c.past → LookedBefore number c.starts prefix }
+{}
+
+/// Each reply and each closing of a step is legal in the cluster in which it is made.
+pub fn replies_are_legal()
+    ensures { (c c' : Cluster) (made : Event) (whole : Bool) (step : ClusterStep c made c' whole) → Sound c → StepIsLegal c made c' whole step }
+{}
+
+/// Each of the requests that were asked is in exactly one place: held, in an out that nobody has taken, or taken. No
+/// other number is anywhere.
+pub fn none_is_lost()
+    ensures once { (c : Cluster) → Sound c → (k : ℕ) → 0 < k → k ≤ c.asked → found k c ≡ 1 }
+    ensures none { (c : Cluster) → Sound c → (k : ℕ) → c.asked < k → found k c ≡ 0 }
+{}
+
+/// A reply that nobody has taken is that of its mark, and shows what the agreed log holds. A request is closed only
+/// where a server restarted, in the event of that number.
+pub fn outs_are_sound()
+    ensures { (c : Cluster) → Sound c → (o : Out) → IsAmong o c.tray → OutIsSound c.world c.past o }
+{}
+
+/// A request is answered at most once, and not while it is held.
+pub fn requests_are_answered_once()
+    ensures once { (c : Cluster) → Sound c → (k : ℕ) → answers_in k c.past ≤ 1 }
+    ensures held { (c : Cluster) → Sound c → Each (λ (h : Pending). answers_in h.question.number c.past ≡ 0) c.held }
+{}
+
+/// A request that is one is never refused as if it were none, and one that is none gets just the refusal that it came
+/// with. Leadership is lost by writes and consistent reads alone, only reads find too many waiting, and only writes find
+/// the log full.
+pub fn refusals_fit_their_requests()
+    ensures good { (q : Question) (request : Request) (field : List ℕ) (log : Log) → q.asked ≡ Good request → Lasting q (Refused (Invalid field)) log → ⊥ }
+    ensures bad { (q : Question) (why other : Refusal) (log : Log) → q.asked ≡ Bad why → Lasting q (Refused other) log → other ≡ why }
+    ensures lost { (q : Question) (query : Query) (mode : Mode) (least wait : ℕ) (raw : Bool) (old found : ℕ) (log : Log) → mode ≢ Consistent → q.asked ≡ Good (Read query mode least wait raw) → Lasting q (Refused (Lost old found)) log → ⊥ }
+    ensures crowded { (q : Question) (command : Command) (n : ℕ) (log : Log) → q.asked ≡ Good (Write command) → Lasting q (Refused (TooMany n)) log → ⊥ }
+    ensures full { (q : Question) (query : Query) (mode : Mode) (least wait : ℕ) (raw : Bool) (entries bytes : ℕ) (log : Log) → q.asked ≡ Good (Read query mode least wait raw) → Lasting q (Refused (LogFull entries bytes)) log → ⊥ }
+{}
+
+/// Where nothing is due at a running server, each request held there waits for what it must: its position is not
+/// applied, its round is not confirmed with its commit applied, or its index is not above the one given and its time
+/// is not over.
+pub fn held_requests_wait()
+    ensures { (c : Cluster) → Sound c → (i : ℕ) → due i c ≡ None → (node_of c.world i).halted ≡ false → Each (λ (h : Pending). h.server ≡ i → StillWaits c i h h.stand) c.held }
+{}
+
+/// Where nothing is due at a halted server, it holds no request.
+pub fn halted_servers_hold_none()
+    ensures { (c : Cluster) (i : ℕ) → due i c ≡ None → (node_of c.world i).halted ≡ true → Each (λ (h : Pending). h.server ≡ i → ⊥) c.held }
+{}
+
+/// Where each event of a run was whole, no server is behind.
+pub fn whole_runs_leave_none_behind()
+    ensures { (start : Cluster) → IsStart start → (moves : List Move) (c : Cluster) → Reached start true moves c → (i : ℕ) → due i c ≡ None }
+{}
+
+/// The marks of a run, taken as moves, are the moves that lead from its start to its end.
+#[tactic(auto, using(crate::proofs::Marks::marks_are_moves))]
+pub fn marks_lead()
+    ensures { (start : Cluster) → IsStart start → (whole : Bool) (moves : List Move) (c : Cluster) → Reached start whole moves c → moves_of c.past ≡ moves }
+{}
+
+/// Whole pairs of a delivery and the same message's loss, the message of the lowest number first, are moves of the run
+/// that end in as many pairs more.
+pub fn settling_makes_pairs()
+    ensures { (start : Cluster) (whole : Bool) (n m : ℕ) (moves : List Move) (c c' : Cluster) → Reached start whole moves c → EndInPairs m moves → Settling n c c' →
+        (moves' : List Move) × Reached start whole moves' c' × EndInPairs (n + m) moves' }
+{}
+
+/// A server's durable store counts no fewer failures than there are marks of its halts.
+pub fn halts_are_counted()
+    ensures { (start : Cluster) → IsStart start → (whole : Bool) (moves : List Move) (c : Cluster) → Reached start whole moves c → (i : ℕ) → min (halts_in i c.past) (2 ^ 64 - 1) ≤ (node_of c.world i).store.faults }
+{}
+
+/// Each server has applied a front of the agreed log, up to its commit at most, and has its clock at each position; the
+/// marks tell the agreed log.
+pub fn servers_apply_fronts()
+    ensures front { (c : Cluster) → Sound c → (i : ℕ) → applied_of c i ≡ take (length (applied_of c i)) c.world.agreed }
+    ensures within { (c : Cluster) → Sound c → (i : ℕ) → length (applied_of c i) ≤ (node_of c.world i).commit }
+    ensures clocks { (c : Cluster) → Sound c → (i : ℕ) → length (server_of c.servers i).clocks ≡ length (applied_of c i) }
+    ensures entries { (c : Cluster) → Sound c → entered_in c.past ≡ c.world.agreed }
+{}
+
+/// Whatever is done of what is due at a server leaves less to do there, so making up comes to an end.
+pub fn works_leave_less()
+    ensures { (c : Cluster) → Ascends c.held → (i : ℕ) → 0 < i → i ≤ length c.servers → (node_of c.world i).commit ≤ length (node_of c.world i).log →
+        (w : Work) → IsDue i c w → left i (did i w c) < left i c }
+{}
+
+/// Nobody leads or stands for election in term 0.
+pub fn leaders_have_terms()
+    ensures { (w : World) → IsReached w → (i : ℕ) → ((node_of w i).role ≡ Follower) ⊎ (0 < (node_of w i).term) }
+{}
+
+/// One server is elected, a key is set and read: the definitions compute this run.
+#[tactic(auto, using(crate::proofs::Rows::put_and_get))]
+pub fn smallest_run()
+    ensures { PutAndGet }
+{}
+
+/// Three servers: a read before any election finds no leader, and one at a leader that has applied nothing of its term
+/// finds it not ready.
+#[tactic(auto, using(crate::proofs::ThreeServers::not_ready_run))]
+pub fn no_leader_then_not_ready()
+    ensures { NotReadyRun }
+{}
+
+/// A read that waits is answered unchanged once its full wait is over.
+#[tactic(auto, using(crate::proofs::FullWait::full_wait_run))]
+pub fn unchanged_after_the_full_wait()
+    ensures { FullWaitRun }
+{}
+
+/// Three servers: a write is answered that its leadership was lost, since another leader's entry stands at its place.
+#[tactic(auto, using(crate::proofs::LostWrite::lost_write_run))]
+pub fn a_write_is_lost()
+    ensures { LostWriteRun }
+{}
+
+/// A server whose durable store fails at a write refuses what it holds and what comes, until it restarts.
+#[tactic(auto, using(crate::proofs::StoreFails::store_fails_run))]
+pub fn a_failed_store_halts()
+    ensures { StoreFailsRun }
+{}
+
+/// A consistent read is answered once its round is confirmed.
+#[tactic(auto, using(crate::proofs::ConsistentRead::consistent_run))]
+pub fn a_consistent_read_has_its_round()
+    ensures { ConsistentRun }
+{}
