@@ -1,0 +1,6 @@
+//! The world of all servers of Raft (the extended paper of Ongaro and Ousterhout): the messages on their way, and the
+//! log that is agreed.
+#![tactic(auto)]
+
+pub mod bag;
+pub mod weight;
