@@ -4,3 +4,4 @@
 
 pub mod bag;
 pub mod weight;
+pub mod fronts;
