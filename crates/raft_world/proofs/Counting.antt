@@ -1,12 +1,10 @@
 -- Bytes counted onto a total.
-use Rattle.std.proofs.Common.{◌≡◌, ℕ, zero, suc, ◌+◌, ◌-◌, ◌*◌, ◌/◌, ◌%◌, ◌^◌, ◌<◌, ◌≤◌, min, List, [], ◌∷◌, ◌++◌, length, take, get_or, refl, sym, ap, ◌∙◌, arith, length-append, add-one}
+use Rattle.std.proofs.Common.{◌≡◌, ℕ, zero, suc, ◌+◌, ◌*◌, ◌/◌, ◌^◌, ◌<◌, ◌≤◌, List, [], ◌∷◌, length, take, get_or, refl, ap, arith, add-one}
 use Rattle.std.proofs.Math.Nat.{pow-suc}
 use Rattle.cat_model.specs.declared.command.Entry.{Entry}
 use Rattle.raft_model.specs.Limits.{command_bytes, entries_bytes}
-
 use Rattle.cat_model.specs.Spelling.{number_within}
 use Rattle.cat_model.proofs.SpellingFields.{low_byte, high_byte, number_end}
-use Rattle.raft_world.specs.Weights.{capped}
 
 -- the bytes so far of a number, and what is left of it, which so many more bytes hold
 pub record Going (count n rest : ℕ) : Type 0 where

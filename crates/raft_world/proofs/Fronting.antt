@@ -11,7 +11,7 @@ use Rattle.raft_model.specs.declared.message.Message.TheVariants.{Append, AskVot
 use Rattle.raft_model.specs.declared.message.Sent.{Sent}
 use Rattle.raft_model.specs.Limits.{is_full, keeps_limits}
 use Rattle.raft_model.specs.Log.{Log, accepted, merged}
-use Rattle.raft_model.specs.Node.{Node, Store, last, quiet, reply}
+use Rattle.raft_model.specs.Node.{Node, last, quiet, reply}
 use Rattle.raft_model.specs.Quorum.{is_majority, members}
 use Rattle.raft_model.specs.Rules.{accepts, Beat, Input, Probe, Propose, Receive, Timeout, after_yes, agreed_to, append_all, appended, ask_all, beats, candidate, counted, declined, does, done, follows, has_room, is_refused, is_up_to_date, keeps_front, leading, leads, matches, may_vote, noop, noted, of_lower_term, of_own_term, offered, probes, proposal, proposes, received, risen, stands, term_of, timed_out, voted, with_commit, with_voter, asked}
 use Rattle.raft_model.specs.Step.{Outcome, Works, VoteFails, LogFails, Forgets, NodeStep}
@@ -89,9 +89,9 @@ module _ (x : Log) where
       (reply (record (follows n from) { log = accepted n.log prev es; commit = max n.commit (min commit (prev + length es)) }) from (Yes n.term (prev + length es) round))).node)
       (is_refused n (accepted n.log prev es)) (λ _. f)
       (λ e.
-        let within = longer_length x n.log f.1 in
-        let keeps = not_tells (keeps_front n.commit n.log (accepted n.log prev es)) (or_false (not (keeps_limits (accepted n.log prev es))) (not (keeps_front n.commit n.log (accepted n.log prev es))) e).1 in
-        (omega (arith, f.0), accepted_keeps (length x) n.log prev es within (keeps_less (length x) n.commit n.log (accepted n.log prev es) f.0 keeps) ∙ f.1))
+      let within = longer_length x n.log f.1 in
+      let keeps = not_tells (keeps_front n.commit n.log (accepted n.log prev es)) (or_false (not (keeps_limits (accepted n.log prev es))) (not (keeps_front n.commit n.log (accepted n.log prev es))) e).1 in
+      (omega (arith, f.0), accepted_keeps (length x) n.log prev es within (keeps_less (length x) n.commit n.log (accepted n.log prev es) f.0 keeps) ∙ f.1))
 
   offered_kept : (n : Node) (r : Role) (from prev pt : ℕ) (es : Log) (commit round : ℕ) → HasFront x n → HasFront x (offered n r from prev pt es commit round).node
   unfolding offered

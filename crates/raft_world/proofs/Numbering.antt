@@ -1,11 +1,10 @@
 -- Messages in the order of their numbers: where a number stands, and what is left without it.
-use Rattle.std.proofs.Common.{◌≡◌, ◌≢◌, ℕ, zero, suc, ◌+◌, ◌-◌, ◌<◌, ◌≤◌, ◌==◌, Bool, true, false, if◌then◌else◌, List, [], ◌∷◌, ◌++◌, length, take, drop, get_or, refl, sym, ap, ◌∙◌, arith, Option, Some, None, IsSome, inl, inr, subst, ◌^◌, ◌⊎◌, Bor}
+use Rattle.std.proofs.Common.{◌≡◌, ◌≢◌, ℕ, zero, suc, ◌+◌, ◌-◌, ◌<◌, ◌≤◌, ◌==◌, true, false, if◌then◌else◌, List, [], ◌∷◌, ◌++◌, length, get_or, refl, sym, ap, ◌∙◌, arith, Option, Some, None, IsSome, subst, ◌^◌, ◌⊎◌, Bor}
 use Rattle.std.specs.List.{remove}
 use Rattle.std.proofs.lemmas.List.{get_or_default}
 use Rattle.raft_world.specs.Weights.{capped}
 use Rattle.std.specs.List.Sorted.{IsNonDecreasingBy}
 use Rattle.std.proofs.lemmas.Bool.Decides.{nat_tests}
-use Rattle.raft_model.specs.declared.message.Message.{Message}
 use Rattle.std.specs.Prelude.{IfSome}
 use Rattle.std.specs.Option.{option_copied}
 use Rattle.raft_model.specs.declared.message.Sent.{Sent}
@@ -99,7 +98,7 @@ lowest_first last p ps r = (
   λ j some. (elim (p.number == j) as (λ b. (p.number == j) ≡ b → IsSome (if b then Some p else numbered j ps) → p.number ≤ j) [
     | true ↦ λ is e. grind (arith, nat_tests)
     | false ↦ λ is e. let ih = above j p.number last ps r.1 e in omega arith
-  ]) refl some
+  ]) refl some,
 )
 
 pub found : (k : ℕ) (ps : List Packet) (at : ℕ) (r : Option (Bor Packet)) → HasPlace k ps at → IfSome r (λ x. x.now ≡ get_or ps at x.now) → IsSome r → option_copied r ≡ numbered k ps

@@ -2,6 +2,7 @@
 //! log that is agreed.
 #![tactic(auto)]
 
+pub mod agreed;
 pub mod bag;
+pub mod laws;
 pub mod weight;
-pub mod fronts;

@@ -1,6 +1,4 @@
-use Rattle.std.proofs.Common.{◌≡◌, ◌+◌, ap, sym, ◌∙◌, arith}
-use Rattle.raft_model.specs.Limits.{command_bytes, entries_bytes}
-use Rattle.raft_world.specs.Weights.{capped}
+use Rattle.std.proofs.Common.{arith}
 use Rattle.raft_world.proofs.Counting.{entries_more}
 use Rattle.raft_world.proofs.weight.add_entries.Goals as goal
 

@@ -1,4 +1,4 @@
-use Rattle.std.proofs.Common.{◌+◌, ap, sym, ◌∙◌, arith}
+use Rattle.std.proofs.Common.{◌+◌, ap, ◌∙◌, arith}
 use Rattle.raft_world.specs.Weights.{capped}
 use Rattle.raft_world.proofs.Counting.{start, goes_on, ends}
 use Rattle.raft_world.proofs.weight.add_number.Goals as goal

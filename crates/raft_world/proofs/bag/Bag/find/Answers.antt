@@ -1,5 +1,4 @@
-use Rattle.std.proofs.Common.{◌≡◌, ◌∙◌, sym, ap, arith}
-use Rattle.raft_model.specs.World.{numbered}
+use Rattle.std.proofs.Common.{arith}
 use Rattle.raft_world.proofs.Numbering.{non_decreasing, found}
 use Rattle.raft_world.proofs.bag.Bag.find.Goals as goal
 

@@ -1,4 +1,4 @@
-use Rattle.std.proofs.Common.{◌≡◌, refl, arith}
+use Rattle.std.proofs.Common.{refl, arith}
 use Rattle.raft_world.proofs.Numbering.{lowest_at}
 use Rattle.raft_world.proofs.bag.Bag.lowest.Goals as goal
 

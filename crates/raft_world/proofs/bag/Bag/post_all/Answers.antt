@@ -1,4 +1,4 @@
-use Rattle.std.proofs.Common.{◌≡◌, ◌∙◌, sym, ap}
+use Rattle.std.proofs.Common.{◌∙◌, sym, ap}
 use Rattle.raft_model.specs.World.{posted}
 use Rattle.raft_world.proofs.Numbering.{posted_more}
 use Rattle.raft_world.proofs.bag.Bag.post_all.Goals as goal
