@@ -5,4 +5,6 @@
 pub mod agreed;
 pub mod bag;
 pub mod laws;
+#[cfg(test)]
+mod tests;
 pub mod weight;
