@@ -1,0 +1,4 @@
+pub mod Weights
+pub mod Packets
+pub mod Fronts
+pub mod Agreeing

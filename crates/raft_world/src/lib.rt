@@ -1,0 +1,10 @@
+//! The world of all servers of Raft (the extended paper of Ongaro and Ousterhout): the messages on their way, and the
+//! log that is agreed.
+#![tactic(auto)]
+
+pub mod agreed;
+pub mod bag;
+pub mod laws;
+#[cfg(test)]
+mod tests;
+pub mod weight;
