@@ -4,3 +4,4 @@ pub mod Writes
 pub mod Removals
 pub mod Commands
 pub mod Keeping
+pub mod Trees

@@ -1,5 +1,5 @@
 -- What the commands on keys do to the table of keys.
-use Rattle.std.specs.Prelude.{◌≡◌, ℕ, ◌<◌, Bool, true, false, not, ◌&&◌, List, ◌∷◌, Option, is_some}
+use Rattle.std.specs.Prelude.{◌≡◌, ℕ, ◌<◌, Bool, true, false, not, ◌&&◌, List, ◌∷◌, Option, is_some, []}
 use Rattle.std.specs.List.{AllByRecursion}
 use Rattle.cat_model.specs.Machine.{act}
 use Rattle.cat_model.specs.Indexes.{is_reap}
@@ -26,7 +26,7 @@ is_on_keys (KvLock key flags value session) = false
 is_on_keys (KvUnlock key flags value session) = false
 is_on_keys (KvDelete key) = true
 is_on_keys (KvDeleteCas key index) = true
-is_on_keys (KvDeleteTree prefix) = false
+is_on_keys (KvDeleteTree prefix) = true
 is_on_keys (Txn ops) = false
 is_on_keys (SessionCreate id name node checks behavior delay_ms ttl_ms) = false
 is_on_keys (SessionDestroy id) = false
@@ -66,3 +66,18 @@ pub record Buries (key : List ℕ) (position : ℕ) (old new : KvVersions) : Typ
 -- a row that a check-and-delete at this index leaves there
 abbrev pub is_refused : ℕ → Option KvRow → Bool
 is_refused index row = is_some row && not (index_fits index row)
+
+-- the rows of all these keys are gone, and each key has a tombstone
+abbrev pub without_each : List (List ℕ) → List KvRow → List KvRow
+without_each [] rows = rows
+without_each (key ∷ keys) rows = without_each keys (kv_delete key rows)
+
+abbrev pub graves : ℕ → List (List ℕ) → List (List ℕ × ℕ) → List (List ℕ × ℕ)
+graves position [] tombs = tombs
+graves position (key ∷ keys) tombs = (key, position) ∷ graves position keys tombs
+
+pub record BuriesEach (keys : List (List ℕ)) (position : ℕ) (old new : KvVersions) : Type 0 where
+  pub rows : new.now.rows ≡ without_each keys old.now.rows
+  pub tombs : SameTombs (graves position keys old.now.tombs) new.now.tombs
+  pub floor : new.now.floor ≡ old.now.floor
+  pub before : new.before ≡ old.before

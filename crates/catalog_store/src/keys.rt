@@ -1,6 +1,6 @@
 //! The commands on keys, with the channels that they fire.
 
-ghost use Rattle.std.specs.Prelude.{◌≡◌, [], ◌∷◌, IfOk, OnOk, true, not, is_some};
+ghost use Rattle.std.specs.Prelude.{◌≡◌, [], ◌∷◌, IfOk, OnOk, true, not, is_some, map};
 ghost use Rattle.std.specs.Option.{option_copied};
 ghost use Rattle.cat_model.specs.Keys.{text_cmp};
 ghost use Rattle.cat_model.specs.Tables.{Ascends};
@@ -8,7 +8,7 @@ ghost use Rattle.cat_model.specs.Catalog.{kv_at, kv_key};
 ghost use Rattle.cat_model.specs.Kv.{holder, locks, written, index_fits, kv_set, kv_delete, kv_delete_tree};
 ghost use Rattle.cat_model.specs.declared.command.Command.TheVariants.{Noop, KvSet, KvCas, KvDelete, KvDeleteCas, KvDeleteTree, Reap};
 ghost use Rattle.kv_table.specs.States.{SameTombs};
-ghost use Rattle.catalog_store.specs.Steps.{is_on_keys, Earlier, Moves, KeyStep, Buries, is_refused};
+ghost use Rattle.catalog_store.specs.Steps.{is_on_keys, Earlier, Moves, KeyStep, Buries, BuriesEach, is_refused};
 
 use cat_model::{Applied, Bytes, Chan, Command, KvRow, List, Memory, Text};
 use kv_table::KvTable;
@@ -221,6 +221,45 @@ pub(crate) fn check_and_remove(
     Ok((Applied::Yes, chans))
 }
 
+// Removes the rows of these keys.
+fn bury_each(table: &mut KvTable, position: u64, keys: &[Text]) -> Result<(), Memory>
+    ensures ok { OnOk result (BuriesEach keys.now position table.old table.new) }
+    ensures before { table.new.before ≡ table.old.before }
+{
+    for key in keys {
+        bury(table, position, key)?;
+    }
+    Ok(())
+}
+
+// The channels of these keys.
+fn chans_of(alloc: Global, keys: &[Text]) -> Result<List<Chan>, Memory>
+    ensures { IfOk result (λ l. l ≡ map (λ key. Chan.Key key) keys.now) }
+{
+    let mut chans = List::new(alloc);
+    for key in keys {
+        let chan = Chan::Key(key.clone()?);
+        chans.push(chan)?;
+    }
+    Ok(chans)
+}
+
+/// Removes the keys that begin with the prefix.
+pub(crate) fn remove_tree(
+    alloc: Global,
+    table: &mut KvTable,
+    position: u64,
+    prefix: &Text,
+) -> Result<(Applied, List<Chan>), Memory>
+    ensures step { IfOk result (λ d. KeyStep position (KvDeleteTree prefix.now) table.old table.new d.0 d.1) }
+    ensures before { table.new.before ≡ table.old.before }
+{
+    let keys = table.names(alloc, prefix.as_str())?;
+    let chans = chans_of(alloc, keys.as_slice())?;
+    bury_each(table, position, keys.as_slice())?;
+    Ok((Applied::Yes, chans))
+}
+
 /// Forgets at which positions keys were removed.
 pub(crate) fn reap(
     alloc: Global,
@@ -277,6 +316,7 @@ pub(crate) fn apply(
         Command::KvDeleteCas { key, index } => {
             check_and_remove(alloc, table, position, key, *index)
         }
+        Command::KvDeleteTree { prefix } => remove_tree(alloc, table, position, prefix),
         Command::Reap => reap(alloc, table, position),
         _ => unreachable!(),
     }

@@ -3,5 +3,7 @@
 
 mod keys;
 mod store;
+#[cfg(test)]
+mod tests;
 
 pub use store::Store;
