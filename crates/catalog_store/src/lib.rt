@@ -3,7 +3,5 @@
 
 mod keys;
 mod store;
-#[cfg(test)]
-mod tests;
 
 pub use store::Store;
