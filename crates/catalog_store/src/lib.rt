@@ -1,0 +1,7 @@
+//! The tables of the catalog together with the log that they stand for.
+#![tactic(auto)]
+
+mod keys;
+mod store;
+
+pub use store::Store;
