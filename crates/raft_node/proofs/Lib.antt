@@ -2,3 +2,4 @@ mod Terms
 mod Standing
 mod Commits
 mod Batches
+mod Windows
