@@ -1,13 +1,14 @@
 -- A node as its parts: its store, its log, and its state, which is all else. And what a step plans of them, before its
 -- store calls are made.
-use Rattle.std.specs.Prelude.{◌≡◌, ◌≢◌, ℕ, ◌+◌, ◌-◌, ◌^◌, ◌≤◌, min, Bool, true, false, [], ◌∷◌, ◌++◌, length, take, Option, Some, None}
+use Rattle.std.specs.Prelude.{◌≡◌, ◌≢◌, ℕ, ◌≤◌, true, false, ◌++◌, length, take, Option, Some, None}
 use Rattle.std.specs.Option.{ForSome}
-use Rattle.cat_model.specs.LogLimits.{keeps_limits, log_bytes}
+use Rattle.cat_model.specs.LogLimits.{keeps_limits}
 use Rattle.cat_model.specs.declared.command.Entry.{Entry}
 use Rattle.cat_model.specs.declared.reply.Role.TheVariants.{Follower}
 use Rattle.raft_model.specs.Log.{Log}
 use Rattle.raft_model.specs.Node.{Kept, Store, Node, Done}
 use Rattle.raft_model.specs.Rules.{append_all, appended, candidate, stands}
+use Rattle.raft_node.specs.Counts.{IsCount}
 use Rattle.raft_node.specs.declared.counted.Counted.{Counted}
 use Rattle.raft_node.specs.declared.state.State.{State}
 use Rattle.raft_node.specs.declared.state.Tail.{Tail}
@@ -75,14 +76,9 @@ pub record HoldsLog (state : State) (log : Log) (kept : Kept) : Type 0 where
   pub limits : keeps_limits kept.log ≡ true
   pub same : state.halted ≡ false → kept.log ≡ log
 
--- command bytes as they are counted
-abbrev pub bytes_of : Log → ℕ
-bytes_of log = min (log_bytes log) (2 ^ 64 - 1)
-
 -- What always holds of a node's parts.
-pub record IsKept (held : Option Kept) (state : State) (log : Log) (counted : Counted) : Type 0 where
+pub record IsKept (held : Option Kept) (state : State) (log : Log) (count : Counted) : Type 0 where
   pub commit : state.commit ≤ length log
   pub halted : state.halted ≡ true → state.role ≡ Follower
   pub store : ForSome held (HoldsLog state log)
-  pub within : counted.entries ≤ length log
-  pub bytes : counted.bytes ≡ bytes_of (take counted.entries log)
+  pub counted : IsCount log count

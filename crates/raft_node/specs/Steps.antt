@@ -1,12 +1,12 @@
 -- What becomes of a node whose step was planned, as its store calls go.
-use Rattle.std.specs.Prelude.{◌≡◌, ◌+◌, ◌⊎◌, List, [], Bool, true, false}
+use Rattle.std.specs.Prelude.{◌≡◌, ℕ, ◌+◌, ◌⊎◌, List, [], Bool, true, false, Option}
 use Rattle.raft_model.specs.declared.message.Sent.{Sent}
+use Rattle.raft_model.specs.Log.{Log}
 use Rattle.raft_model.specs.Node.{Kept, Store, Node, Done}
 use Rattle.raft_model.specs.Rules.{Input}
-use Rattle.raft_model.specs.Step.{CallWorks, CallFails, SavesVote, HasVoteOf, StoresLog, VoteSaved, LogStored, Outcome, Works, VoteFails, LogFails, Forgets, NodeStep, halts, forgets, with_vote, with_log}
+use Rattle.raft_model.specs.Step.{CallWorks, CallFails, SavesVote, StoresLog, VoteSaved, LogStored, Outcome, Works, VoteFails, LogFails, Forgets, NodeStep, halts, forgets, with_vote, with_log}
 use Rattle.cat_model.specs.Keeping.{with_entries}
 use Rattle.raft_node.specs.declared.state.State.{State}
-use Rattle.raft_node.specs.declared.state.Tail.{Tail}
 
 -- as `NodeStep`, with what is done
 abbrev pub Becomes : Outcome → Node → Done → Node → List Sent → Type 0
@@ -40,7 +40,29 @@ Steps old input new sent = NodeStep Works old input new sent ⊎ (NodeStep VoteF
 abbrev pub FindsNoMemory : Node → Input → Node → Type 0
 FindsNoMemory old input new = (new ≡ old) ⊎ NodeStep Forgets old input new []
 
--- term and vote were saved, or had not changed
+-- a store that holds this, where it tells, with these numbers
+abbrev pub stored : Option Kept → ℕ → ℕ → Store
+stored held armed faults = record { contents = held; armed = armed; faults = faults }
+
+abbrev pub IsSameVote : State → State → Type 0
+IsSameVote old new = (new.term ≡ old.term) × (new.vote ≡ old.vote)
+
+-- term and vote had changed and were saved, or had not
 abbrev pub VoteKept : Bool → State → State → Store → Store → Type 0
-VoteKept true old new before now = (¬ ((new.term ≡ old.term) × (new.vote ≡ old.vote))) × CallWorks (with_vote new.term new.vote) before now
-VoteKept false old new before now = ((new.term ≡ old.term) × (new.vote ≡ old.vote)) × (now ≡ before)
+VoteKept true old new before now = (¬ IsSameVote old new) × CallWorks (with_vote new.term new.vote) before now
+VoteKept false old new before now = IsSameVote old new × (now ≡ before)
+
+-- term and vote had changed, and the call that was to save them failed
+abbrev pub VoteFailed : State → State → Store → Store → Type 0
+VoteFailed old new before now = (¬ IsSameVote old new) × CallFails (with_vote new.term new.vote) before now
+
+-- the vote was kept, and then the log was stored from behind its first `keep` entries on
+abbrev pub IsStored : State → State → ℕ → Log → Store → Store → Type 0
+IsStored old new keep entries before now =
+    (saved : Bool) × (between : Store) × VoteKept saved old new before between × CallWorks (with_entries (keep + 1) entries) between now
+
+-- one of the calls failed
+abbrev pub IsFailed : State → State → ℕ → Log → Store → Store → Type 0
+IsFailed old new keep entries before now =
+    VoteFailed old new before now
+    ⊎ ((saved : Bool) × (between : Store) × VoteKept saved old new before between × CallFails (with_entries (keep + 1) entries) between now)

@@ -26,12 +26,7 @@ fn front(alloc: Global, entries: &[Entry], most: usize) -> Result<List<Entry>, M
 }
 
 // Copies of the entries behind index `prev` of a log with more entries behind it, as many as an Append may carry.
-fn window(
-    alloc: Global,
-    log: &[Entry],
-    more: &[Entry],
-    prev: u64,
-) -> Result<Vec<Entry>, Memory>
+fn window(alloc: Global, log: &[Entry], more: &[Entry], prev: u64) -> Result<Vec<Entry>, Memory>
     ensures { IfOk result (λ window. window.items ≡ take 64 (drop prev (log.now ++ more.now))) }
 {
     let start = prev.min(log.len() as u64);
@@ -57,12 +52,7 @@ fn term_at(log: &[Entry], more: &[Entry], index: u64) -> u64
 }
 
 // The entries of an Append behind index `prev`.
-fn carried(
-    alloc: Global,
-    log: &[Entry],
-    more: &[Entry],
-    prev: u64,
-) -> Result<List<Entry>, Memory>
+fn carried(alloc: Global, log: &[Entry], more: &[Entry], prev: u64) -> Result<List<Entry>, Memory>
     ensures { IfOk result (λ carried. carried ≡ batch (drop prev (log.now ++ more.now))) }
 {
     let mut entries = window(alloc, log, more, prev)?;

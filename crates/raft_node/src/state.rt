@@ -1,6 +1,7 @@
 //! What a node knows beside its log and its store, and what a step plans of all three.
 
-ghost use Rattle.std.specs.Prelude.{◌≡◌, IfOk};
+ghost use Rattle.std.specs.Prelude.{◌≡◌, true, None, IfOk};
+ghost use Rattle.cat_model.specs.declared.reply.Role.TheVariants.{Follower};
 
 use cat_model::{Entry, List, Memory, Role};
 use raft_model::Sent;
@@ -72,5 +73,24 @@ impl State {
             acked: copied(alloc, &self.acked)?,
             ..*self
         })
+    }
+
+    /// A store call failed: no step is made until a restart.
+    pub fn halt(&mut self)
+        ensures { self.new ≡ record self.old { role = Follower; leader = None; halted = true } }
+    {
+        self.role = Role::Follower;
+        self.leader = None;
+        self.halted = true;
+    }
+
+    /// Term and vote were saved, and then there was no memory.
+    pub fn forget(&mut self, term: u64, vote: Option<u32>)
+        ensures { self.new ≡ record self.old { term = term; vote = vote; role = Follower; leader = None } }
+    {
+        self.term = term;
+        self.vote = vote;
+        self.role = Role::Follower;
+        self.leader = None;
     }
 }
