@@ -3,3 +3,4 @@ mod Standing
 mod Commits
 mod Batches
 mod Windows
+mod Leads

@@ -1,8 +1,8 @@
 //! Becoming a leader, and a leader's new entries.
 
-ghost use Rattle.std.specs.Prelude.{◌≡◌, ℕ, IfOk, true, ◌∷◌, ◌++◌, [], length, replicate};
+ghost use Rattle.std.specs.Prelude.{◌≡◌, ◌==◌, cond, IfOk, true, ◌∷◌, ◌++◌, [], replicate};
 ghost use Rattle.cat_model.specs.LogLimits.{keeps_limits};
-ghost use Rattle.raft_model.specs.Rules.{leads, noop};
+ghost use Rattle.raft_model.specs.Rules.{leads};
 ghost use Rattle.raft_node.specs.Nodes.{Plans, appends};
 
 use crate::sending::append_all;
@@ -22,6 +22,13 @@ fn for_all(alloc: Global, servers: u32, number: u64) -> Result<Vec<u64>, Memory>
     Ok(numbers)
 }
 
+// The commit of a leader that appended its entry of this index. A single server has a majority.
+fn commit_of(servers: u32, commit: u64, last: u64) -> u64
+    ensures { result ≡ cond (servers == 1) last commit }
+{
+    if servers == 1 { last } else { commit }
+}
+
 /// A leader with this state and log appends the entry and sends Append to all others. A single server commits it.
 pub fn appends(
     alloc: Global,
@@ -32,9 +39,7 @@ pub fn appends(
     requires limits { keeps_limits log.now ≡ true → keeps_limits (log.now ++ entry ∷ []) ≡ true }
     ensures { IfOk result (Plans (appends entry) state log.now) }
 {
-    if state.servers == 1 {
-        state.commit = log.len() as u64 + 1;
-    }
+    state.commit = commit_of(state.servers, state.commit, log.len() as u64 + 1);
     let mut entries = List::new(alloc);
     entries.push(entry)?;
     let sent = append_all(alloc, &state, log, entries.as_slice())?;

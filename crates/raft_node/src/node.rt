@@ -3,7 +3,6 @@
 ghost use Rattle.std.specs.Prelude.{◌≡◌, length};
 ghost use Rattle.std.specs.Option.{option_map};
 ghost use Rattle.raft_model.specs.Log.{entry_at};
-ghost use Rattle.raft_model.specs.Rules.{is_confirmed};
 ghost use Rattle.raft_model.specs.Step.{arms};
 
 use crate::counted::Counted;
@@ -90,8 +89,13 @@ impl<K: Keeper> Node<K> {
     pub fn entry(&self, index: u64) -> Option<&Entry>
         ensures { option_map (λ entry. entry.now) result ≡ entry_at index self.now.log }
     {
-        let place = usize::try_from(index).ok()?.checked_sub(1)?;
-        self.log.as_slice().get(place)
+        if index == 0 {
+            return None;
+        }
+        if index > self.log.len() as u64 {
+            return None;
+        }
+        Some(&self.log.as_slice()[(index - 1) as usize])
     }
 
     /// The index of the last entry.
