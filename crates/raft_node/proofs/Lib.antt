@@ -4,3 +4,4 @@ mod Commits
 mod Batches
 mod Windows
 mod Leads
+mod Made
