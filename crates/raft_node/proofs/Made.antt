@@ -171,3 +171,30 @@ forgets_kept s s' st st' log count r k v = record {
   store = λ kept e. told_runs st (record st { term = st'.term; vote = st'.vote; role = Follower; leader = None }) log kept r (vote_told st st' log true s s' r k.store v kept e);
   counted = k.counted;
 }
+
+-- the same of a node that is those parts, and of what is only equal
+pub log_makes : (n : Node) (s s' : Store) (st st' : State) (log log' : Log) (tail : Tail) (sent : List Sent) → seen s st log ≡ n → st.halted ≡ false → ForSome s.contents (HoldsLog st log) → MayReplace n.log tail →
+    log' ≡ take tail.keep log ++ tail.entries → IsStored st st' tail.keep tail.entries s s' →
+    Makes n (record { node = seen n.store st' (take tail.keep n.log ++ tail.entries); sent = sent }) (seen s' st' log') sent
+log_makes n s s' st st' log log' tail sent e r h m l i =
+    subst (λ (x : Node). MayReplace x.log tail → Makes x (record { node = seen x.store st' (take tail.keep x.log ++ tail.entries); sent = sent }) (seen s' st' log') sent) e
+        (λ m. subst (λ (z : Log). Makes (seen s st log) (record { node = seen s st' (take tail.keep log ++ tail.entries); sent = sent }) (seen s' st' z) sent) (sym l) (log_made s s' st st' log tail sent r h m i)) m
+
+pub log_fails : (n : Node) (s s' : Store) (st st' new : State) (log log' : Log) (tail : Tail) (sent out : List Sent) → seen s st log ≡ n → st.halted ≡ false → ForSome s.contents (HoldsLog st log) → MayReplace n.log tail →
+    log' ≡ log → new ≡ halted_of st → out ≡ [] → IsFailed st st' tail.keep tail.entries s s' →
+    Makes n (record { node = seen n.store st' (take tail.keep n.log ++ tail.entries); sent = sent }) (seen s' new log') out
+log_fails n s s' st st' new log log' tail sent out e r h m l a o i =
+    subst (λ (x : Node). MayReplace x.log tail → Makes x (record { node = seen x.store st' (take tail.keep x.log ++ tail.entries); sent = sent }) (seen s' new log') out) e
+        (λ m. subst (λ (z : Log). Makes (seen s st log) (record { node = seen s st' (take tail.keep log ++ tail.entries); sent = sent }) (seen s' new z) out) (sym l)
+            (subst (λ (z : State). Makes (seen s st log) (record { node = seen s st' (take tail.keep log ++ tail.entries); sent = sent }) (seen s' z log) out) (sym a)
+                (subst (λ (z : List Sent). Makes (seen s st log) (record { node = seen s st' (take tail.keep log ++ tail.entries); sent = sent }) (seen s' (halted_of st) log) z) (sym o)
+                    (log_halts s s' st st' log tail sent r h m i)))) m
+
+pub log_saves_vote : (n : Node) (s s' : Store) (st st' new : State) (log log' : Log) (tail : Tail) (sent : List Sent) → seen s st log ≡ n → MayReplace n.log tail →
+    log' ≡ log → new ≡ record st { term = st'.term; vote = st'.vote; role = Follower; leader = None } → VoteKept true st st' s s' →
+    Remains n (record { node = seen n.store st' (take tail.keep n.log ++ tail.entries); sent = sent }) (seen s' new log')
+log_saves_vote n s s' st st' new log log' tail sent e m l a v =
+    subst (λ (x : Node). MayReplace x.log tail → Remains x (record { node = seen x.store st' (take tail.keep x.log ++ tail.entries); sent = sent }) (seen s' new log')) e
+        (λ m. subst (λ (z : Log). Remains (seen s st log) (record { node = seen s st' (take tail.keep log ++ tail.entries); sent = sent }) (seen s' new z)) (sym l)
+            (subst (λ (z : State). Remains (seen s st log) (record { node = seen s st' (take tail.keep log ++ tail.entries); sent = sent }) (seen s' z log)) (sym a)
+                (log_forgets s s' st st' log tail sent m v))) m
