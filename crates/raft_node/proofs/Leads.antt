@@ -30,7 +30,7 @@ noop_fits log term l k =
     let e = bytes_push log (noop term) in
     let n = length_push log (noop term) in
     and_is (nat_le (length (log ++ noop term ∷ [])) most_entries) (nat_le (log_bytes (log ++ noop term ∷ [])) most_bytes)
-        (le_is (length (log ++ noop term ∷ [])) most_entries (omega (arith, l, n))) (le_is (log_bytes (log ++ noop term ∷ [])) most_bytes (omega (arith, b, e)))
+    (le_is (length (log ++ noop term ∷ [])) most_entries (omega (arith, l, n))) (le_is (log_bytes (log ++ noop term ∷ [])) most_bytes (omega (arith, b, e)))
 
 -- the leader that has appended an entry
 appended_is : (store : Store) (state : State) (log : Log) (e : Entry) (commit : ℕ) → commit ≡ cond (state.servers == 1) (length log + 1) state.commit →
@@ -38,7 +38,7 @@ appended_is : (store : Store) (state : State) (log : Log) (e : Entry) (commit : 
 appended_is store state log e commit h =
     let new : Node = seen store state (log ++ e ∷ []) in
     at_bool (λ b. commit ≡ cond b (length log + 1) state.commit → seen store (record state { commit = commit }) (log ++ e ∷ []) ≡ cond b (record new { commit = last new }) new)
-        (state.servers == 1) (λ _ q. ap (λ c. record new { commit = c }) (q ∙ sym (length_push log e))) (λ _ q. ap (λ c. record new { commit = c }) q) h
+    (state.servers == 1) (λ _ q. ap (λ c. record new { commit = c }) (q ∙ sym (length_push log e))) (λ _ q. ap (λ c. record new { commit = c }) q) h
 
 whole : (log : Log) (e : Entry) → take (length log) log ++ e ∷ [] ≡ log ++ e ∷ []
 whole log e = ap (λ (z : Log). z ++ e ∷ []) (take_all (length log) log (omega arith))
@@ -50,7 +50,7 @@ pub appends_plan : (state : State) (log : Log) (e : Entry) (commit : ℕ) (entri
 unfolding appends
 appends_plan state log e commit entries more sent limits h a b s =
     subst (λ (es : Log). sent ≡ (append_all (seen nowhere (record state { commit = commit }) (log ++ es))).sent → Plans (appends e) state log (record { state = record state { commit = commit }; tail = Some (record { keep = length log; entries = es }); sent = sent }))
-        (sym a) go (s ∙ ap (λ (es : Log). (append_all (seen nowhere (record state { commit = commit }) (log ++ es))).sent) b)
+    (sym a) go (s ∙ ap (λ (es : Log). (append_all (seen nowhere (record state { commit = commit }) (log ++ es))).sent) b)
   where
     replaces : MayReplace log (record { keep = length log; entries = e ∷ [] })
     replaces = record {

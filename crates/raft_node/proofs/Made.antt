@@ -75,7 +75,7 @@ halts_with s s' st log count k h = record { commit = k.commit; halted = λ _. re
 pub vote_halts_kept : (s s' : Store) (st st' : State) (log : Log) (count : Counted) → IsKept s.contents st log count → VoteFailed st st' s s' → IsKept s'.contents (halted_of st) log count
 vote_halts_kept s s' st st' log count k v = halts_with s s' st log count k
     (told_maybe (HoldsLog st log) (HoldsLog (halted_of st) log) (with_vote st'.term st'.vote) s.contents s'.contents k.store (told_halts st log)
-        (λ q p. record { limits = p.limits; same = λ e. absurd (cc e) }) v.1.contents)
+    (λ q p. record { limits = p.limits; same = λ e. absurd (cc e) }) v.1.contents)
 
 -- what a running node asks of its store
 pub may_store : (held : Option Kept) (st : State) (log : Log) (tail : Tail) → st.halted ≡ false → ForSome held (HoldsLog st log) → MayReplace log tail → ForSome held (MayStore (tail.keep + 1) tail.entries)
@@ -120,20 +120,31 @@ pub log_made : (s s' : Store) (st st' : State) (log : Log) (tail : Tail) (sent :
     IsStored st st' tail.keep tail.entries s s' →
     Makes (seen s st log) (record { node = seen s st' (take tail.keep log ++ tail.entries); sent = sent }) (seen s' st' (take tail.keep log ++ tail.entries)) sent
 log_made s s' st st' log tail sent r h m (saved, between, v, w) =
-    inl (between, vote_is_saved st st' log (take tail.keep log ++ tail.entries) s between s saved v,
-        inr (m.changes, tail_works st log tail between s' r (vote_told st st' log saved s between r h v) w), refl, refl)
+    inl (
+      between,
+      vote_is_saved st st' log (take tail.keep log ++ tail.entries) s between s saved v,
+      inr (m.changes, tail_works st log tail between s' r (vote_told st st' log saved s between r h v) w),
+      refl,
+      refl,
+    )
 
 pub log_halts : (s s' : Store) (st st' : State) (log : Log) (tail : Tail) (sent : List Sent) → st.halted ≡ false → ForSome s.contents (HoldsLog st log) → MayReplace log tail →
     IsFailed st st' tail.keep tail.entries s s' →
     Makes (seen s st log) (record { node = seen s st' (take tail.keep log ++ tail.entries); sent = sent }) (seen s' (halted_of st) log) []
 log_halts s s' st st' log tail sent r h m (inl v) = inr (inl (v.0, v.1, refl, refl))
 log_halts s s' st st' log tail sent r h m (inr (saved, between, v, w)) =
-    inr (inr (between, vote_is_saved st st' log (take tail.keep log ++ tail.entries) s between s saved v, m.changes,
-        tail_fails st log tail between s' r (vote_told st st' log saved s between r h v) w, refl, refl))
+    inr (inr (
+      between,
+      vote_is_saved st st' log (take tail.keep log ++ tail.entries) s between s saved v,
+      m.changes,
+      tail_fails st log tail between s' r (vote_told st st' log saved s between r h v) w,
+      refl,
+      refl,
+    ))
 
 pub log_forgets : (s s' : Store) (st st' : State) (log : Log) (tail : Tail) (sent : List Sent) → MayReplace log tail → VoteKept true st st' s s' →
     Remains (seen s st log) (record { node = seen s st' (take tail.keep log ++ tail.entries); sent = sent })
-        (seen s' (record st { term = st'.term; vote = st'.vote; role = Follower; leader = None }) log)
+    (seen s' (record st { term = st'.term; vote = st'.vote; role = Follower; leader = None }) log)
 log_forgets s s' st st' log tail sent m v = inr (v.0, v.1, m.changes, refl, refl)
 
 -- what then always holds
@@ -161,7 +172,7 @@ pub log_halts_kept : (s s' : Store) (st st' : State) (log : Log) (tail : Tail) (
 log_halts_kept s s' st st' log tail count r m k (inl v) = vote_halts_kept s s' st st' log count k v
 log_halts_kept s s' st st' log tail count r m k (inr (saved, between, v, w)) = halts_with s s' st log count k
     (told_maybe (HoldsLog st log) (HoldsLog (halted_of st) log) (with_entries (tail.keep + 1) tail.entries) between.contents s'.contents (vote_told st st' log saved s between r k.store v)
-        (told_halts st log) (λ q p. record { limits = (tail_held st st log tail q r m p).limits; same = λ e. absurd (cc e) }) w.contents)
+    (told_halts st log) (λ q p. record { limits = (tail_held st st log tail q r m p).limits; same = λ e. absurd (cc e) }) w.contents)
 
 pub forgets_kept : (s s' : Store) (st st' : State) (log : Log) (count : Counted) → st.halted ≡ false → IsKept s.contents st log count → VoteKept true st st' s s' →
     IsKept s'.contents (record st { term = st'.term; vote = st'.vote; role = Follower; leader = None }) log count
@@ -178,23 +189,23 @@ pub log_makes : (n : Node) (s s' : Store) (st st' : State) (log log' : Log) (tai
     Makes n (record { node = seen n.store st' (take tail.keep n.log ++ tail.entries); sent = sent }) (seen s' st' log') sent
 log_makes n s s' st st' log log' tail sent e r h m l i =
     subst (λ (x : Node). MayReplace x.log tail → Makes x (record { node = seen x.store st' (take tail.keep x.log ++ tail.entries); sent = sent }) (seen s' st' log') sent) e
-        (λ m. subst (λ (z : Log). Makes (seen s st log) (record { node = seen s st' (take tail.keep log ++ tail.entries); sent = sent }) (seen s' st' z) sent) (sym l) (log_made s s' st st' log tail sent r h m i)) m
+    (λ m. subst (λ (z : Log). Makes (seen s st log) (record { node = seen s st' (take tail.keep log ++ tail.entries); sent = sent }) (seen s' st' z) sent) (sym l) (log_made s s' st st' log tail sent r h m i)) m
 
 pub log_fails : (n : Node) (s s' : Store) (st st' new : State) (log log' : Log) (tail : Tail) (sent out : List Sent) → seen s st log ≡ n → st.halted ≡ false → ForSome s.contents (HoldsLog st log) → MayReplace n.log tail →
     log' ≡ log → new ≡ halted_of st → out ≡ [] → IsFailed st st' tail.keep tail.entries s s' →
     Makes n (record { node = seen n.store st' (take tail.keep n.log ++ tail.entries); sent = sent }) (seen s' new log') out
 log_fails n s s' st st' new log log' tail sent out e r h m l a o i =
     subst (λ (x : Node). MayReplace x.log tail → Makes x (record { node = seen x.store st' (take tail.keep x.log ++ tail.entries); sent = sent }) (seen s' new log') out) e
-        (λ m. subst (λ (z : Log). Makes (seen s st log) (record { node = seen s st' (take tail.keep log ++ tail.entries); sent = sent }) (seen s' new z) out) (sym l)
-            (subst (λ (z : State). Makes (seen s st log) (record { node = seen s st' (take tail.keep log ++ tail.entries); sent = sent }) (seen s' z log) out) (sym a)
-                (subst (λ (z : List Sent). Makes (seen s st log) (record { node = seen s st' (take tail.keep log ++ tail.entries); sent = sent }) (seen s' (halted_of st) log) z) (sym o)
-                    (log_halts s s' st st' log tail sent r h m i)))) m
+    (λ m. subst (λ (z : Log). Makes (seen s st log) (record { node = seen s st' (take tail.keep log ++ tail.entries); sent = sent }) (seen s' new z) out) (sym l)
+    (subst (λ (z : State). Makes (seen s st log) (record { node = seen s st' (take tail.keep log ++ tail.entries); sent = sent }) (seen s' z log) out) (sym a)
+    (subst (λ (z : List Sent). Makes (seen s st log) (record { node = seen s st' (take tail.keep log ++ tail.entries); sent = sent }) (seen s' (halted_of st) log) z) (sym o)
+    (log_halts s s' st st' log tail sent r h m i)))) m
 
 pub log_saves_vote : (n : Node) (s s' : Store) (st st' new : State) (log log' : Log) (tail : Tail) (sent : List Sent) → seen s st log ≡ n → MayReplace n.log tail →
     log' ≡ log → new ≡ record st { term = st'.term; vote = st'.vote; role = Follower; leader = None } → VoteKept true st st' s s' →
     Remains n (record { node = seen n.store st' (take tail.keep n.log ++ tail.entries); sent = sent }) (seen s' new log')
 log_saves_vote n s s' st st' new log log' tail sent e m l a v =
     subst (λ (x : Node). MayReplace x.log tail → Remains x (record { node = seen x.store st' (take tail.keep x.log ++ tail.entries); sent = sent }) (seen s' new log')) e
-        (λ m. subst (λ (z : Log). Remains (seen s st log) (record { node = seen s st' (take tail.keep log ++ tail.entries); sent = sent }) (seen s' new z)) (sym l)
-            (subst (λ (z : State). Remains (seen s st log) (record { node = seen s st' (take tail.keep log ++ tail.entries); sent = sent }) (seen s' z log)) (sym a)
-                (log_forgets s s' st st' log tail sent m v))) m
+    (λ m. subst (λ (z : Log). Remains (seen s st log) (record { node = seen s st' (take tail.keep log ++ tail.entries); sent = sent }) (seen s' new z)) (sym l)
+    (subst (λ (z : State). Remains (seen s st log) (record { node = seen s st' (take tail.keep log ++ tail.entries); sent = sent }) (seen s' z log)) (sym a)
+    (log_forgets s s' st st' log tail sent m v))) m

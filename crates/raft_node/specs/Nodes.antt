@@ -1,6 +1,6 @@
 -- A node as its parts: its store, its log, and its state, which is all else. And what a step plans of them, before its
 -- store calls are made.
-use Rattle.std.specs.Prelude.{◌≡◌, ◌≢◌, ℕ, ◌≤◌, true, false, ◌++◌, length, take, Option, Some, None}
+use Rattle.std.specs.Prelude.{◌≡◌, ◌≢◌, ℕ, ◌≤◌, true, false, [], ◌++◌, length, take, Option, Some, None}
 use Rattle.std.specs.Option.{ForSome}
 use Rattle.cat_model.specs.LogLimits.{keeps_limits}
 use Rattle.cat_model.specs.declared.command.Entry.{Entry}
@@ -37,6 +37,10 @@ seen store state log = record {
 -- a store, for what reads none
 abbrev pub nowhere : Store
 nowhere = record { contents = None; armed = 0; faults = 0 }
+
+-- two states that are one to a node
+abbrev pub IsSame : State → State → Type 0
+IsSame copy state = seen nowhere copy [] ≡ seen nowhere state []
 
 -- the log after its entries behind the first `keep` were replaced
 abbrev pub after : Log → Option Tail → Log

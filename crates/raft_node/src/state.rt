@@ -2,6 +2,7 @@
 
 ghost use Rattle.std.specs.Prelude.{◌≡◌, true, None, IfOk};
 ghost use Rattle.cat_model.specs.declared.reply.Role.TheVariants.{Follower};
+ghost use Rattle.raft_node.specs.Nodes.{IsSame};
 
 use cat_model::{Entry, List, Memory, Role};
 use raft_model::Sent;
@@ -64,7 +65,7 @@ fn copied_votes(alloc: Global, votes: &[u32]) -> Result<Vec<u32>, Memory>
 impl State {
     /// A copy, from which a step plans what it becomes.
     pub fn copy(&self, alloc: Global) -> Result<State, Memory>
-        ensures { IfOk result (λ copy. copy ≡ self.now) }
+        ensures { IfOk result (λ copy. IsSame copy self.now) }
     {
         Ok(State {
             votes: copied_votes(alloc, &self.votes)?,

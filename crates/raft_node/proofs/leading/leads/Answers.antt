@@ -10,8 +10,8 @@ use Rattle.raft_node.proofs.leading.leads.Goals as goal
 pub returns-then-log-ge-MOST_LOG_ENTRIES : goal.returns-then-log-ge-MOST_LOG_ENTRIES
 returns-then-log-ge-MOST_LOG_ENTRIES c =
     full_plan c.args.state _ c.args.log.now c.in_ok-sent.sent
-        (λ store i. record (seen store c.args.state c.args.log.now) { role = Leader; round = 0; next = c.in_ok-state.ensures i; matched = c.in_ok-state-2.ensures i; acked = c.in_ok-state-3.ensures i })
-        (omega arith) c.in_ok-sent.ensures refl refl
+    (λ store i. record (seen store c.args.state c.args.log.now) { role = Leader; round = 0; next = c.in_ok-state.ensures i; matched = c.in_ok-state-2.ensures i; acked = c.in_ok-state-3.ensures i })
+    (omega arith) c.in_ok-sent.ensures refl refl
 
 pub appends-requires : goal.appends-requires
 appends-requires c = record { limits = noop_fits c.args.log.now c.args.state.term (omega arith) }
@@ -19,7 +19,7 @@ appends-requires c = record { limits = noop_fits c.args.log.now c.args.state.ter
 pub returns : goal.returns
 returns c =
     IfOk-weaker c.appends.result _ _
-        (λ p. noop_plan c.args.state _ c.args.log.now p
-            (λ store i. record (seen store c.args.state c.args.log.now) { role = Leader; round = 0; next = c.in_ok-state.ensures i; matched = c.in_ok-state-2.ensures i; acked = c.in_ok-state-3.ensures i })
-            (omega arith) refl refl)
-        c.appends.ensures
+    (λ p. noop_plan c.args.state _ c.args.log.now p
+    (λ store i. record (seen store c.args.state c.args.log.now) { role = Leader; round = 0; next = c.in_ok-state.ensures i; matched = c.in_ok-state-2.ensures i; acked = c.in_ok-state-3.ensures i })
+    (omega arith) refl refl)
+    c.appends.ensures
