@@ -5,3 +5,8 @@ mod Batches
 mod Windows
 mod Leads
 mod Made
+mod Fitting
+mod Deciding
+mod Planning
+mod Taking
+mod Receipts

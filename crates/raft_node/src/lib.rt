@@ -1,16 +1,23 @@
 //! What one server of Raft (the extended paper of Ongaro and Ousterhout, figure 2) does, over a durable store.
 #![tactic(auto)]
 
+pub mod accepting;
+pub mod acking;
 pub mod batch;
 mod counted;
+mod delivery;
 mod leading;
 pub mod log;
 mod node;
 pub mod quorum;
+mod receiving;
+#[cfg(test)]
+mod receiving_tests;
 mod saving;
 mod sending;
 mod state;
 #[cfg(test)]
 mod tests;
+pub mod voting;
 
 pub use node::Node;
