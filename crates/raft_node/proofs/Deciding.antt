@@ -1,9 +1,9 @@
 -- What the rules of a server come to, case by case, as code decides them.
-use Rattle.std.proofs.Common.{◌≡◌, ℕ, zero, suc, ◌+◌, ◌-◌, ◌<◌, ◌≤◌, ◌==◌, min, max, nat_le, nat_lt, Bool, true, false, ◌&&◌, cond, List, length, refl, sym, ◌∙◌, ap, arith}
+use Rattle.std.proofs.Common.{◌≡◌, ℕ, zero, suc, ◌+◌, ◌==◌, min, max, nat_lt, true, false, ◌&&◌, cond, length, refl, ◌∙◌, ap}
 use Rattle.raft_model.specs.declared.message.Message.TheVariants.{Yes}
 use Rattle.raft_model.specs.Log.{Log, term_at, accepted}
 use Rattle.raft_model.specs.Quorum.{is_majority}
-use Rattle.raft_model.specs.Node.{Node, last, quiet, reply}
+use Rattle.raft_model.specs.Node.{Node, quiet, reply}
 use Rattle.raft_model.specs.Rules.{has_index, has_round, committed_upto, is_refused, follows, accepts}
 use Rattle.raft_node.specs.Counting.{counting, reached}
 use Rattle.raft_node.specs.Accepting.{refuses}

@@ -1,5 +1,5 @@
 -- Logs after a cut and an append: their bytes, their limits and the front that stays.
-use Rattle.std.proofs.Common.{◌≡◌, ◌≢◌, ℕ, zero, suc, ◌+◌, ◌-◌, ◌^◌, ◌<◌, ◌≤◌, nat_le, min, max, not, ◌&&◌, ◌||◌, Bool, true, false, [], ◌∷◌, ◌++◌, length, take, drop, get_or, refl, sym, ◌∙◌, ap, subst, add_assoc, length-append, length-drop, arith}
+use Rattle.std.proofs.Common.{◌≡◌, ◌≢◌, ℕ, zero, suc, ◌+◌, ◌-◌, ◌^◌, ◌<◌, ◌≤◌, nat_le, min, max, not, ◌&&◌, ◌||◌, Bool, true, false, [], ◌∷◌, ◌++◌, length, take, drop, get_or, refl, sym, ◌∙◌, ap, add_assoc, length-append, length-drop, arith}
 use Rattle.std.proofs.lemmas.List.{append-nil, take-append-drop, length-take-le, drop-take, drop_all, drop_more, take-take, take_all, take_rest}
 use Rattle.std.proofs.lemmas.Bool.Decides.{nat_tests}
 use Rattle.cat_model.specs.declared.command.Entry.{Entry}

@@ -1,5 +1,5 @@
 -- Plans by the rules of receiving, case by case.
-use Rattle.std.proofs.Common.{◌≡◌, ℕ, zero, suc, ◌+◌, ◌-◌, ◌<◌, ◌≤◌, ◌==◌, min, max, nat_le, nat_lt, Bool, true, false, ◌&&◌, cond, ◌⊎◌, inl, inr, List, [], ◌∷◌, ◌++◌, length, refl, sym, ◌∙◌, ap, subst, Option, None, Some, arith}
+use Rattle.std.proofs.Common.{◌≡◌, ℕ, zero, suc, ◌<◌, ◌≤◌, nat_le, nat_lt, Bool, true, false, ◌&&◌, cond, ◌⊎◌, inl, inr, List, [], ◌++◌, length, refl, sym, ◌∙◌, ap, subst, Option, None, Some, arith}
 use Rattle.std.proofs.lemmas.List.{append-nil}
 use Rattle.std.proofs.lemmas.Bool.Decides.{nat_tests}
 use Rattle.cat_model.specs.declared.reply.Role.{Role}
@@ -7,16 +7,15 @@ use Rattle.cat_model.specs.declared.reply.Role.TheVariants.{Follower, Candidate,
 use Rattle.raft_model.specs.declared.message.Message.{Message}
 use Rattle.raft_model.specs.declared.message.Message.TheVariants.{AskVote, Vote, Append, Yes, No}
 use Rattle.raft_model.specs.declared.message.Sent.{Sent}
-use Rattle.raft_model.specs.Log.{Log, accepted}
+use Rattle.raft_model.specs.Log.{Log}
 use Rattle.raft_model.specs.Quorum.{is_majority, members}
 use Rattle.raft_model.specs.Node.{Store, Node, Done, last, of_server, quiet, reply}
 use Rattle.raft_model.specs.Rules.{may_vote, is_up_to_date, asked, counted, leads, with_voter, voted, matches, follows, accepts, offered, append_to, append_all, after_yes, noted, with_commit, committed_upto, agreed_to, stepped_back, declined, risen, of_own_term, of_lower_term, term_of, received}
-use Rattle.raft_model.proofs.Tests.{at_bool, lt_tells, lt_tells_not}
 use Rattle.raft_node.specs.declared.state.State.{State}
 use Rattle.raft_node.specs.declared.state.Tail.{Tail}
 use Rattle.raft_node.specs.declared.state.Planned.{Planned}
 use Rattle.raft_node.specs.Counting.{counting}
-use Rattle.raft_node.specs.Nodes.{seen, nowhere, after, Fits, IsSame, Plans, planned_of}
+use Rattle.raft_node.specs.Nodes.{seen, nowhere, after, Fits, IsSame, Plans}
 use Rattle.raft_node.proofs.Deciding.{commit_same}
 
 pub plan_of : (rule : Node → Done) (state st : State) (log : Log) (tail : Option Tail) (sent : List Sent) (planned : Planned)

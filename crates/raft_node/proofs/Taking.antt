@@ -1,10 +1,9 @@
 -- Plans on an Append, as far as its entries fit into the log.
-use Rattle.std.proofs.Common.{◌≡◌, ℕ, ◌+◌, ◌-◌, ◌≤◌, min, max, Bool, true, false, List, [], ◌∷◌, ◌++◌, length, take, drop, refl, sym, ◌∙◌, ap, subst, Option, None, Some, arith}
+use Rattle.std.proofs.Common.{◌≡◌, ℕ, ◌+◌, ◌-◌, ◌≤◌, min, max, true, false, [], ◌∷◌, ◌++◌, length, take, drop, refl, sym, ◌∙◌, ap, subst, Option, None, Some}
 use Rattle.std.proofs.lemmas.List.{take_rest}
 use Rattle.cat_model.specs.declared.reply.Role.TheVariants.{Follower}
 use Rattle.raft_model.specs.declared.message.Message.TheVariants.{Yes}
 use Rattle.raft_model.specs.Log.{Log, accepted}
-use Rattle.raft_model.specs.Limits.{keeps_limits}
 use Rattle.raft_model.specs.Rules.{accepts}
 use Rattle.raft_node.specs.declared.state.State.{State}
 use Rattle.raft_node.specs.declared.state.Tail.{Tail}

@@ -51,7 +51,6 @@ fn risen(state: State, term: u64) -> State
     ensures seen { (store : Store) (log : Log) → seen store result log ≡ risen (seen store state log) term }
     ensures running { result.halted ≡ state.halted }
     ensures commit { result.commit ≡ state.commit }
-    ensures matched { result.matched ≡ state.matched }
 {
     if state.term < term {
         return State {

@@ -1,5 +1,4 @@
-use Rattle.std.proofs.Common.{◌≡◌, ℕ, ◌≤◌, take, ap, ◌∙◌, arith}
-use Rattle.raft_node.specs.Counts.{bytes_of}
+use Rattle.std.proofs.Common.{ℕ, ap, ◌∙◌, arith}
 use Rattle.raft_node.specs.declared.counted.Counted.{Counted}
 use Rattle.raft_node.proofs.Fitting.{count_back, count_on}
 use Rattle.raft_node.proofs.accepting.counted_at.Goals as goal

@@ -1,4 +1,4 @@
-use Rattle.std.proofs.Common.{◌≡◌, ◌∙◌, ap, sym, arith}
+use Rattle.std.proofs.Common.{◌∙◌, ap, sym, arith}
 use Rattle.raft_model.specs.Log.{Log}
 use Rattle.raft_model.specs.Limits.{keeps_limits}
 use Rattle.raft_node.proofs.Fitting.{not_refused_self, whole}

@@ -1,5 +1,4 @@
-use Rattle.std.proofs.Common.{◌≡◌, ap, sym, ◌∙◌, take, arith}
-use Rattle.raft_node.specs.Counts.{bytes_of}
+use Rattle.std.proofs.Common.{ap, sym, arith}
 use Rattle.raft_node.specs.declared.counted.Counted.{Counted}
 use Rattle.raft_node.proofs.Fitting.{front_too_heavy, with_too_heavy, with_within}
 use Rattle.raft_node.proofs.accepting.keeps_limits.Goals as goal

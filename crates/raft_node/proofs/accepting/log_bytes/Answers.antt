@@ -1,7 +1,3 @@
-use Rattle.std.proofs.Common.{◌≡◌, ◌+◌, ◌-◌, ◌^◌, min, ◌∙◌, ap, sym, subst, arith}
-use Rattle.raft_model.specs.Limits.{log_bytes}
-use Rattle.raft_node.specs.Accepting.{counted_bytes}
-use Rattle.raft_node.specs.Counts.{bytes_of}
 use Rattle.raft_node.proofs.Fitting.{count_end, count_step}
 use Rattle.raft_node.proofs.accepting.log_bytes.Goals as goal
 

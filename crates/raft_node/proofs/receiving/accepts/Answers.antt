@@ -1,4 +1,4 @@
-use Rattle.std.proofs.Common.{◌≡◌, subst}
+use Rattle.std.proofs.Common.{subst}
 use Rattle.raft_node.specs.declared.accepting.Fit.{Fit}
 use Rattle.raft_node.specs.Accepting.{Takes}
 use Rattle.raft_node.proofs.Taking.{plan_changed, plan_refused, plan_standing}

@@ -1,6 +1,6 @@
 use Rattle.std.proofs.Common.{◌≡◌, ◌<◌, ◌≤◌, ◌∙◌, ap, length, refl, arith}
 use Rattle.raft_model.specs.declared.message.Message.{Message}
-use Rattle.raft_model.specs.Node.{Node, of_server, reply}
+use Rattle.raft_model.specs.Node.{of_server, reply}
 use Rattle.raft_model.specs.Rules.{after_yes}
 use Rattle.raft_node.specs.Nodes.{seen}
 use Rattle.raft_node.proofs.Planning.{after_has, after_lacks, after_rose, append_all_is, append_to_is, plan_stays}

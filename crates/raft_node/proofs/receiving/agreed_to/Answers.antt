@@ -1,4 +1,4 @@
-use Rattle.std.proofs.Common.{◌≡◌, ◌≤◌, ◌∙◌, ap, length, refl, arith}
+use Rattle.std.proofs.Common.{◌≡◌, ◌∙◌, ap, length, refl, arith}
 use Rattle.raft_model.specs.Node.{Node}
 use Rattle.raft_model.specs.Rules.{after_yes, agreed_to, committed_upto}
 use Rattle.raft_node.specs.Counting.{counting}

@@ -1,4 +1,4 @@
-use Rattle.std.proofs.Common.{◌≡◌, Bool, true, false, refl}
+use Rattle.std.proofs.Common.{◌≡◌, true, false, refl}
 use Rattle.raft_model.specs.Quorum.{is_majority, members}
 use Rattle.raft_model.specs.Rules.{counted, leads}
 use Rattle.raft_node.specs.Nodes.{seen}

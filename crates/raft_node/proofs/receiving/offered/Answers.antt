@@ -1,5 +1,5 @@
-use Rattle.std.proofs.Common.{◌≡◌, ◌∙◌, sym, refl, true, false}
-use Rattle.raft_model.specs.Rules.{accepts, matches, offered}
+use Rattle.std.proofs.Common.{◌∙◌, sym, refl}
+use Rattle.raft_model.specs.Rules.{accepts, offered}
 use Rattle.raft_node.specs.Nodes.{seen}
 use Rattle.raft_node.proofs.Planning.{answered_apart, answered_matched, offered_leader, offered_other, plan_stays, plan_via}
 use Rattle.raft_node.proofs.Taking.{following}

@@ -1,4 +1,4 @@
-use Rattle.std.proofs.Common.{◌≡◌, ℕ, ◌<◌, ◌≤◌, ◌∙◌, ap, sym, subst, refl, arith}
+use Rattle.std.proofs.Common.{ℕ, ◌<◌, ◌≤◌, ◌∙◌, ap, sym, subst, refl, arith}
 use Rattle.raft_model.specs.Node.{Node}
 use Rattle.raft_model.specs.Rules.{of_lower_term, of_own_term, received, risen}
 use Rattle.raft_node.specs.Nodes.{seen}

@@ -1,5 +1,4 @@
 use Rattle.std.proofs.Common.{◌≡◌, ◌∙◌, ap, sym, refl, true, false, List, ℕ}
-use Rattle.raft_model.specs.Node.{Node}
 use Rattle.raft_model.specs.Rules.{counted, voted, with_voter}
 use Rattle.raft_node.specs.Nodes.{seen}
 use Rattle.raft_node.proofs.Planning.{plan_stays, plan_via, voted_declined, voted_granted, voted_other}
