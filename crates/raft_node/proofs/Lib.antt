@@ -5,3 +5,5 @@ mod Batches
 mod Windows
 mod Leads
 mod Made
+mod Stepping
+mod Bytes
