@@ -10,3 +10,5 @@ mod Deciding
 mod Planning
 mod Taking
 mod Receipts
+mod Stepping
+mod Bytes

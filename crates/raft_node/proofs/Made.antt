@@ -209,3 +209,12 @@ log_saves_vote n s s' st st' new log log' tail sent e m l a v =
     (λ m. subst (λ (z : Log). Remains (seen s st log) (record { node = seen s st' (take tail.keep log ++ tail.entries); sent = sent }) (seen s' new z)) (sym l)
     (subst (λ (z : State). Remains (seen s st log) (record { node = seen s st' (take tail.keep log ++ tail.entries); sent = sent }) (seen s' z log)) (sym a)
     (log_forgets s s' st st' log tail sent m v))) m
+
+-- another state that runs alike, over the same log and store
+pub kept_same : (held : Option Kept) (st st' : State) (log : Log) (count : Counted) → st'.commit ≡ st.commit → st'.halted ≡ st.halted → st'.role ≡ st.role → IsKept held st log count → IsKept held st' log count
+kept_same held st st' log count c h r k = record {
+  commit = omega (arith, c, k.commit);
+  halted = λ q. r ∙ k.halted (sym h ∙ q);
+  store = λ kept e. record { limits = (k.store kept e).limits; same = λ q. (k.store kept e).same (sym h ∙ q) };
+  counted = k.counted;
+}

@@ -1,13 +1,13 @@
 -- A node as its parts: its store, its log, and its state, which is all else. And what a step plans of them, before its
 -- store calls are made.
-use Rattle.std.specs.Prelude.{◌≡◌, ◌≢◌, ℕ, ◌≤◌, true, false, [], ◌++◌, length, take, Option, Some, None}
+use Rattle.std.specs.Prelude.{◌≡◌, ◌≢◌, ℕ, ◌-◌, ◌^◌, ◌≤◌, nat_lt, Bool, true, false, not, ◌&&◌, [], ◌++◌, length, take, Option, Some, None}
 use Rattle.std.specs.Option.{ForSome}
 use Rattle.cat_model.specs.LogLimits.{keeps_limits}
 use Rattle.cat_model.specs.declared.command.Entry.{Entry}
 use Rattle.cat_model.specs.declared.reply.Role.TheVariants.{Follower}
 use Rattle.raft_model.specs.Log.{Log}
 use Rattle.raft_model.specs.Node.{Kept, Store, Node, Done}
-use Rattle.raft_model.specs.Rules.{append_all, appended, candidate, stands}
+use Rattle.raft_model.specs.Rules.{append_all, appended, candidate, is_leader, stands}
 use Rattle.raft_node.specs.Counts.{IsCount}
 use Rattle.raft_node.specs.declared.counted.Counted.{Counted}
 use Rattle.raft_node.specs.declared.state.State.{State}
@@ -75,6 +75,10 @@ appends entry n = append_all (appended n entry)
 unfoldable pub elects : Node → Done
 elects n = candidate (stands n)
 
+-- contents whose log is within the limits
+abbrev pub KeepsLimits : Kept → Type 0
+KeepsLimits kept = keeps_limits kept.log ≡ true
+
 -- What a store that tells its contents holds: a log within the limits, which is the node's where it runs.
 pub record HoldsLog (state : State) (log : Log) (kept : Kept) : Type 0 where
   pub limits : keeps_limits kept.log ≡ true
@@ -86,3 +90,7 @@ pub record IsKept (held : Option Kept) (state : State) (log : Log) (count : Coun
   pub halted : state.halted ≡ true → state.role ≡ Follower
   pub store : ForSome held (HoldsLog state log)
   pub counted : IsCount log count
+
+-- a running server that a timeout makes a candidate
+abbrev pub may_stand : Node → Bool
+may_stand n = not n.halted && not (is_leader n.role) && nat_lt n.term (2 ^ 64 - 1)

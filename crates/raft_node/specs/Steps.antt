@@ -1,10 +1,17 @@
 -- What becomes of a node whose step was planned, as its store calls go.
-use Rattle.std.specs.Prelude.{◌≡◌, ℕ, ◌+◌, ◌⊎◌, List, [], Bool, true, false, Option}
+use Rattle.std.specs.Prelude.{◌≡◌, ◌≢◌, ℕ, ◌+◌, ◌⊎◌, List, [], Bool, true, false, Option, Result, Ok, Err}
+use Rattle.raft_model.specs.declared.message.Place.{Place}
 use Rattle.raft_model.specs.declared.message.Sent.{Sent}
+use Rattle.raft_node.specs.declared.fault.ProposeFault.{ProposeFault}
+use Rattle.raft_node.specs.declared.fault.ProposeFault.TheVariants.{NotLeader, Halted, Full, Memory as ProposeMemory}
 use Rattle.raft_model.specs.Log.{Log}
-use Rattle.raft_model.specs.Node.{Kept, Store, Node, Done}
-use Rattle.raft_model.specs.Rules.{Input}
-use Rattle.raft_model.specs.Step.{CallWorks, CallFails, SavesVote, StoresLog, VoteSaved, LogStored, Outcome, Works, VoteFails, LogFails, Forgets, NodeStep, halts, forgets, with_vote, with_log}
+use Rattle.raft_model.specs.Node.{Kept, Store, Node, Done, last}
+use Rattle.cat_model.specs.declared.command.Command.{Command}
+use Rattle.cat_model.specs.declared.reply.Role.TheVariants.{Leader}
+use Rattle.cat_outside.specs.declared.faults.KeepFail.{KeepFail}
+use Rattle.cat_outside.specs.declared.faults.KeepFail.TheVariants.{Failed, Memory}
+use Rattle.raft_model.specs.Rules.{Input, Propose, has_room}
+use Rattle.raft_model.specs.Step.{CallWorks, CallFails, SavesVote, StoresLog, VoteSaved, LogStored, Outcome, Works, VoteFails, LogFails, Forgets, NodeStep, as_before, halts, forgets, with_vote, with_log}
 use Rattle.cat_model.specs.Keeping.{with_entries}
 use Rattle.raft_node.specs.declared.state.State.{State}
 
@@ -66,3 +73,24 @@ abbrev pub IsFailed : State → State → ℕ → Log → Store → Store → Ty
 IsFailed old new keep entries before now =
     VoteFailed old new before now
     ⊎ ((saved : Bool) × (between : Store) × VoteKept saved old new before between × CallFails (with_entries (keep + 1) entries) between now)
+
+-- what a `load` that failed, or found no memory, made of the store
+abbrev pub FailsToLoad : KeepFail → Store → Store → Type 0
+FailsToLoad Failed before now = CallFails as_before before now
+FailsToLoad Memory before now = now ≡ before
+
+-- a proposal of a running leader whose log then keeps its limits
+abbrev pub MayPropose : Node → ℕ → Command → Type 0
+MayPropose n number command = (n.halted ≡ false) × (n.role ≡ Leader) × (has_room n number command ≡ true)
+
+-- What a proposal answers, and what becomes of the node. It is refused as not led exactly where the node runs and does
+-- not lead, as full only where a limit of the log would be passed, and as halted exactly where the node had halted or
+-- its store failed now.
+abbrev pub Proposes : Node → ℕ → Command → Node → Result (Place × List Sent) ProposeFault → Type 0
+Proposes old number command new (Ok (place, sent)) =
+    MayPropose old number command × NodeStep Works old (Propose number command) new sent × (place ≡ record { index = last new; term = new.term })
+Proposes old number command new (Err NotLeader) = (old.halted ≡ false) × (old.role ≢ Leader) × (new ≡ old)
+Proposes old number command new (Err Halted) =
+    ((old.halted ≡ true) × (new ≡ old)) ⊎ (MayPropose old number command × NodeStep LogFails old (Propose number command) new [])
+Proposes old number command new (Err Full) = (old.halted ≡ false) × (old.role ≡ Leader) × (has_room old number command ≡ false) × (new ≡ old)
+Proposes old number command new (Err ProposeMemory) = (old.halted ≡ false) × (old.role ≡ Leader) × (new ≡ old)

@@ -4,8 +4,11 @@
 pub mod accepting;
 pub mod acking;
 pub mod batch;
+mod calls;
 mod counted;
 mod delivery;
+mod electing;
+mod fault;
 mod leading;
 pub mod log;
 mod node;
@@ -15,9 +18,11 @@ mod receiving;
 mod receiving_tests;
 mod saving;
 mod sending;
+mod starting;
 mod state;
 #[cfg(test)]
 mod tests;
 pub mod voting;
 
+pub use fault::{ProbeFault, ProposeFault};
 pub use node::Node;

@@ -1,6 +1,6 @@
 //! What a node knows beside its log and its store, and what a step plans of all three.
 
-ghost use Rattle.std.specs.Prelude.{◌≡◌, true, None, IfOk};
+ghost use Rattle.std.specs.Prelude.{◌≡◌, true, false, None, IfOk};
 ghost use Rattle.cat_model.specs.declared.reply.Role.TheVariants.{Follower};
 ghost use Rattle.raft_node.specs.Nodes.{IsSame};
 
@@ -83,6 +83,18 @@ impl State {
         self.role = Role::Follower;
         self.leader = None;
         self.halted = true;
+    }
+
+    /// A restart read this term and vote.
+    pub fn begin(&mut self, term: u64, vote: Option<u32>)
+        ensures { self.new ≡ record self.old { term = term; vote = vote; commit = 0; role = Follower; leader = None; halted = false } }
+    {
+        self.term = term;
+        self.vote = vote;
+        self.commit = 0;
+        self.role = Role::Follower;
+        self.leader = None;
+        self.halted = false;
     }
 
     /// Term and vote were saved, and then there was no memory.
