@@ -1,6 +1,6 @@
 //! The steps of a server, but for those on messages.
 
-ghost use Rattle.std.specs.Prelude.{◌≡◌, ◌≢◌, ◌↔◌, ◌⊎◌, ◌+◌, ◌-◌, ◌^◌, ◌<◌, ℕ, true, false, ◌∷◌, ◌++◌, [], IfOk, OnOk, OnErr, IsErrOf};
+ghost use Rattle.std.specs.Prelude.{◌≡◌, ◌≢◌, ◌↔◌, ◌⊎◌, ◌+◌, ◌-◌, ◌^◌, ◌<◌, ℕ, true, false, ◌∷◌, ◌++◌, [], Err, IfErr, IfOk, OnOk, OnErr, IsErrOf};
 ghost use Rattle.cat_model.specs.declared.reply.Role.TheVariants.{Follower, Leader};
 ghost use Rattle.cat_model.specs.LogLimits.{keeps_limits};
 ghost use Rattle.raft_model.specs.Node.{last};
@@ -68,6 +68,40 @@ impl<K: Keeper + Drop> Node<K> {
         self.counted.count_on(alloc, self.log.as_slice())?;
         let bytes = bytes_in_log(alloc, command)?;
         Ok(fits(self.log.len(), self.counted.bytes, bytes as u64))
+    }
+
+    // Whether a proposal of this command may be made.
+    fn admits(&mut self, alloc: Global, command: &Command) -> Result<(), ProposeFault>
+        ensures ok { OnOk result ((number : ℕ) → MayPropose self.old number command.now) }
+        ensures fault { IfErr result (λ fault. (number : ℕ) → Proposes self.old number command.now self.new (Err fault)) }
+        ensures same { self.new ≡ self.old }
+    {
+        if self.halted() {
+            return Err(ProposeFault::Halted);
+        }
+        if !self.leads() {
+            return Err(ProposeFault::NotLeader);
+        }
+        match self.has_room(alloc, command) {
+            Ok(true) => Ok(()),
+            Ok(false) => Err(ProposeFault::Full),
+            Err(Memory) => Err(ProposeFault::Memory),
+        }
+    }
+
+    /// Puts a command with this number into a leader's log. Gives its place and what is sent.
+    pub fn propose(
+        &mut self,
+        alloc: Global,
+        number: u64,
+        command: Command,
+    ) -> Result<(Place, List<Sent>), ProposeFault>
+        ensures { Proposes self.old number command self.new result }
+    {
+        if let Err(fault) = self.admits(alloc, &command) {
+            return Err(fault);
+        }
+        self.enter(alloc, number, command)
     }
 
     // Appends the entry of a proposal that may be made.
