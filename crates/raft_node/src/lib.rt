@@ -12,6 +12,8 @@ mod fault;
 mod leading;
 pub mod log;
 mod node;
+#[cfg(test)]
+mod node_tests;
 pub mod quorum;
 mod receiving;
 #[cfg(test)]
