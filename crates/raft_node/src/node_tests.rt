@@ -49,3 +49,15 @@ fn a_halted_node_restarts_with_what_was_kept(rt: HostRuntime) -> Result<(), Fail
     assert_eq!(rt; node.commit(), 0);
     Ok(())
 }
+
+// 262,144 entries, the Noop among them, are the most.
+#[test]
+fn a_full_log_takes_no_more(rt: HostRuntime) -> Result<(), Fail> {
+    let mut node = single(rt.alloc())?;
+    node.timeout(rt.alloc())?;
+    for number in 1..262_144u64 {
+        node.propose(rt.alloc(), number, Command::Reap)?;
+    }
+    assert_eq!(rt; refusal(&mut node, rt.alloc()), Some(ProposeFault::Full));
+    Ok(())
+}
