@@ -2,3 +2,13 @@ mod Terms
 mod Standing
 mod Commits
 mod Batches
+mod Windows
+mod Leads
+mod Made
+mod Fitting
+mod Deciding
+mod Planning
+mod Taking
+mod Receipts
+mod Stepping
+mod Bytes

@@ -1,9 +1,30 @@
-//! What one server of Raft (the extended paper of Ongaro and Ousterhout, figure 2) computes of logs, majorities and
-//! Appends. The server itself, over a durable store, is to stand on this.
+//! What one server of Raft (the extended paper of Ongaro and Ousterhout, figure 2) does, over a durable store.
 #![tactic(auto)]
 
+pub mod accepting;
+pub mod acking;
 pub mod batch;
+mod calls;
+mod counted;
+mod delivery;
+mod electing;
+mod fault;
+mod leading;
 pub mod log;
+mod node;
+#[cfg(test)]
+mod node_tests;
 pub mod quorum;
+mod receiving;
+#[cfg(test)]
+mod receiving_tests;
+mod saving;
+mod sending;
+mod starting;
+mod state;
 #[cfg(test)]
 mod tests;
+pub mod voting;
+
+pub use fault::{ProbeFault, ProposeFault};
+pub use node::Node;
