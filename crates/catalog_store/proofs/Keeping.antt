@@ -28,10 +28,12 @@ use Rattle.cat_model.proofs.LockLaw.{next_is}
 use Rattle.cat_model.proofs.ViewSteps.{view_step_law}
 use Rattle.kv_table.specs.States.{KvState, KvVersions, empty_state}
 use Rattle.catalog_table.specs.Rows.{Rows, RowsVersions, no_rows}
-use Rattle.table_index.specs.States.{IndexVersions, first_state}
+use Rattle.table_index.specs.States.{IndexState, IndexVersions, first_state}
 use Rattle.catalog_store.specs.Standing.{whole, kept_of, KeysStand, RowsStand, PositionsStand, Holds}
 use Rattle.catalog_store.specs.Firing.{FiresJust, keys_fire}
 use Rattle.catalog_store.specs.Steps.{Earlier, KeyStep}
+use Rattle.catalog_store.specs.Whole.{TablesStep}
+use Rattle.catalog_store.specs.Registering.{Owned}
 
 -- 1. No session ends where there is none.
 none_held : (o : Option ℕ) → ended_holder [] o ≡ None
@@ -46,10 +48,10 @@ none_freed : (rows : List KvRow) → filter_map (λ r. freed_key r (ended_holder
 none_freed [] = refl
 none_freed (r ∷ rows) = ap (λ o. cons_option (freed_key r o) (filter_map (λ s. freed_key s (ended_holder [] s.session)) rows)) (none_held r.session) ∙ none_freed rows
 
-module _ (i : ℕ) (c : Command) (kv kv' : List KvRow) (rows : Rows) (answer : Applied) (does : act i c (whole kv rows) ≡ (whole kv' rows, answer)) where
-  apply_is : apply i c (whole kv rows) ≡ (whole kv' rows, answer)
+module _ (i : ℕ) (c : Command) (kv kv' : List KvRow) (rows rows' : Rows) (answer : Applied) (does : act i c (whole kv rows) ≡ (whole kv' rows', answer)) where
+  apply_is : apply i c (whole kv rows) ≡ (whole kv' rows', answer)
   unfolding apply end_sessions
-  apply_is = ap (λ (done : Step). (end_sessions i (filter (ends c done.0) done.0.sessions) done.0, done.1)) does ∙ (λ j. (whole (no_end i kv' j) rows, answer))
+  apply_is = ap (λ (done : Step). (end_sessions i (filter (ends c done.0) done.0.sessions) done.0, done.1)) does ∙ (λ j. (whole (no_end i kv' j) rows', answer))
 
   freed_is : freed i c (whole kv rows) ≡ []
   unfolding freed
@@ -76,7 +78,7 @@ none_vanishes : (all rows : List ServiceRow) → AllByRecursion (λ s. list_any 
 none_vanishes all [] h = refl
 none_vanishes all (s ∷ rows) h = ap (λ b. not b || list_any (λ (r : ServiceRow). not (list_any (λ t. same_text t.name r.name) all)) rows) h.0 ∙ none_vanishes all rows h.1
 
-fires_is : (c : Command) (kv kv' : List KvRow) (rows : Rows) (chan : Chan) → fires (whole kv rows) c (whole kv' rows) chan ≡ keys_fire (is_reap c) kv kv' chan
+pub fires_is : (c : Command) (kv kv' : List KvRow) (rows : Rows) (chan : Chan) → fires (whole kv rows) c (whole kv' rows) chan ≡ keys_fire (is_reap c) kv kv' chan
 unfolding fires some_vanishes
 fires_is c kv kv' rows Nodes = ap not (pointwise_same same_node (λ r. (node_decides r r).1 refl) rows.nodes)
 fires_is c kv kv' rows Services = ap not (pointwise_same same_service (λ r. (service_decides r r).1 refl) rows.services)
@@ -107,8 +109,41 @@ past_earlier (c ∷ past) tombs floor gives =
 pub earlier : (kv : KvState) (log : List Command) → KeysStand kv log → Earlier (length log + 1) kv.rows
 earlier kv log stands = subst (λ rows. Earlier (length log + 1) rows) (sym stands.rows) (subst (λ n. AllByRecursion (λ r. r.modify < n + 1) (catalog_at log).kv) (length-reverse log) (past_earlier (reverse log) kv.tombs kv.floor stands.indexes))
 
--- 4. The step.
-module _ (kv kv' : KvVersions) (rows : RowsVersions) (index : IndexVersions) (log : List Command) (c : Command) (answer : Applied) (chans : List Chan) (holds : Holds kv rows index log) (step : KeyStep (length log + 1) c kv kv' answer chans) where
+-- just the names that have rows have a position
+pub owned : (kv : KvVersions) (rows : RowsVersions) (index : IndexVersions) (log : List Command) → Holds kv rows index log → Owned rows.now index.now
+owned kv rows index log holds name = holds.positions.own name ∙ ap (has_name name) (sym holds.lists.catalog)
+
+-- 4. A command on keys as a step of all the tables.
+module _ (i : ℕ) (c : Command) (old new : KvVersions) (rows : Rows) (index : IndexState) (answer : Applied) (chans : List Chan) (own : Owned rows index) (step : KeyStep i c old new answer chans) where
+  fired : (chan : Chan) → fires (whole old.now.rows rows) c (whole new.now.rows rows) chan ≡ keys_fire (is_reap c) old.now.rows new.now.rows chan
+  fired chan = fires_is c old.now.rows new.now.rows rows chan
+
+  stays : (chan : Chan) (at : ℕ) → keys_fire (is_reap c) old.now.rows new.now.rows chan ≡ false → at ≡ moved i (fires (whole old.now.rows rows) c (whole new.now.rows rows) chan) at
+  stays chan at quiet = sym (ap (λ b. moved i b at) (fired chan ∙ quiet))
+
+  pub key_tables : TablesStep i c old.now new.now rows rows index index answer chans
+  key_tables = record {
+    does = step.does rows;
+    indexes = step.indexes;
+    fires = record {
+      every = λ chan e. step.fires.every chan (sym (fired chan) ∙ e);
+      just = All-weaker (λ chan. keys_fire (is_reap c) old.now.rows new.now.rows chan ≡ true) (λ chan. fires (whole old.now.rows rows) c (whole new.now.rows rows) chan ≡ true) (λ chan e. fired chan ∙ e) chans step.fires.just;
+      once = step.fires.once;
+    };
+    positions = record {
+      nodes = stays Nodes index.nodes refl;
+      services = stays Services index.services refl;
+      checks = stays Checks index.checks refl;
+      sessions = stays Sessions index.sessions refl;
+      queries = stays Queries index.queries refl;
+      names = λ name has. stays (Service name) (position_of name index.names) refl;
+      own = own;
+      vanished = stays Vanished index.vanished refl;
+    };
+  }
+
+-- 5. The step.
+module _ (kv kv' : KvVersions) (rows rows' : RowsVersions) (index index' : IndexVersions) (log : List Command) (c : Command) (answer : Applied) (chans : List Chan) (holds : Holds kv rows index log) (step : TablesStep (length log + 1) c kv.now kv'.now rows.now rows'.now index.now index'.now answer chans) where
   abbrev i : ℕ
   i = length log + 1
 
@@ -116,7 +151,7 @@ module _ (kv kv' : KvVersions) (rows : RowsVersions) (index : IndexVersions) (lo
   old = whole kv.now.rows rows.now
 
   abbrev new : Catalog
-  new = whole kv'.now.rows rows.now
+  new = whole kv'.now.rows rows'.now
 
   abbrev kept : Kept
   kept = kept_of kv.now rows.now index.now
@@ -125,7 +160,7 @@ module _ (kv kv' : KvVersions) (rows : RowsVersions) (index : IndexVersions) (lo
   old_is = (λ j. whole (holds.keys.rows j) rows.now) ∙ holds.lists.catalog
 
   applied : apply i c old ≡ (new, answer)
-  applied = apply_is i c kv.now.rows kv'.now.rows rows.now answer (step.does rows.now)
+  applied = apply_is i c kv.now.rows kv'.now.rows rows.now rows'.now answer step.does
 
   reached : apply i c (catalog_at log) ≡ (new, answer)
   reached = ap (apply i c) (sym old_is) ∙ applied
@@ -137,17 +172,10 @@ module _ (kv kv' : KvVersions) (rows : RowsVersions) (index : IndexVersions) (lo
   replies = sym (ap (λ s. s.1) reached)
 
   pub frees : freed i c (catalog_at log) ≡ []
-  frees = ap (freed i c) (sym old_is) ∙ freed_is i c kv.now.rows kv'.now.rows rows.now answer (step.does rows.now)
+  frees = ap (freed i c) (sym old_is) ∙ freed_is i c kv.now.rows kv'.now.rows rows.now rows'.now answer step.does
 
   pub fires_just : FiresJust (fires (catalog_at log) c (catalog_at (log ++ c ∷ []))) chans
-  fires_just =
-      let same : (chan : Chan) → fires (catalog_at log) c (catalog_at (log ++ c ∷ [])) chan ≡ keys_fire (is_reap c) kv.now.rows kv'.now.rows chan
-      = λ chan. (λ j. fires (sym old_is j) c (new_is j) chan) ∙ fires_is c kv.now.rows kv'.now.rows rows.now chan in
-      record {
-        every = λ chan e. step.fires.every chan (sym (same chan) ∙ e);
-        just = All-weaker (λ chan. keys_fire (is_reap c) kv.now.rows kv'.now.rows chan ≡ true) (λ chan. fires (catalog_at log) c (catalog_at (log ++ c ∷ [])) chan ≡ true) (λ chan e. same chan ∙ e) chans step.fires.just;
-        once = step.fires.once;
-      }
+  fires_just = subst (λ f. FiresJust f chans) (λ j. fires (old_is j) c (sym new_is j)) step.fires
 
   stands : StandsFor kept log
   stands = record {
@@ -162,17 +190,14 @@ module _ (kv kv' : KvVersions) (rows : RowsVersions) (index : IndexVersions) (lo
     vanished = holds.positions.vanished;
   }
 
-  fired : (chan : Chan) → fires old c (apply i c old).0 chan ≡ keys_fire (is_reap c) kv.now.rows kv'.now.rows chan
-  fired chan = ap (λ s. fires old c s.0 chan) applied ∙ fires_is c kv.now.rows kv'.now.rows rows.now chan
+  names_after : NamesAfter i c kept index'.now.names
+  names_after = record { each = λ name has. step.positions.names name (ap (λ s. has_name name s.0) (sym applied) ∙ has) ∙ sym (ap (λ s. moved i (fires old c s.0 (Service name)) (position_of name index.now.names)) applied) }
 
-  names_after : NamesAfter i c kept index.now.names
-  names_after = record { each = λ name has. sym (ap (λ b. moved i b (position_of name index.now.names)) (fired (Service name))) }
+  next : StandsFor (kept_after i c index'.now.names kept) (log ++ c ∷ [])
+  next = view_step_law kept log c index'.now.names stands names_after
 
-  next : StandsFor (kept_after i c index.now.names kept) (log ++ c ∷ [])
-  next = view_step_law kept log c index.now.names stands names_after
-
-  unmoved_at : (chan : Chan) (at : ℕ) → keys_fire (is_reap c) kv.now.rows kv'.now.rows chan ≡ false → moved i (fires old c (apply i c old).0 chan) at ≡ last_fired chan (log ++ c ∷ []) → at ≡ last_fired chan (log ++ c ∷ [])
-  unmoved_at chan at quiet e = sym (ap (λ b. moved i b at) (fired chan ∙ quiet)) ∙ e
+  moves_to : (chan : Chan) (before after : ℕ) → after ≡ moved i (fires old c new chan) before → moved i (fires old c (apply i c old).0 chan) before ≡ last_fired chan (log ++ c ∷ []) → after ≡ last_fired chan (log ++ c ∷ [])
+  moves_to chan before after is e = is ∙ sym (ap (λ s. moved i (fires old c s.0 chan) before) applied) ∙ e
 
   gives : GivesIndexes (reverse (log ++ c ∷ [])) (tombs_after i c kv.now.rows kv'.now.rows kv.now.tombs) (floor_after i c kv.now.floor)
   unfolding kept_after
@@ -189,43 +214,44 @@ module _ (kv kv' : KvVersions) (rows : RowsVersions) (index : IndexVersions) (lo
         };
       }
 
-  pub lists_stand : RowsStand rows.now (log ++ c ∷ [])
-  lists_stand = record { catalog = (λ j. whole (new_is j).kv rows.now) ∙ sym new_is }
+  pub lists_stand : RowsStand rows'.now (log ++ c ∷ [])
+  lists_stand = record { catalog = (λ j. whole (new_is j).kv rows'.now) ∙ sym new_is }
 
-  pub positions_stand : PositionsStand index.now (log ++ c ∷ [])
+  pub positions_stand : PositionsStand index'.now (log ++ c ∷ [])
   unfolding kept_after
   positions_stand = record {
-    nodes = unmoved_at Nodes index.now.nodes refl next.nodes;
-    services = unmoved_at Services index.now.services refl next.services;
-    checks = unmoved_at Checks index.now.checks refl next.checks;
-    sessions = unmoved_at Sessions index.now.sessions refl next.sessions;
-    queries = unmoved_at Queries index.now.queries refl next.queries;
+    nodes = moves_to Nodes index.now.nodes index'.now.nodes step.positions.nodes next.nodes;
+    services = moves_to Services index.now.services index'.now.services step.positions.services next.services;
+    checks = moves_to Checks index.now.checks index'.now.checks step.positions.checks next.checks;
+    sessions = moves_to Sessions index.now.sessions index'.now.sessions step.positions.sessions next.sessions;
+    queries = moves_to Queries index.now.queries index'.now.queries step.positions.queries next.queries;
     names = next.names;
-    own = λ name. holds.positions.own name ∙ ap (has_name name) (sym old_is) ∙ ap (has_name name) (sym new_is);
-    vanished = unmoved_at Vanished index.now.vanished refl next.vanished;
+    own = λ name. step.positions.own name ∙ ap (has_name name) (sym new_is);
+    vanished = moves_to Vanished index.now.vanished index'.now.vanished step.positions.vanished next.vanished;
   }
 
   -- after the step is kept
-  pub holds_more : (kept_kv : KvVersions) → kept_kv.now ≡ kv'.now → kept_kv.before ≡ kv'.now → Holds kept_kv rows index (log ++ c ∷ [])
-  holds_more kept_kv now before = record {
+  pub holds_more : (kv'' : KvVersions) (rows'' : RowsVersions) (index'' : IndexVersions) → kv''.now ≡ kv'.now → kv''.before ≡ kv'.now → rows''.now ≡ rows'.now → rows''.before ≡ rows'.now → index''.now ≡ index'.now → index''.before ≡ index'.now → Holds kv'' rows'' index'' (log ++ c ∷ [])
+  holds_more kv'' rows'' index'' now before rows_now rows_before index_now index_before = record {
     keys = subst (λ s. KeysStand s (log ++ c ∷ [])) (sym now) keys_stand;
-    lists = lists_stand;
-    positions = positions_stand;
+    lists = subst (λ s. RowsStand s (log ++ c ∷ [])) (sym rows_now) lists_stand;
+    positions = subst (λ s. PositionsStand s (log ++ c ∷ [])) (sym index_now) positions_stand;
     kept_keys = before ∙ sym now;
-    kept_lists = holds.kept_lists;
-    kept_positions = holds.kept_positions;
+    kept_lists = rows_before ∙ sym rows_now;
+    kept_positions = index_before ∙ sym index_now;
   }
 
 -- after a step that was taken back
-pub holds_again : (kv kv' kv'' : KvVersions) (rows : RowsVersions) (index : IndexVersions) (log : List Command) → Holds kv rows index log → kv'.before ≡ kv.before → kv''.now ≡ kv'.before → kv''.before ≡ kv'.before → Holds kv'' rows index log
-holds_again kv kv' kv'' rows index log holds same now before = record {
-  keys = subst (λ s. KeysStand s log) (sym (now ∙ same ∙ holds.kept_keys)) holds.keys;
-  lists = holds.lists;
-  positions = holds.positions;
-  kept_keys = before ∙ sym now;
-  kept_lists = holds.kept_lists;
-  kept_positions = holds.kept_positions;
-}
+module _ (kv kv' kv'' : KvVersions) (rows rows' rows'' : RowsVersions) (index index' index'' : IndexVersions) (log : List Command) where
+  pub holds_again : Holds kv rows index log → kv'.before ≡ kv.before → kv''.now ≡ kv'.before → kv''.before ≡ kv'.before → rows'.before ≡ rows.before → rows'' ≡ record { now = rows'.before; before = rows'.before } → index'.before ≡ index.before → index''.now ≡ index'.before → index''.before ≡ index'.before → Holds kv'' rows'' index'' log
+  holds_again holds same now before rows_same rows_is index_same index_now index_before = record {
+    keys = subst (λ s. KeysStand s log) (sym (now ∙ same ∙ holds.kept_keys)) holds.keys;
+    lists = subst (λ s. RowsStand s log) (sym (ap (λ s. s.now) rows_is ∙ rows_same ∙ holds.kept_lists)) holds.lists;
+    positions = subst (λ s. PositionsStand s log) (sym (index_now ∙ index_same ∙ holds.kept_positions)) holds.positions;
+    kept_keys = before ∙ sym now;
+    kept_lists = ap (λ s. s.before) rows_is ∙ sym (ap (λ s. s.now) rows_is);
+    kept_positions = index_before ∙ sym index_now;
+  }
 
 -- the empty tables stand for the empty log
 pub first_holds : (kv : KvVersions) (rows : RowsVersions) (index : IndexVersions) → kv ≡ record { now = empty_state; before = empty_state } → rows.now ≡ no_rows → rows.before ≡ no_rows → index ≡ record { now = first_state; before = first_state } → Holds kv rows index []

@@ -5,3 +5,6 @@ pub mod Removals
 pub mod Commands
 pub mod Keeping
 pub mod Trees
+pub mod Changed
+pub mod Marking
+pub mod RowSteps

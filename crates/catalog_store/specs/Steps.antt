@@ -15,7 +15,7 @@ use Rattle.catalog_table.specs.Rows.{Rows}
 use Rattle.catalog_store.specs.Standing.{whole}
 use Rattle.catalog_store.specs.Firing.{FiresJust, keys_fire}
 
--- the commands that a store takes: those on keys that need no session, Noop and Reap
+-- the commands on keys that need no session, Noop and Reap
 abbrev pub is_on_keys : Command → Bool
 is_on_keys Noop = true
 is_on_keys (Register node address service checks) = false
@@ -33,6 +33,12 @@ is_on_keys (SessionDestroy id) = false
 is_on_keys (QuerySet id create name session service only_passing tags dns_ttl_ms) = false
 is_on_keys (QueryDelete id) = false
 is_on_keys Reap = true
+
+-- the commands that a store takes: these, Register and Deregister
+abbrev pub is_taken : Command → Bool
+is_taken (Register node address service checks) = true
+is_taken (Deregister node service check) = true
+is_taken other = is_on_keys other
 
 -- all rows were written before this position
 abbrev pub Earlier : ℕ → List KvRow → Type 0

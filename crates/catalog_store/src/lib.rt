@@ -2,6 +2,7 @@
 #![tactic(auto)]
 
 mod keys;
+mod registering;
 mod store;
 
 pub use store::Store;
