@@ -1,0 +1,4 @@
+pub mod Lines
+pub mod Plays
+pub mod Holds
+pub mod Legal
