@@ -16,6 +16,14 @@ use Rattle.script_lang.specs.Answers.{◌>>=◌}
 use Rattle.script_lang.specs.Numbers.{number_in, is_filled, one_number, two_numbers}
 use Rattle.script_lang.specs.Requests.{request_of}
 
+-- a line whose first word is `cluster`
+abbrev pub first_of : List (List ℕ) → List ℕ
+first_of [] = []
+first_of (word ∷ words) = word
+
+abbrev pub opens_cluster : List ℕ → Bool
+opens_cluster line = bytes_eq (first_of (words_of line)) (codes "cluster")
+
 -- The forms of lines, by their first words.
 abbrev pub form_of : List ℕ → Option Form
 form_of name =
@@ -71,11 +79,15 @@ opening (s ∷ a ∷ seed ∷ []) =
 opening words = Err UnknownLine
 
 -- `http A METHOD TARGET`, with more for a body; the draw is the script's seed and the request's number
+abbrev pub asks : ℕ → ℕ → ℕ → List ℕ → List ℕ → Option (List ℕ) → Result Line BadLine
+asks number seed agent method target rest = do
+  request ← request_of method target rest
+  Ok (Event (Ask agent (Good request) (record { hi = seed; lo = number })))
+
 abbrev pub asking : ℕ → ℕ → List (List ℕ) → Result Line BadLine
 asking number seed (a ∷ method ∷ target ∷ rest) = do
   agent ← number_in any32 a
-  request ← request_of method target (rest_of rest)
-  Ok (Event (Ask agent (Good request) (record { hi = seed; lo = number })))
+  asks number seed agent method target (rest_of rest)
 asking number seed words = Err UnknownLine
 
 -- a line of the form with these words after the first one

@@ -6,9 +6,11 @@ mod form;
 mod line;
 mod numbers;
 mod requests;
+#[cfg(test)]
+mod tests;
 mod text;
 mod words;
 
 pub use bad_line::BadLine;
-pub use line::{Line, read_line};
+pub use line::{Line, opens_cluster, read_line};
 pub use text::{print_end, print_out, print_refused};

@@ -34,20 +34,26 @@ const ANY_32: Bounds = Bounds {
     least: 0,
     most: 4_294_967_295,
 };
+
 const ANY_64: Bounds = Bounds {
     least: 0,
     most: 18_446_744_073_709_551_615,
 };
+
 const SERVERS: Bounds = Bounds { least: 1, most: 7 };
+
 const AGENTS: Bounds = Bounds { least: 0, most: 64 };
+
 const TICK_MS: Bounds = Bounds {
     least: 1,
     most: 86_400_000,
 };
+
 const MESSAGES: Bounds = Bounds {
     least: 1,
     most: 1_000_000,
 };
+
 const CALLS: Bounds = Bounds {
     least: 1,
     most: 4_294_967_295,
@@ -74,6 +80,29 @@ fn opening(words: Option<&[u8]>) -> Result<Line, BadLine>
     })
 }
 
+// The request of an agent, with its draw.
+fn asks(
+    alloc: Global,
+    number: u64,
+    seed: u64,
+    agent: u32,
+    method: &[u8],
+    target: &[u8],
+    rest: Option<&[u8]>,
+) -> Result<Line, BadLine>
+    ensures { UnlessMemory result (spec.asks number seed agent method.now target.now (option_copied rest.entry)) }
+{
+    let request = request_of(alloc, method, target, rest)?;
+    Ok(Line::Event(Event::Ask {
+        agent,
+        asked: Asked::Good(request),
+        draw: Draw {
+            hi: seed,
+            lo: number,
+        },
+    }))
+}
+
 // `http A METHOD TARGET`, with more for a body
 fn asking(alloc: Global, number: u64, seed: u64, words: Option<&[u8]>) -> Result<Line, BadLine>
     ensures { UnlessMemory result (spec.asking number seed (words_in (option_copied words.entry))) }
@@ -82,15 +111,7 @@ fn asking(alloc: Global, number: u64, seed: u64, words: Option<&[u8]>) -> Result
     let (method, words) = next_word(words)?;
     let (target, rest) = next_word(words)?;
     let agent = number_in(ANY_32, agent)?;
-    let request = request_of(alloc, method, target, rest)?;
-    Ok(Line::Event(Event::Ask {
-        agent: agent as u32,
-        asked: Asked::Good(request),
-        draw: Draw {
-            hi: seed,
-            lo: number,
-        },
-    }))
+    asks(alloc, number, seed, agent as u32, method, target, rest)
 }
 
 // The number of a server or an agent.
@@ -167,8 +188,17 @@ fn said(
     }
 }
 
-/// What a line of a script with this seed says, where the next request has this number, or why it's refused. The first
-/// line that says something must also be one for which `opens_cluster` holds, and no later one may be.
+/// Whether the line's first word is `cluster`. The first line that says something is refused as `ExpectedCluster` where
+/// it isn't, and a later one as `UnknownLine` where it is, whatever else is wrong with them.
+pub fn opens_cluster(line: &[u8]) -> bool
+    ensures { result ≡ spec.opens_cluster line.now }
+{
+    let (name, _) = cut(line);
+    name == b"cluster".as_slice()
+}
+
+/// What a line of a script with this seed says, where the next request has this number, or why it's refused: as an
+/// `UnknownLine`, a `BadNumber`, a `BadRequestLine` or `NotBuilt`. The other reasons hang on the lines before it.
 pub fn read_line(alloc: Global, line: &[u8], number: u64, seed: u64) -> Result<Line, BadLine>
     ensures { UnlessMemory result (spec.line_of number seed line.now) }
 {

@@ -130,12 +130,7 @@ fn get_of(alloc: Global, key: &str, body: Option<Bytes>) -> Result<Request, BadL
 }
 
 // The request, if it is one of those that are taken so far.
-fn taken(
-    alloc: Global,
-    method: &[u8],
-    key: &str,
-    body: Option<Bytes>,
-) -> Result<Request, BadLine>
+fn taken(alloc: Global, method: &[u8], key: &str, body: Option<Bytes>) -> Result<Request, BadLine>
     ensures { UnlessMemory result (spec.taken method.now key.now body) }
 {
     if method == b"PUT".as_slice() {
