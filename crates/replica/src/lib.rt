@@ -4,5 +4,7 @@
 mod copies;
 pub mod laws;
 mod replica;
+#[cfg(test)]
+mod tests;
 
 pub use replica::Replica;

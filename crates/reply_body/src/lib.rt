@@ -9,6 +9,8 @@ mod reads;
 mod refusals;
 mod rows;
 mod sessions;
+#[cfg(test)]
+mod tests;
 mod writes;
 
 pub use content::{Content, body};
