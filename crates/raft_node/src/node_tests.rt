@@ -1,16 +1,11 @@
-//! A test for each rule of proposals, rounds, heartbeats and halting, and an election with all its messages.
+//! A test for each rule of proposals, rounds, heartbeats and halting.
 
-ghost use Rattle.std.specs.Prelude.{OnOk};
-ghost use Rattle.raft_node.specs.Receiving.{CarriesAllowed};
-
-use crate::accepting::keeps_limits;
-use crate::counted::Counted;
 use crate::plain_messages::Said::{Append, AskVote, Vote, Yes};
 use crate::plain_messages::{expect, expect_terms, hears, leader, server};
 use crate::{Node, ProbeFault, ProposeFault};
-use cat_model::{Command, List, Role};
+use cat_model::{Command, Role};
 use cat_outside::MemKeeper;
-use raft_model::{Message, Place, Sent};
+use raft_model::Place;
 use std::alloc::Global;
 use std::process::Abort;
 use std::test::*;
@@ -114,59 +109,5 @@ fn a_full_log_takes_no_more(rt: HostRuntime) -> Result<(), Fail> {
         node.propose(rt.alloc(), number, Command::Reap)?;
     }
     assert_eq!(rt; refusal(&mut node, rt.alloc()), Some(ProposeFault::Full));
-    Ok(())
-}
-
-// The message's entries keep the limits of a log.
-fn test_allowed(rt: &(impl Abort + AllocGlobal), message: &Message) -> Result<(), Fail>
-    ensures { OnOk result (CarriesAllowed message.now) }
-{
-    if let Message::Append { entries, .. } = message {
-        let mut counted = Counted::none();
-        let keeps = keeps_limits(rt.alloc(), &[], &mut counted, 0, entries.as_slice())?;
-        assert!(rt; keeps);
-    }
-    Ok(())
-}
-
-// A server receives a message of another.
-fn deliver(
-    rt: &(impl Abort + AllocGlobal),
-    node: &mut Node<MemKeeper>,
-    from: u32,
-    message: &Message,
-) -> Result<List<Sent>, Fail> {
-    test_allowed(rt, message)?;
-    assert!(rt; from != 0 && from <= node.servers() && from != node.id());
-    Ok(node.receive(rt.alloc(), from, message)?)
-}
-
-// Two AskVotes and two Votes, two Appends and two Yeses, and these again with the commit: twelve messages.
-#[test]
-fn three_servers_elect_a_leader_and_commit_its_noop(rt: HostRuntime) -> Result<(), Fail> {
-    let mut nodes = Vec::new(rt.alloc());
-    for id in 1..4 {
-        nodes.push(server(rt.alloc(), id, 3)?)?;
-    }
-    assert!(rt; nodes.len() == 3);
-    let mut bag = Vec::new(rt.alloc());
-    let mut from = 1;
-    let mut sent = nodes[0].timeout(rt.alloc())?;
-    for _ in 0..12 {
-        for one in sent.into_vec() {
-            bag.push((from, one))?;
-        }
-        assert!(rt; !bag.is_empty() && nodes.len() == 3);
-        let (sender, one) = bag.remove(0);
-        assert!(rt; 1 <= one.to && one.to <= 3);
-        sent = deliver(&rt, &mut nodes[one.to as usize - 1], sender, &one.message)?;
-        from = one.to;
-    }
-    assert!(rt; bag.is_empty());
-    expect(&rt, &sent, &[]);
-    for node in &nodes {
-        assert_eq!(rt; node.commit(), 1);
-        expect_terms(&rt, node, &[1]);
-    }
     Ok(())
 }
