@@ -1,7 +1,7 @@
 use Rattle.std.proofs.Common.{◌≡◌, ◌+◌, ◌-◌, ◌^◌, ◌<◌, min, drop}
 use Rattle.raft_model.specs.Limits.{log_bytes}
 use Rattle.raft_node.specs.Counts.{bytes_of}
-use Rattle.raft_node.proofs.accepting.log_bytes.Given as goal
+use Rattle.raft_node.proofs.counted.log_bytes.Given as goal
 
 abbrev pub invariant-loop-entry : goal.invariant-loop-entry
 invariant-loop-entry l = record {

@@ -1,5 +1,5 @@
 use Rattle.raft_node.proofs.Fitting.{count_end, count_step}
-use Rattle.raft_node.proofs.accepting.log_bytes.Goals as goal
+use Rattle.raft_node.proofs.counted.log_bytes.Goals as goal
 
 pub loop-entry-preserved : goal.loop-entry-preserved
 loop-entry-preserved c = record {
