@@ -2,3 +2,6 @@ pub mod Counting
 pub mod Numbering
 pub mod Fronting
 pub mod Sharing
+pub mod Outgoing
+pub mod Stepped
+pub mod Calling

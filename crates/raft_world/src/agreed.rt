@@ -1,9 +1,10 @@
 //! The log that is agreed.
 
-ghost use Rattle.std.specs.Prelude.{◌≡◌};
-ghost use Rattle.raft_world.specs.Agreeing.{count_of, grown};
+ghost use Rattle.std.specs.Prelude.{◌≡◌, OnErr, OnOk};
+ghost use Rattle.raft_world.specs.Agreeing.{IsWithin, count_of, grown, left};
 
-use cat_model::{Entry, List};
+use cat_model::{Entry, List, Memory};
+use std::alloc::Global;
 
 /// The agreed log, the longest list that a server has committed.
 #[derive(Drop)]
@@ -31,6 +32,22 @@ impl Agreed {
     {
         if self.len() < count {
             *self = Agreed::Committed { at, count };
+        }
+    }
+
+    /// The server at this place is to begin again: what is agreed is copied from its log, where it stands there.
+    pub fn leave(&mut self, alloc: Global, at: usize, log: &[Entry]) -> Result<(), Memory>
+        requires { IsWithin self.old at log.now }
+        ensures ok { OnOk result (self.new ≡ left self.old at log.now) }
+        ensures err { OnErr result (self.new ≡ self.old) }
+    {
+        match self {
+            Agreed::Committed { at: place, count } if *place == at => {
+                let entries = Vec::from_clones(alloc, &log[..*count])?;
+                *self = Agreed::Kept(List::from(entries));
+                Ok(())
+            }
+            _ => Ok(()),
         }
     }
 }
