@@ -4,7 +4,8 @@ use Rattle.std.proofs.lemmas.List.{get_or-set_same, get_or_default, length-set, 
 use Rattle.raft_model.specs.declared.message.Sent.{Sent}
 use Rattle.raft_model.specs.Node.{Node}
 use Rattle.raft_model.specs.Rules.{Input}
-use Rattle.raft_model.specs.World.{World, Bag, Move, WorldStep, Acts, Agrees, IsNew, IsReached, posted_all, says_yes, raised}
+use Rattle.raft_model.specs.Step.{NodeStep, Works}
+use Rattle.raft_model.specs.World.{World, Packet, numbered, Bag, Move, WorldStep, Acts, Agrees, IsNew, IsReached, posted_all, says_yes, raised}
 use Rattle.raft_model.specs.World as world
 use Rattle.raft_model.proofs.Theorems.{agrees, grows}
 use Rattle.raft_model.proofs.Tests.{at_bool}
@@ -13,8 +14,10 @@ use Rattle.raft_node.specs.Steps as node
 use Rattle.raft_world.specs.declared.agreed.Agreed.{Agreed}
 use Rattle.raft_world.specs.Agreeing.{grown}
 use Rattle.raft_world.specs.Steps.{FindsNoMemory, IsNumber, KeepsAgreement, StepsWhole}
-use Rattle.raft_world.proofs.Outgoing.{IsFit}
-use Rattle.raft_world.proofs.Stepped.{Is, Parts, acts, finds, makes, noted, with_node, with_step, world_of}
+use Rattle.raft_world.specs.Worlds.{MayCome}
+use Rattle.raft_world.proofs.Eventful.{may_come}
+use Rattle.raft_world.proofs.Outgoing.{IsFit, IsPeer}
+use Rattle.raft_world.proofs.Stepped.{Is, Parts, acts, finds, makes, noted, step_is, unchanged, with_node, with_step, world_of}
 
 pub on_err : {T E Q : Type 0} (r : Result T E) → Q → OnErr r Q
 on_err (Ok x) q = tt
@@ -74,3 +77,36 @@ module _ (p : Parts) (is : Is p) (w : World) (view : world_of p ≡ w) (at s : �
       let r = makes p is at within old new (sym here) input sent fit (subst (λ v. IsNew v input) (sym view) fresh) up steps in
       (subst Is (sym same) r.0,
       subst (λ z. StepsWhole w s input (world_of z)) (sym same) (subst (λ v. StepsWhole v s input (world_of (with_step p at new sent p.greatest))) view (subst (λ k. StepsWhole (world_of p) k input (world_of (with_step p at new sent p.greatest))) named r.1)))
+
+  -- the node is as before
+  pub call_same : new ≡ old → Is (with_node p at new) × (world_of (with_node p at new) ≡ w)
+  call_same e = let same = unchanged p is at within old new (sym here) e in (subst Is (sym same) is, ap world_of same ∙ view)
+
+  pub call_works : (q : Parts) (input : Input) (sent : List Sent) → q ≡ with_step p at new sent q.greatest → IsFit old input → IsNew w input → q.greatest ≡ raised input p.greatest → NodeStep Works old input new sent
+      → Is q × ((a : Acts w s input (world_of q)) × (a.outcome ≡ Works) × (a.old ≡ old) × (a.new ≡ new))
+  call_works q input sent same fit fresh up step =
+      let r = acts p is at within old new (sym here) Works input sent q.greatest up (subst (λ v. IsNew v input) (sym view) fresh) step in
+      let Goal : World → ℕ → World → Type 0 = λ v k v'. (a : Acts v k input v') × (a.outcome ≡ Works) × (a.old ≡ old) × (a.new ≡ new) in
+      (subst Is (sym same) (step_is p is at within old new (sym here) Works input sent q.greatest fit step),
+      subst (λ z. Goal w s (world_of z)) (sym same) (subst (λ v. Goal v s (world_of (with_step p at new sent q.greatest))) view (subst (λ k. Goal (world_of p) k (world_of (with_step p at new sent q.greatest))) named r)))
+
+-- a message's receiver, and what it must know of the message
+pub record IsReceived (p : Parts) (w : World) (k : ℕ) (packet : Packet) : Type 0 where
+  pub here : numbered k w.bag.packets ≡ Some packet
+  pub number : IsNumber packet.to w
+  pub may : MayCome (length p.nodes) packet
+
+pub received : (p : Parts) → Is p → (w : World) → world_of p ≡ w → (k : ℕ) (packet : Packet) → Some packet ≡ numbered k p.bag.packets → IsReceived p w k packet
+received p is w view k packet e =
+    let may = may_come (length p.nodes) k p.bag.packets packet is.come (sym e) in
+    record {
+      here = ap (λ (v : World). numbered k v.bag.packets) (sym view) ∙ sym e;
+      number = (may.to.0, omega (arith, may.to.1, ap (λ (v : World). length v.nodes) view));
+      may = may;
+    }
+
+-- the message comes from another server than the node at its receiver's place
+pub comes_fit : (p : Parts) → Is p → (packet : Packet) → MayCome (length p.nodes) packet → (at : ℕ) → at + 1 ≡ packet.to → (n : Node) → n ≡ get_or p.nodes at n → IsPeer n.id n.servers packet.from
+comes_fit p is packet may at place n here =
+    let seat = is.seated at n (omega (arith, place, may.to.1)) (sym here) in
+    (may.from.0, omega (arith, may.from.1, seat.servers), λ same. may.other (omega (arith, same, seat.id, place)))

@@ -4,4 +4,5 @@ pub mod Fronting
 pub mod Sharing
 pub mod Outgoing
 pub mod Stepped
+pub mod Eventful
 pub mod Calling

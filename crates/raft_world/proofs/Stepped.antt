@@ -105,7 +105,7 @@ seat_up : (servers a b at : ℕ) (n : Node) → a ≤ b → IsSeated servers a a
 seat_up servers a b at n l s = record { id = s.id; servers = s.servers; committed = omega (arith, s.committed) }
 
 -- the seats, once the node at a place is another with the same numbers
-seats : (nodes : List Node) (a b at : ℕ) (old new : Node) → ((j : ℕ) (n : Node) → j < length nodes → get_or nodes j n ≡ n → IsSeated (length nodes) a j n)
+pub seats : (nodes : List Node) (a b at : ℕ) (old new : Node) → ((j : ℕ) (n : Node) → j < length nodes → get_or nodes j n ≡ n → IsSeated (length nodes) a j n)
     → at < length nodes → get_or nodes at old ≡ old → a ≤ b → new.id ≡ old.id → new.servers ≡ old.servers → min new.commit (length new.log) ≤ b
     → (j : ℕ) (n : Node) → j < length (set nodes at new) → get_or (set nodes at new) j n ≡ n → IsSeated (length (set nodes at new)) b j n
 seats nodes a b at old new all l here up id servers most j n k e = go (eqb_tells j at)
@@ -170,7 +170,7 @@ module _ (p : Parts) (is : Is p) (at : ℕ) (l : at < length p.nodes) (old new :
       (record { old = old; outcome = outcome; new = new; sent = sent; server = (l, here); fresh = fresh; step = step; becomes = step_becomes outcome input sent greatest up step }, refl, refl, refl)
 
   -- a step that commits nothing new and sends nothing
-  still : (greatest : ℕ) → min new.commit (length new.log) ≤ count_of p.agreed → with_step p at new [] greatest ≡ record (with_node p at new) { greatest = greatest }
+  pub still : (greatest : ℕ) → min new.commit (length new.log) ≤ count_of p.agreed → with_step p at new [] greatest ≡ record (with_node p at new) { greatest = greatest }
   still greatest most = λ i. record {
     nodes = set p.nodes at new;
     clocks = p.clocks;
@@ -181,7 +181,7 @@ module _ (p : Parts) (is : Is p) (at : ℕ) (l : at < length p.nodes) (old new :
   }
 
   -- the step that found no memory once the vote was saved
-  forgot : (input : Input) → IsFit old input → IsNew (world_of p) input → p.greatest ≡ raised input p.greatest → NodeStep Forgets old input new []
+  pub forgot : (input : Input) → IsFit old input → IsNew (world_of p) input → p.greatest ≡ raised input p.greatest → NodeStep Forgets old input new []
       → Is (with_node p at new) × FindsNoMemory (world_of p) (suc at) input (world_of (with_node p at new))
   forgot input fit fresh up step =
       let seat = is.seated at old l here in
@@ -192,7 +192,7 @@ module _ (p : Parts) (is : Is p) (at : ℕ) (l : at < length p.nodes) (old new :
       (subst Is same (step_is Forgets input [] p.greatest fit step), inr (subst (λ q. (b : Acts (world_of p) (suc at) input (world_of q)) × (b.outcome ≡ Forgets)) same (a.0, a.1)))
 
   -- nothing came of it
-  unchanged : new ≡ old → with_node p at new ≡ p
+  pub unchanged : new ≡ old → with_node p at new ≡ p
   unchanged e =
       let same : set p.nodes at new ≡ p.nodes = ap (set p.nodes at) (e ∙ sym here) ∙ set-get_or p.nodes at old in
       λ i. record p { nodes = same i }
