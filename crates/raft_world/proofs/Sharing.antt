@@ -137,3 +137,8 @@ within_log (Committed j k) nodes at log is s = λ q. omega (arith, s.1, ap lengt
 
 pub log_there : (nodes : List Node) (at : ℕ) (n : Node) → at < length nodes → n ≡ get_or nodes at n → n.log ≡ log_at nodes at
 log_there nodes at n l e = ap (λ (m : Node). m.log) e ∙ sym (log_is nodes at n l)
+
+-- what stands in that server's log is copied
+pub left_there : (a : Agreed) (place count at : ℕ) (log entries : Log) → a ≡ Committed place count → place ≡ at → entries ≡ take count log → Kept entries ≡ left a at log
+left_there a place count at log entries is here copy =
+    ap (λ x. Kept x) copy ∙ ap (λ b. cond b (Kept (take count log)) (Committed place count)) (sym (eq_is place at here)) ∙ ap (λ x. left x at log) (sym is)

@@ -1,6 +1,6 @@
 //! The log that is agreed.
 
-ghost use Rattle.std.specs.Prelude.{◌≡◌, OnErr, OnOk};
+ghost use Rattle.std.specs.Prelude.{◌≡◌, IfOk, OnErr, OnOk};
 ghost use Rattle.raft_world.specs.Agreeing.{IsWithin, count_of, grown, left};
 
 use cat_model::{Entry, List, Memory};
@@ -13,6 +13,14 @@ pub enum Agreed {
     Kept(List<Entry>),
     /// The first so many entries of a server's log, which it has committed and so does not change.
     Committed { at: usize, count: usize },
+}
+
+// A copy of these entries.
+fn copied(alloc: Global, entries: &[Entry]) -> Result<List<Entry>, Memory>
+    ensures { IfOk result (λ copy. copy ≡ entries.now) }
+{
+    let copy = Vec::from_clones(alloc, entries)?;
+    Ok(List::from(copy))
 }
 
 impl Agreed {
@@ -43,8 +51,8 @@ impl Agreed {
     {
         match self {
             Agreed::Committed { at: place, count } if *place == at => {
-                let entries = Vec::from_clones(alloc, &log[..*count])?;
-                *self = Agreed::Kept(List::from(entries));
+                let entries = copied(alloc, &log[..*count])?;
+                *self = Agreed::Kept(entries);
                 Ok(())
             }
             _ => Ok(()),
