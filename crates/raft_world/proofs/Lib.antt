@@ -6,3 +6,4 @@ pub mod Outgoing
 pub mod Stepped
 pub mod Eventful
 pub mod Calling
+pub mod Asked

@@ -53,6 +53,11 @@ raised_to number w = record w { greatest = max w.greatest number }
 abbrev pub IsRefused : World → ℕ → ℕ → Command → World → Type 0
 IsRefused w s number command w' = StepsWorking w s (Propose number command) w' × (w' ≡ raised_to number w)
 
+-- the greatest number proposed, once a proposal was refused for this
+abbrev pub counted : ProposeFault → ℕ → ℕ → ℕ
+counted Memory number greatest = greatest
+counted fault number greatest = max greatest number
+
 -- it runs and leads
 abbrev pub Leads : World → ℕ → Type 0
 Leads w s = (n : Node) × IsServer w s n × IsLeading n

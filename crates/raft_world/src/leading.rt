@@ -4,7 +4,7 @@ ghost use Rattle.std.specs.Prelude.{◌≡◌, ◌-◌, ◌^◌, ◌<◌, ◌↔
 ghost use Rattle.raft_model.specs.Node as model;
 ghost use Rattle.raft_model.specs.Rules.{Propose};
 ghost use Rattle.raft_model.specs.World.{IsNew, IsServer};
-ghost use Rattle.raft_world.specs.Steps.{Begun, IsNumber, KeepsAgreement, Leads, Places, Proposes, Shows};
+ghost use Rattle.raft_world.specs.Steps.{Begun, IsNumber, KeepsAgreement, Leads, Places, Proposes, Shows, counted};
 
 use crate::settling::{place, settle};
 use crate::world::World;
@@ -13,6 +13,16 @@ use cat_outside::Keeper;
 use raft_model::{Place, Round};
 use raft_node::{ProbeFault, ProposeFault};
 use std::alloc::Global;
+
+// The number of a refused proposal counts too, but not where there was no memory.
+fn counted(fault: ProposeFault, number: u64, greatest: u64) -> u64
+    ensures { result ≡ counted fault number greatest }
+{
+    match fault {
+        ProposeFault::Memory => greatest,
+        ProposeFault::NotLeader | ProposeFault::Halted | ProposeFault::Full => greatest.max(number),
+    }
+}
 
 impl<K: Keeper + Drop> World<K> {
     /// Proposes a command at a server, with a number that is 0 or above all proposed before. Gives the place of its
@@ -46,9 +56,8 @@ impl<K: Keeper + Drop> World<K> {
                 );
                 Ok(place)
             }
-            Err(ProposeFault::Memory) => Err(ProposeFault::Memory),
             Err(fault) => {
-                self.greatest = self.greatest.max(number);
+                self.greatest = counted(fault, number, self.greatest);
                 Err(fault)
             }
         }
