@@ -7,3 +7,4 @@ pub mod Stepped
 pub mod Eventful
 pub mod Calling
 pub mod Asked
+pub mod Beginning

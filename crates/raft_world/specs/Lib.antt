@@ -4,3 +4,4 @@ pub mod Fronts
 pub mod Agreeing
 pub mod Worlds
 pub mod Steps
+pub mod Starting

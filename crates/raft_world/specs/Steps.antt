@@ -3,18 +3,16 @@ use Rattle.std.specs.Prelude.{◌≡◌, ◌≢◌, ℕ, zero, suc, get_or, ◌+
 use Rattle.std.specs.Option.{ForSome}
 use Rattle.cat_model.specs.declared.command.Command.{Command}
 use Rattle.cat_model.specs.declared.reply.Role.TheVariants.{Leader}
-use Rattle.cat_outside.specs.declared.faults.KeepFail.{KeepFail}
-use Rattle.cat_outside.specs.declared.faults.KeepFail.TheVariants.{Memory as KeepMemory}
 use Rattle.raft_model.specs.declared.message.Place.{Place}
 use Rattle.raft_model.specs.declared.message.Round.{Round}
 use Rattle.raft_model.specs.Facts.{IsLeading, IsPlaced, IsReady, ShowsAgreed, next_round}
 use Rattle.raft_model.specs.Node.{Store, Node, last}
 use Rattle.raft_model.specs.Rules.{Input, Propose, Probe, Receive, has_room, proposal}
-use Rattle.raft_model.specs.Step.{CallWorks, Forgets, LogFails, Works, as_before}
+use Rattle.raft_model.specs.Step.{Forgets, LogFails, Works}
 use Rattle.raft_model.specs.World.{World, Packet, Acts, Agrees, IsReached, IsServer, Restarts, WorldStep, numbered}
 use Rattle.raft_node.specs.declared.fault.ProposeFault.{ProposeFault}
 use Rattle.raft_node.specs.declared.fault.ProposeFault.TheVariants.{NotLeader, Halted, Full, Memory}
-use Rattle.raft_node.specs.Steps.{FailsToLoad, MayPropose}
+use Rattle.raft_node.specs.Steps.{MayPropose}
 
 -- a server's number
 abbrev pub IsNumber : ℕ → World → Type 0
@@ -96,11 +94,3 @@ Begun w s w' round = (acts : Acts w s Probe w') × (acts.outcome ≡ Works) × I
 -- committed an entry of its own term.
 abbrev pub Shows : World → ℕ → Round → Type 0
 Shows w s round = IsReached w → (n : Node) → IsServer w s n → IsReady n → ShowsAgreed w round
-
--- The stores of servers that could not begin: those before one were read, that one was not, and those behind it were
--- not tried. Want of memory for the world itself comes before any is read.
-abbrev pub AreGivenBack : KeepFail → List Store → List Store → Type 0
-AreGivenBack why [] [] = why ≡ KeepMemory
-AreGivenBack why [] (t ∷ ts) = ⊥
-AreGivenBack why (s ∷ ss) [] = ⊥
-AreGivenBack why (s ∷ ss) (t ∷ ts) = (FailsToLoad why s t × (ts ≡ ss)) ⊎ (CallWorks as_before s t × AreGivenBack why ss ts)

@@ -8,6 +8,7 @@ mod calls;
 pub mod laws;
 mod leading;
 mod settling;
+mod starting;
 #[cfg(test)]
 mod tests;
 pub mod weight;
