@@ -84,7 +84,11 @@ fn state(world: &World<SureKeeper>, s: u32) -> Option<(u64, Role)> {
 }
 
 // A proposal of a Reap without a number.
-fn propose(world: &mut World<SureKeeper>, alloc: Global, s: u32) -> Option<Result<Place, ProposeFault>> {
+fn propose(
+    world: &mut World<SureKeeper>,
+    alloc: Global,
+    s: u32,
+) -> Option<Result<Place, ProposeFault>> {
     if !is_server(world, s) {
         return None;
     }
