@@ -5,6 +5,9 @@ use Rattle.std.specs.List.{AllByRecursion as Each}
 use Rattle.std.proofs.lemmas.Bool.Decides.{nat_tests}
 use Rattle.cat_model.specs.declared.reply.Mark.{Mark}
 use Rattle.cat_model.specs.declared.reply.Mark.TheVariants as mark
+use Rattle.cat_model.specs.declared.request.Asked.{Asked}
+use Rattle.cat_model.specs.declared.request.Draw.{Draw}
+use Rattle.cat_model.specs.declared.request.Event.TheVariants as event
 use Rattle.cat_model.specs.declared.command.Entry.{Entry}
 use Rattle.raft_model.specs.Log.{Log}
 use Rattle.raft_model.specs.World.{World}
@@ -13,11 +16,11 @@ use Rattle.cluster_rules.specs.Cluster.{Cluster, Pending, Server, Stand}
 use Rattle.cluster_rules.specs.Due.{with_held}
 use Rattle.cluster_rules.specs.Requests.{entries_past, halts_past, moved_with}
 use Rattle.cluster_rules.specs.Sound.{Ascends, IsAmong}
-use Rattle.cluster_rules.specs.Step.{ended, events_in}
+use Rattle.cluster_rules.specs.Step.{ended, events_in, marked}
 use Rattle.open_requests.specs.declared.note.Note.{Note}
 use Rattle.open_requests.specs.declared.note.Note.TheVariants.{Marked, Joined}
 use Rattle.open_requests.specs.Notes.{joined_in, past_of, event_of, events_noted, taken_note}
-use Rattle.open_requests.specs.Requests.{Requests, cluster_of, restood, with_note, halted_with, ended_all}
+use Rattle.open_requests.specs.Requests.{Requests, cluster_of, restood, with_note, halted_with, ended_all, came_with}
 use Rattle.open_requests.specs.Taking.{Takes}
 
 -- the count of events
@@ -138,3 +141,8 @@ untaken_past log (Some k) notes e = absurd cc
 pub hands_by : (w : World) (servers : List Server) (old new : Requests) (out : Out) → number_of out ≡ None → (t : Takes out old new) → cluster_of w servers new ≡ record (cluster_of w servers old) { tray = t.before ++ t.after }
 hands_by w servers old new out e t =
     ap (cluster_of w servers) t.is ∙ ap (λ p. record (cluster_of w servers old) { tray = t.before ++ t.after; past = p }) (untaken_past w.agreed (number_of out) old.notes e)
+
+pub comes_by : (w : World) (servers : List Server) (r : Requests) (agent : ℕ) (asked : Asked) (draw : Draw) → cluster_of w servers (came_with agent asked draw r) ≡ marked (event.Ask agent asked draw) (cluster_of w servers r)
+comes_by w servers r agent asked draw =
+    let next : r.asked + 1 ≡ suc r.asked = omega arith in
+    ap (λ n. record (cluster_of w servers r) { asked = n; past = mark.Asked n agent asked draw ∷ past_of w.agreed r.notes }) next

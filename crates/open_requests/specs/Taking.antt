@@ -1,6 +1,6 @@
 -- What a call that looks for a request's out finds.
-use Rattle.std.specs.Prelude.{◌≡◌, ◌≢◌, ◌==◌, Bool, false, ℕ, length, List, [], ◌∷◌, ◌++◌, Option, Some, None}
-use Rattle.std.specs.List.{AllByRecursion as Each}
+use Rattle.std.specs.Prelude.{◌≡◌, ◌≢◌, ◌==◌, Bool, false, ℕ, get_or, List, [], ◌∷◌, ◌++◌, Option, Some, None}
+use Rattle.std.specs.List.{AllByRecursion as Each, remove}
 use Rattle.cat_model.specs.declared.request.Asked.{Asked}
 use Rattle.cat_model.specs.declared.request.Asked.TheVariants.{Good, Bad}
 use Rattle.cat_model.specs.declared.request.Request.TheVariants.{Read}
@@ -23,7 +23,7 @@ pub record Takes (out : Out) (old new : Requests) : Type 0 where
 
 -- The first out of the tray was taken.
 abbrev pub TakesFirst : Out → Requests → Requests → Type 0
-TakesFirst out old new = (after : List Out) × (old.tray ≡ out ∷ after) × (new ≡ record old { tray = after; notes = taken_note (number_of out) old.notes })
+TakesFirst out old new = (old.tray ≡ out ∷ new.tray) × (new ≡ record old { tray = new.tray; notes = taken_note (number_of out) old.notes })
 
 abbrev pub has_number : Option ℕ → ℕ → Bool
 has_number None number = false
@@ -39,13 +39,7 @@ HasNoOut number tray = Each (λ (o : Out). number_of o ≢ Some number) tray
 
 -- the out at this place of the tray was taken
 abbrev pub TakesAt : ℕ → Out → Requests → Requests → Type 0
-TakesAt at out old new =
-    (before : List Out) × (after : List Out) × (old.tray ≡ before ++ out ∷ after) × (length before ≡ at)
-    × (new ≡ record old { tray = before ++ after; notes = taken_note (number_of out) old.notes })
-
--- the out of a request stands at this place of the tray
-abbrev pub HasOutAt : ℕ → ℕ → List Out → Type 0
-HasOutAt number at tray = (before : List Out) × (out : Out) × (after : List Out) × (tray ≡ before ++ out ∷ after) × (length before ≡ at) × (number_of out ≡ Some number)
+TakesAt at out old new = (out ≡ get_or old.tray at out) × (new ≡ record old { tray = remove old.tray at; notes = taken_note (number_of out) old.notes })
 
 -- and is not held
 abbrev pub IsNotHeld : ℕ → List Pending → Type 0

@@ -25,7 +25,6 @@ ghost use Rattle.open_requests.specs.Requests.{Requests, answered_with, came_wit
 ghost use Rattle.open_requests.specs.Taking.{Takes};
 
 /// An answer is one of the rules, where its content is what they show.
-#[tactic(auto, unfolding(cluster_rules::specs::Replies::shown))]
 pub fn answers_lift()
     ensures held { (w : World) (servers : List Server) (r : Requests) (q : Question) (kind : Kind) (known : Bool) (contact : ℕ) (log : Log) → cluster_of w servers (answered_with q.number kind known contact (shown q kind log) r) ≡ answered q kind known contact log (cluster_of w servers r) }
     ensures refused { (w : World) (servers : List Server) (r : Requests) (q : Question) (why : Refusal) → cluster_of w servers (answered_with q.number (Refused why) false 0 (Says why) r) ≡ refused q why (cluster_of w servers r) }
@@ -42,7 +41,6 @@ pub fn holdings_lift()
 {}
 
 /// A held request that waits for something else does so by the rules.
-#[tactic(auto, using(crate::proofs::Lifting::restands_by))]
 pub fn stands_lift()
     ensures { (h : Pending) (stand : Stand) (held : List Pending) → Ascends held → IsAmong h held → map (restood h.question.number stand) held ≡ with_held (record h { stand = stand }) held }
 {}
@@ -54,19 +52,16 @@ pub fn marks_lift()
 {}
 
 /// Entries that joined the agreed log, and a halt before, are marked as the rules mark them.
-#[tactic(auto, using(crate::proofs::Lifting::moves_by))]
 pub fn moves_lift()
     ensures { (failed : Bool) (i : ℕ) (w w' : World) (servers : List Server) (r : Requests) (more : Log) → joined_in r.notes ≡ length w.agreed → w'.agreed ≡ w.agreed ++ more → cluster_of w' servers (with_note (Joined (length more)) (halted_with failed i r)) ≡ moved_with failed i w' (cluster_of w servers r) }
 {}
 
 /// A longer agreed log changes no mark.
-#[tactic(auto, using(crate::proofs::Lifting::past_kept))]
 pub fn marks_stay()
     ensures { (r : Requests) (log more : Log) → joined_in r.notes ≤ length log → past_of (log ++ more) r.notes ≡ past_of log r.notes }
 {}
 
 /// A server's restart ends what it holds as the rules do.
-#[tactic(auto, using(crate::proofs::Lifting::ends_by))]
 pub fn ends_lift()
     ensures { (w : World) (servers : List Server) (r : Requests) (i : ℕ) → let c = cluster_of w servers r in cluster_of w servers (ended_all i r) ≡ record c { held = map (ended i (events_in c.past)) c.held } }
 {}
@@ -78,7 +73,6 @@ pub fn shelving_lifts()
 {}
 
 /// The taking of a request's out is one of the rules' moves, as is that of a sync's, which has no mark.
-#[tactic(auto, using(crate::proofs::Lifting::takes_by, crate::proofs::Lifting::hands_by))]
 pub fn takings_lift()
     ensures request { (w : World) (servers : List Server) (old new : Requests) (out : Out) (number : ℕ) → number_of out ≡ Some number → (t : Takes out old new) → let c = cluster_of w servers old in cluster_of w servers new ≡ record c { tray = t.before ++ t.after; past = mark.Taken number ∷ c.past } }
     ensures sync { (w : World) (servers : List Server) (old new : Requests) (out : Out) → number_of out ≡ None → (t : Takes out old new) → let c = cluster_of w servers old in cluster_of w servers new ≡ record c { tray = t.before ++ t.after } }

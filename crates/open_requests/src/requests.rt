@@ -1,16 +1,15 @@
 //! The requests of a cluster.
 
-ghost use Rattle.std.specs.Prelude.{◌≡◌, ◌<◌, ◌+◌, ℕ, [], ◌∷◌, IfOk, OnOk, OnErr, MatchOption, false, length, map, reverse};
-ghost use Rattle.cat_model.specs.declared.request.Asked.{Asked as SpecAsked};
-ghost use Rattle.cat_model.specs.declared.request.Draw.{Draw as SpecDraw};
+ghost use Rattle.std.specs.Prelude.{◌≡◌, ◌<◌, ◌+◌, [], ◌∷◌, IfOk, IfSome, IfNone, None, Some, OnOk, OnErr, false, length, map, reverse};
 ghost use Rattle.cat_model.specs.declared.reply.Mark.TheVariants as mark;
 ghost use Rattle.open_requests.specs.declared.note.Note.TheVariants as notes;
 ghost use Rattle.open_requests.specs.Contents.{content_of, stand_of, start_of};
+ghost use Rattle.std.specs.List.{position};
 ghost use Rattle.cluster_rules.specs.Replies.{Says};
 ghost use Rattle.open_requests.specs.Notes.{event_of, events_noted};
 ghost use Rattle.open_requests.specs.Plain.{refusal_of};
-ghost use Rattle.open_requests.specs.Requests.{answered_with, came_with, closed_with, empty, ended_all, holding_with, noted, numbered, restood, SomeCome, IsCome, shelved_all, used, with_note, forgotten, given_with};
-ghost use Rattle.open_requests.specs.Taking.{HasOutAt, IsCollected, TakesAt, TakesFirst};
+ghost use Rattle.open_requests.specs.Requests.{answered_with, came_with, closed_with, empty, ended_all, holding_with, noted, restood, shelved_all, used, with_note, forgotten, given_with};
+ghost use Rattle.open_requests.specs.Taking.{IsCollected, TakesAt, TakesFirst, is_of};
 
 use crate::collected::Collected;
 use crate::content::Content;
@@ -217,23 +216,11 @@ impl Requests {
         self.room -= 1;
     }
 
-    /// The request that was noted last takes its number. There is room for it, so that it takes no memory.
-    #[tactic(none)]
-    pub fn number(&mut self)
-        requires room { 0 < self.old.room }
-        requires come { SomeCome self.old.notes }
-        ensures { (agent : ℕ) (asked : SpecAsked) (draw : SpecDraw) → IsCome agent asked draw self.old.notes → self.new ≡ used (numbered agent asked draw self.old) }
-    {
-        self.asked += 1;
-        noting::number_last(&mut self.notes, self.asked);
-        self.room -= 1;
-    }
-
     /// Takes the note back that was put last.
     pub fn forget(&mut self)
         ensures { self.new ≡ forgotten self.old }
     {
-        if let Some(note) = self.notes.pop() {
+        if let Some(note) = noting::take_back(&mut self.notes) {
             self.events -= note.events();
         }
     }
@@ -352,8 +339,10 @@ impl Requests {
     }
 
     /// Takes the first out of the tray, if there is one.
+    #[tactic(none)]
     pub fn next_out(&mut self) -> Option<Out>
-        ensures { MatchOption result ((self.old.tray ≡ []) × (self.new ≡ self.old)) (λ out. TakesFirst out self.old self.new) }
+        ensures none { IfNone result ((self.old.tray ≡ []) × (self.new ≡ self.old)) }
+        ensures some { IfSome result (λ out. TakesFirst out self.old self.new) }
     {
         match self.tray.pop_front() {
             None => None,
@@ -384,18 +373,26 @@ impl Requests {
     {
         match giving::find(&self.tray, number) {
             Some(at) => self.collect_at(at, number),
-            None => match holding::find(self.held.as_slice(), number) {
-                Some(pending) => Collected::NotYet(pending.awaits()),
-                None => Collected::Gone,
-            },
+            None => self.awaited(number),
+        }
+    }
+
+    // What a request without an out waits for.
+    #[tactic(none)]
+    fn awaited(&self, number: u64) -> Collected
+        requires { position (λ o. is_of number o) self.now.tray ≡ None }
+        ensures { IsCollected number result self.now self.now }
+    {
+        match holding::find(self.held.as_slice(), number) {
+            Some(pending) => Collected::NotYet(pending.awaits()),
+            None => Collected::Gone,
         }
     }
 
     // Takes a request's out from its place.
     #[tactic(none)]
     fn collect_at(&mut self, at: usize, number: u64) -> Collected
-        requires place { HasOutAt number at self.old.tray }
-        requires within { at < length self.old.tray }
+        requires { position (λ o. is_of number o) self.old.tray ≡ Some at }
         ensures { IsCollected number result self.old self.new }
     {
         match self.take_at(at).into_given() {
