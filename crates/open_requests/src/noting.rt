@@ -1,6 +1,6 @@
 //! The notes of what has happened, the last one last.
 
-ghost use Rattle.std.specs.Prelude.{◌≡◌, ◌+◌, ◌<◌, ◌≤◌, [], ◌∷◌, MatchOption, reverse, vec_len, vec_capacity};
+ghost use Rattle.std.specs.Prelude.{◌≡◌, ◌+◌, ◌<◌, ◌≤◌, ◌∷◌, reverse, vec_len, vec_capacity};
 ghost use Rattle.open_requests.specs.Notes.{taken_note};
 
 use crate::note::Note;
@@ -27,13 +27,4 @@ pub fn add_taken(notes: &mut Vec<Note>, number: Option<u64>)
         Some(number) => add(notes, Note::Marked(Mark::Taken { number })),
         None => {}
     }
-}
-
-/// Takes the note back that was put last.
-pub fn take_back(notes: &mut Vec<Note>) -> Option<Note>
-    ensures items { MatchOption result ((reverse notes.old.items ≡ []) × (reverse notes.new.items ≡ [])) (λ note. reverse notes.old.items ≡ note ∷ reverse notes.new.items) }
-    ensures len { vec_len notes.new ≤ vec_len notes.old }
-    ensures capacity { vec_capacity notes.new ≡ vec_capacity notes.old }
-{
-    notes.pop()
 }

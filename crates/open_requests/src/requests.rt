@@ -8,7 +8,7 @@ ghost use Rattle.std.specs.List.{position};
 ghost use Rattle.cluster_rules.specs.Replies.{Says};
 ghost use Rattle.open_requests.specs.Notes.{event_of, events_noted};
 ghost use Rattle.open_requests.specs.Plain.{refusal_of};
-ghost use Rattle.open_requests.specs.Requests.{answered_with, came_with, closed_with, empty, ended_all, holding_with, noted, restood, shelved_all, used, with_note, forgotten, given_with};
+ghost use Rattle.open_requests.specs.Requests.{answered_with, came_with, closed_with, empty, ended_all, holding_with, noted, restood, shelved_all, used, with_note, given_with};
 ghost use Rattle.open_requests.specs.Taking.{IsCollected, TakesAt, TakesFirst, is_of};
 
 use crate::collected::Collected;
@@ -216,15 +216,6 @@ impl Requests {
         self.room -= 1;
     }
 
-    /// Takes the note back that was put last.
-    pub fn forget(&mut self)
-        ensures { self.new ≡ forgotten self.old }
-    {
-        if let Some(note) = noting::take_back(&mut self.notes) {
-            self.events -= note.events();
-        }
-    }
-
     /// The server holds the request. There is room for it, so that it takes no memory.
     pub fn hold(&mut self, question: Question, server: u32, stand: Stand, start: Start)
         requires { 0 < self.old.room }
@@ -339,7 +330,6 @@ impl Requests {
     }
 
     /// Takes the first out of the tray, if there is one.
-    #[tactic(none)]
     pub fn next_out(&mut self) -> Option<Out>
         ensures none { IfNone result ((self.old.tray ≡ []) × (self.new ≡ self.old)) }
         ensures some { IfSome result (λ out. TakesFirst out self.old self.new) }
@@ -354,7 +344,6 @@ impl Requests {
     }
 
     // Takes the out at a place of the tray.
-    #[tactic(none)]
     fn take_at(&mut self, at: usize) -> Out
         requires { at < length self.old.tray }
         ensures { TakesAt at result self.old self.new }
