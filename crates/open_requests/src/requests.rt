@@ -69,6 +69,12 @@ impl Model for Requests {
         × spec.HasNumbers r.room r.asked r.events (reverse r.notes.items) };
 }
 
+// Lets go of a reply that is not given.
+fn discard_reply(_reply: Reply) {}
+
+// Lets go of a mark that is not put.
+fn discard_mark(_mark: Mark) {}
+
 impl Requests {
     /// No requests, in a cluster of so many agents.
     pub fn new(alloc: Global, agents: u32) -> Requests
@@ -249,7 +255,11 @@ impl Requests {
                 self.give(reply, mark);
                 Ok(())
             }
-            Err(Memory) => Err(Memory),
+            Err(Memory) => {
+                discard_reply(reply);
+                discard_mark(mark);
+                Err(Memory)
+            }
         }
     }
 
@@ -260,7 +270,10 @@ impl Requests {
     {
         match reply.mark() {
             Ok(mark) => self.give_new(reply, mark),
-            Err(Memory) => Err(Memory),
+            Err(Memory) => {
+                discard_reply(reply);
+                Err(Memory)
+            }
         }
     }
 
