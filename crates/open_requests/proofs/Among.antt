@@ -7,7 +7,8 @@ use Rattle.std.specs.List.{AllByRecursion as Each, position, position_or_len, fi
 use Rattle.cluster_rules.specs.Replies.{Out, Reply, Replied, Closed, Synced, number_of}
 use Rattle.cluster_rules.specs.Cluster.{Pending}
 use Rattle.cluster_rules.specs.Sound.{IsAmong}
-use Rattle.open_requests.specs.Taking.{HasNoOut, IsNotHeld, Takes, TakesAt, has_number, is_of}
+use Rattle.open_requests.specs.declared.collected.Awaits.{Awaits}
+use Rattle.open_requests.specs.Taking.{HasNoOut, IsNotHeld, Takes, TakesAt, Waits, awaits_of, has_number, is_of}
 use Rattle.open_requests.specs.Requests.{Requests}
 use Rattle.open_requests.proofs.Placing.{no_place}
 
@@ -37,13 +38,15 @@ no_number (Some own) number e h =
 -- the out that was taken is the request's
 pub taken_out : (number at : ℕ) (out : Out) (old new : Requests) → position (is_of number) old.tray ≡ Some at → TakesAt at out old new → Takes out old new × (number_of out ≡ Some number)
 taken_out number at out old new e t =
-    let p = position-Some (is_of number) old.tray at out e in
-    (record {
-      before = take at old.tray;
-      after = drop (suc at) old.tray;
-      there = parted old.tray at out p.0 ∙ ap (λ o. take at old.tray ++ o ∷ drop (suc at) old.tray) (sym t.0);
-      is = t.1;
-    }, ap number_of t.0 ∙ is_number (number_of (get_or old.tray at out)) number p.1)
+    let p = position-Some (is_of number) old.tray at out e in (
+      record {
+        before = take at old.tray;
+        after = drop (suc at) old.tray;
+        there = parted old.tray at out p.0 ∙ ap (λ o. take at old.tray ++ o ∷ drop (suc at) old.tray) (sym t.0);
+        is = t.1;
+      },
+      ap number_of t.0 ∙ is_number (number_of (get_or old.tray at out)) number p.1,
+    )
 
 pub taken_reply : (number at : ℕ) (reply : Reply) (out : Out) (old new : Requests) → position (is_of number) old.tray ≡ Some at → TakesAt at out old new → Replied reply ≡ out → Takes (Replied reply) old new × (reply.number ≡ number)
 taken_reply number at reply out old new e t s =
@@ -76,6 +79,10 @@ pub found_held : (number : ℕ) (h : Pending) (held : List Pending) → find (λ
 found_held number h [] e = absurd cc
 found_held number h (g ∷ held) e = first_held (g.question.number == number) number h g held refl e (found_held number h held)
 
+-- what the request waits for that was found
+pub found_waits : (number : ℕ) (wanted : Awaits) (h : Pending) (seen held : List Pending) → seen ≡ held → find (λ (g : Pending). g.question.number == number) seen ≡ Some h → wanted ≡ awaits_of h.question.asked h.stand → Waits number wanted held
+found_waits number wanted h seen held same e w = let f = found_held number h seen e in (h, subst (λ l. IsAmong h l) same f.0, f.1, w)
+
 not_first : (b : Bool) (g : Pending) (rest : Option Pending) → cond b (Some g) rest ≡ None → (b ≡ false) × (rest ≡ None)
 not_first true g rest e = absurd cc
 not_first false g rest e = (refl, e)
@@ -83,11 +90,15 @@ not_first false g rest e = (refl, e)
 differs : (a b : ℕ) → (a == b) ≡ false → a ≢ b
 differs a b e h = let t = self_number a b h in absurd cc
 
-pub not_held : (number : ℕ) (held : List Pending) → find (λ (g : Pending). g.question.number == number) held ≡ None → IsNotHeld number held
+not_held : (number : ℕ) (held : List Pending) → find (λ (g : Pending). g.question.number == number) held ≡ None → IsNotHeld number held
 not_held number [] e = tt
 not_held number (g ∷ held) e =
     let r = not_first (g.question.number == number) g (find (λ (k : Pending). k.question.number == number) held) e in
     (differs g.question.number number r.0, not_held number held r.1)
+
+-- the same of a list that is seen
+pub seen_not_held : (number : ℕ) (seen held : List Pending) → seen ≡ held → find (λ (g : Pending). g.question.number == number) seen ≡ None → IsNotHeld number held
+seen_not_held number seen held same e = subst (λ l. IsNotHeld number l) same (not_held number seen e)
 
 pub out_within : (number at : ℕ) (xs : List Out) → position (is_of number) xs ≡ Some at → at < length xs
 out_within number at xs e = (position-Some (is_of number) xs at (Closed 0 0) e).0

@@ -85,10 +85,10 @@ moves_by failed i w w' servers r more h e =
     let notes = (halted_with failed i r).notes in
     let gone : drop (length w.agreed) w'.agreed ≡ more = ap (drop (length w.agreed)) e ∙ drop_at w.agreed more (length w.agreed) refl in
     let past : past_of w'.agreed (Joined (length more) ∷ notes) ≡ entries_past (drop (length w.agreed) w'.agreed) (halts_past i failed (past_of w.agreed r.notes)) =
-        ap (λ l. past_of l (Joined (length more) ∷ notes)) e
-        ∙ past_joined w.agreed more notes (halts_joined failed i r ∙ h)
-        ∙ ap (entries_past more) (halts_on failed i w.agreed r)
-        ∙ ap (λ l. entries_past l (halts_past i failed (past_of w.agreed r.notes))) (sym gone) in
+    ap (λ l. past_of l (Joined (length more) ∷ notes)) e
+    ∙ past_joined w.agreed more notes (halts_joined failed i r ∙ h)
+    ∙ ap (entries_past more) (halts_on failed i w.agreed r)
+    ∙ ap (λ l. entries_past l (halts_past i failed (past_of w.agreed r.notes))) (sym gone) in
     halts_same failed i w' servers r (Joined (length more) ∷ notes)
     ∙ ap (λ p. record (cluster_of w' servers r) { past = p }) past
 

@@ -72,9 +72,6 @@ impl Model for Requests {
 // Lets go of a reply that is not given.
 fn discard_reply(_reply: Reply) {}
 
-// Lets go of a mark that is not put.
-fn discard_mark(_mark: Mark) {}
-
 impl Requests {
     /// No requests, in a cluster of so many agents.
     pub fn new(alloc: Global, agents: u32) -> Requests
@@ -227,7 +224,8 @@ impl Requests {
         requires { 0 < self.old.room }
         ensures { self.new ≡ used (holding_with question server (stand_of stand) (start_of start) self.old) }
     {
-        self.held.push_reserved(Pending::new(question, server, stand));
+        self.held
+            .push_reserved(Pending::new(question, server, stand));
         self.starts.push_reserved(start);
         self.room -= 1;
     }
@@ -244,20 +242,20 @@ impl Requests {
         self.room -= 1;
     }
 
-    // Lets go of a request for its reply and the note of the answer.
-    fn give_new(&mut self, reply: Reply, mark: Mark) -> Result<(), Memory>
-        requires { event_of mark ≡ 0 }
-        ensures ok { OnOk result (self.new ≡ given_with reply mark self.old) }
-        ensures err { OnErr result (self.new ≡ self.old) }
+    // Answers a request by this reply. There is room for it.
+    fn give_marked(&mut self, reply: Reply) -> Result<(), Memory>
+        requires { 0 < self.old.room }
+        ensures ok { OnOk result (self.new ≡ used (given_with reply (mark.Answered reply.number reply.kind reply.known reply.contact) self.old)) }
+        ensures err { OnErr result (self.new ≡ used self.old) }
     {
-        match self.prepare_one() {
-            Ok(()) => {
+        match reply.mark() {
+            Ok(mark) => {
                 self.give(reply, mark);
                 Ok(())
             }
             Err(Memory) => {
                 discard_reply(reply);
-                discard_mark(mark);
+                self.room -= 1;
                 Err(Memory)
             }
         }
@@ -268,8 +266,8 @@ impl Requests {
         ensures ok { OnOk result (self.new ≡ given_with reply (mark.Answered reply.number reply.kind reply.known reply.contact) self.old) }
         ensures err { OnErr result (self.new ≡ self.old) }
     {
-        match reply.mark() {
-            Ok(mark) => self.give_new(reply, mark),
+        match self.prepare_one() {
+            Ok(()) => self.give_marked(reply),
             Err(Memory) => {
                 discard_reply(reply);
                 Err(Memory)
