@@ -1,5 +1,4 @@
 -- What the program's contents, stands, starts and outs mean in the cluster's rules.
-use Rattle.std.specs.Prelude.{ℕ, Option, Some, None}
 use Rattle.cat_model.specs.declared.query.Answer.{Answer}
 use Rattle.cat_model.specs.declared.applied.Applied.{Applied}
 use Rattle.cat_model.specs.declared.request.Request.TheVariants.{Read, Write}

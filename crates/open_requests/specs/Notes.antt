@@ -1,6 +1,6 @@
 -- The marks of a cluster as they are kept. Entries that joined the agreed log are counted only, since that log has
 -- them.
-use Rattle.std.specs.Prelude.{◌≡◌, ℕ, ◌+◌, ◌++◌, length, Bool, true, false, List, [], ◌∷◌, take, drop, if◌then◌else◌, Option, Some, None}
+use Rattle.std.specs.Prelude.{ℕ, ◌+◌, List, [], ◌∷◌, take, drop, Option, Some, None}
 use Rattle.cat_model.specs.declared.reply.Mark.{Mark}
 use Rattle.cat_model.specs.declared.reply.Mark.TheVariants as mark
 use Rattle.raft_model.specs.Log.{Log}
@@ -35,35 +35,7 @@ abbrev pub events_noted : List Note → ℕ
 events_noted [] = 0
 events_noted (note ∷ notes) = events_of note + events_noted notes
 
-abbrev pub answers : Mark → Bool
-answers (mark.Answered number kind known contact) = true
-answers other = false
-
--- the note of an answer
-abbrev pub is_answer : Note → Bool
-is_answer (Marked m) = answers m
-is_answer (Joined count) = false
-
--- another note in place of the last one that is no answer's
-abbrev pub in_place : Note → List Note → List Note
-in_place new [] = []
-in_place new (note ∷ notes) = if is_answer note then note ∷ in_place new notes else new ∷ notes
-
 -- the mark of an out's taking; a sync's has none
 abbrev pub taken_note : Option ℕ → List Note → List Note
 taken_note None notes = notes
 taken_note (Some number) notes = Marked (mark.Taken number) ∷ notes
-
--- without the note that was put last
-abbrev pub rest_of : List Note → List Note
-rest_of [] = []
-rest_of (note ∷ notes) = notes
-
--- answers and no other notes
-pub data AreAnswers : List Note → Type 0 where
-  empty : AreAnswers []
-  more : (n : Note) (ns : List Note) → is_answer n ≡ true → AreAnswers ns → AreAnswers (n ∷ ns)
-
--- The note at this place, the first one first, is the last one that is no answer's.
-abbrev pub IsLastEvent : ℕ → List Note → Type 0
-IsLastEvent at notes = (before : List Note) × (note : Note) × (after : List Note) × (notes ≡ before ++ note ∷ after) × (length before ≡ at) × (is_answer note ≡ false) × AreAnswers after

@@ -1,22 +1,20 @@
 -- The requests of a cluster: what the rules' cluster has beside its world and what its servers have applied. `room` is
 -- how many calls may still come that take no memory; the rules know nothing of it.
-use Rattle.std.specs.Prelude.{◌≡◌, ℕ, suc, ◌+◌, ◌*◌, ◌-◌, ◌^◌, ◌<◌, ◌≤◌, ◌==◌, Bool, true, false, List, [], ◌∷◌, ◌++◌, map, if◌then◌else◌, Option, Some, None}
-use Rattle.std.specs.List.{AllByRecursion as Each}
+use Rattle.std.specs.Prelude.{◌≡◌, ℕ, ◌+◌, ◌*◌, ◌-◌, ◌^◌, ◌≤◌, ◌==◌, Bool, true, false, List, [], ◌∷◌, ◌++◌, map, if◌then◌else◌}
 use Rattle.cat_model.specs.declared.request.Asked.{Asked}
 use Rattle.cat_model.specs.declared.request.Draw.{Draw}
 use Rattle.cat_model.specs.declared.request.Event.{Event}
-use Rattle.cat_model.specs.declared.request.Event.TheVariants as event
 use Rattle.cat_model.specs.declared.reply.Kind.{Kind}
 use Rattle.cat_model.specs.declared.reply.Mark.{Mark}
 use Rattle.cat_model.specs.declared.reply.Mark.TheVariants as mark
-use Rattle.cluster_rules.specs.Replies.{Question, Content, Reply, Out, Replied, Closed, index_shown, number_of}
-use Rattle.cluster_rules.specs.Cluster.{Cluster, Pending, Server, Stand, Start, Ended}
+use Rattle.cluster_rules.specs.Replies.{Question, Content, Reply, Out, Replied, Closed, index_shown}
+use Rattle.cluster_rules.specs.Cluster.{Cluster, Pending, Server, Stand, Start}
 use Rattle.cluster_rules.specs.Due.{without, put_out}
 use Rattle.cluster_rules.specs.Step.{ended}
 use Rattle.raft_model.specs.World.{World}
 use Rattle.open_requests.specs.declared.note.Note.{Note}
-use Rattle.open_requests.specs.declared.note.Note.TheVariants.{Marked, Joined}
-use Rattle.open_requests.specs.Notes.{past_of, events_noted, in_place, taken_note, rest_of}
+use Rattle.open_requests.specs.declared.note.Note.TheVariants.{Marked}
+use Rattle.open_requests.specs.Notes.{past_of, events_noted}
 
 pub record Requests : Type 0 where
   pub agents : ℕ
@@ -52,21 +50,6 @@ with_note note r = record r { notes = note ∷ r.notes }
 -- the mark of an event, whatever it is
 abbrev pub noted : Event → Requests → Requests
 noted made r = with_note (Marked (mark.Made made)) r
-
--- The request that was noted last is this one; answers alone came since.
-abbrev pub IsCome : ℕ → Asked → Draw → List Note → Type 0
-IsCome agent asked draw [] = ⊥
-IsCome agent asked draw (Marked (mark.Answered number kind known contact) ∷ notes) = IsCome agent asked draw notes
-IsCome agent asked draw (Marked (mark.Made made) ∷ notes) = made ≡ event.Ask agent asked draw
-IsCome agent asked draw (other ∷ notes) = ⊥
-
--- some request came
-abbrev pub SomeCome : List Note → Type 0
-SomeCome notes = (agent : ℕ) × (asked : Asked) × (draw : Draw) × IsCome agent asked draw notes
-
--- the request that was noted takes its number
-abbrev pub numbered : ℕ → Asked → Draw → Requests → Requests
-numbered agent asked draw r = record r { asked = r.asked + 1; notes = in_place (Marked (mark.Asked (r.asked + 1) agent asked draw)) r.notes }
 
 -- a request comes and is marked with its number
 abbrev pub came_with : ℕ → Asked → Draw → Requests → Requests
@@ -108,10 +91,6 @@ ended_all i r = record r { held = map (ended i (events_noted r.notes)) r.held }
 abbrev pub shelved_all : Requests → Requests
 shelved_all r = record r { tray = r.tray ++ r.fresh; fresh = [] }
 
--- each held request has a lower number
-abbrev pub AreBelow : ℕ → List Pending → Type 0
-AreBelow number held = Each (λ (h : Pending). h.question.number < number) held
-
 -- what lies in store for so many calls, by lengths and capacities
 pub record HasRoom (room notes notes_room held held_room starts starts_room fresh fresh_room tray tray_room : ℕ) : Type 0 where
   pub of_notes : notes + (fresh + tray) + 2 * room ≤ notes_room
@@ -129,10 +108,6 @@ pub record HasNumbers (room asked events : ℕ) (notes : List Note) : Type 0 whe
 -- one call more took what lay in store for it
 abbrev pub used : Requests → Requests
 used r = record r { room = r.room - 1 }
-
--- the note that was put last was taken back
-abbrev pub forgotten : Requests → Requests
-forgotten r = record r { notes = rest_of r.notes }
 
 -- the mark of a server's halt, where its store failed
 abbrev pub halted_with : Bool → ℕ → Requests → Requests

@@ -1,5 +1,5 @@
 ghost use Rattle.std.specs.Prelude.{◌≡◌};
-ghost use Rattle.open_requests.specs.Notes.{events_of, is_answer};
+ghost use Rattle.open_requests.specs.Notes.{events_of};
 
 use cat_model::Mark;
 
@@ -12,13 +12,6 @@ pub enum Note {
 }
 
 impl Note {
-    /// It is the mark of an answer.
-    pub fn is_answer(&self) -> bool
-        ensures { result ≡ is_answer self.now }
-    {
-        matches!(self, Note::Marked(Mark::Answered { .. }))
-    }
-
     /// How many events it is the mark of.
     pub fn events(&self) -> u64
         ensures { result ≡ events_of self.now }

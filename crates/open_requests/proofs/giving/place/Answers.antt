@@ -1,4 +1,4 @@
-use Rattle.std.proofs.Common.{sym, ◌∙◌}
+use Rattle.std.proofs.Common.{sym}
 use Rattle.cluster_rules.specs.Replies.{number_of}
 use Rattle.cluster_rules.specs.Due.{is_before}
 use Rattle.open_requests.proofs.Placing.{some_place, no_place}

@@ -1,7 +1,5 @@
-use Rattle.std.proofs.Common.{◌≡◌, ◌∙◌, ap}
+use Rattle.std.proofs.Common.{◌∙◌, ap}
 use Rattle.std.specs.List.{insert}
-use Rattle.cluster_rules.specs.Replies.{number_of}
-use Rattle.cluster_rules.specs.Due.{put_out}
 use Rattle.open_requests.proofs.Placing.{put_at}
 use Rattle.open_requests.proofs.giving.put.Goals as goal
 

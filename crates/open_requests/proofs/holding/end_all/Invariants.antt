@@ -1,7 +1,5 @@
 use Rattle.std.proofs.Common.{◌≡◌}
 use Rattle.cluster_rules.specs.Step.{ended}
-use Rattle.open_requests.specs.Contents.{stand_of}
-use Rattle.open_requests.specs.Requests.{restood}
 use Rattle.open_requests.proofs.Fronts.{mapped_front}
 use Rattle.open_requests.proofs.holding.end_all.Given as goal
 

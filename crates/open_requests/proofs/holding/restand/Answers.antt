@@ -1,5 +1,4 @@
 use Rattle.std.proofs.Common.{◌<◌, ◌≤◌, length, sym, ◌∙◌, arith}
-use Rattle.cluster_rules.specs.Step.{ended}
 use Rattle.open_requests.specs.Contents.{stand_of}
 use Rattle.open_requests.specs.Requests.{restood}
 use Rattle.open_requests.proofs.Fronts.{front_none, front_step, front_all}
