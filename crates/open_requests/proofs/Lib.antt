@@ -1,0 +1,4 @@
+pub mod Among
+pub mod Fronts
+pub mod Lifting
+pub mod Placing
