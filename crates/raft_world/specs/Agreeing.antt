@@ -1,5 +1,5 @@
 -- The agreed log, of which a world has no copy where a server that has committed it still has it.
-use Rattle.std.specs.Prelude.{◌≡◌, ℕ, ◌<◌, ◌≤◌, nat_lt, List, [], length, take, map, get_or, if◌then◌else◌}
+use Rattle.std.specs.Prelude.{◌≡◌, ℕ, ◌<◌, ◌≤◌, nat_lt, ◌==◌, List, [], length, take, map, get_or, if◌then◌else◌}
 use Rattle.raft_model.specs.Log.{Log}
 use Rattle.raft_model.specs.Node.{Node}
 use Rattle.raft_world.specs.declared.agreed.Agreed.{Agreed}
@@ -29,3 +29,13 @@ Stands (Committed at count) nodes =
 -- what it becomes when the server at a place has committed so many entries
 abbrev pub grown : Agreed → ℕ → ℕ → Agreed
 grown agreed at count = if nat_lt (count_of agreed) count then Committed at count else agreed
+
+-- where it stands in the log of the server at a place, that log has as many entries
+abbrev pub IsWithin : Agreed → ℕ → Log → Type 0
+IsWithin (Kept entries) at log = Unit {0}
+IsWithin (Committed place count) at log = place ≡ at → count ≤ length log
+
+-- what it becomes where the server at a place is to lose its log
+abbrev pub left : Agreed → ℕ → Log → Agreed
+left (Kept entries) at log = Kept entries
+left (Committed place count) at log = if place == at then Kept (take count log) else Committed place count

@@ -4,7 +4,14 @@
 
 pub mod agreed;
 pub mod bag;
+mod calls;
 pub mod laws;
+mod leading;
+mod settling;
+mod starting;
 #[cfg(test)]
 mod tests;
 pub mod weight;
+mod world;
+
+pub use world::World;

@@ -1,0 +1,1 @@
+use Rattle.raft_world.proofs.starting.given_back.Goals as goal
