@@ -1,0 +1,25 @@
+-- What a server has applied since it last started. (Extended Raft paper, figure 2, "State": lastApplied.)
+use Rattle.std.specs.Prelude.{ℕ, List, [], ◌∷◌, ◌++◌, Option, None, Some, reverse}
+use Rattle.cat_model.specs.Machine.{reply_to}
+use Rattle.cat_model.specs.declared.applied.Applied.{Applied}
+use Rattle.cat_model.specs.declared.command.Command.{Command}
+
+-- the commands, the first one first, and the server's clock at each of them, in milliseconds
+pub record ReplicaState : Type 0 where
+  pub commands : List Command
+  pub clocks : List ℕ
+
+abbrev pub nothing_applied : ReplicaState
+nothing_applied = record { commands = []; clocks = [] }
+
+-- with one more command, applied at this time of the clock
+abbrev pub applied_at : Command → ℕ → ReplicaState → ReplicaState
+applied_at command clock s = record { commands = s.commands ++ command ∷ []; clocks = s.clocks ++ clock ∷ [] }
+
+-- the catalog's answer to the last command, looking back over the log
+abbrev pub reply_back : List Command → Option Applied
+reply_back [] = None
+reply_back (c ∷ past) = Some (reply_to (reverse past) c)
+
+abbrev pub last_reply : List Command → Option Applied
+last_reply log = reply_back (reverse log)

@@ -1,0 +1,10 @@
+//! What one server has applied since it last started, with its clock at each position, over the tables of its store.
+#![tactic(auto)]
+
+mod copies;
+pub mod laws;
+mod replica;
+#[cfg(test)]
+mod tests;
+
+pub use replica::Replica;

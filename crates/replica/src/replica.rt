@@ -1,0 +1,127 @@
+ghost use Rattle.std.specs.Prelude.{◌≡◌, ◌+◌, ◌<◌, ◌≤◌, ◌++◌, [], ◌∷◌, Option, IfOk, OnOk, OnErr, length, map, true};
+ghost use Rattle.std.specs.Option.{option_copied};
+ghost use Rattle.cat_model.specs.Machine.{catalog_at, freed};
+ghost use Rattle.cat_model.specs.Channels.{fires};
+ghost use Rattle.cat_model.specs.Queries.{answer};
+ghost use Rattle.cat_model.specs.Indexes.{index_of};
+ghost use Rattle.catalog_store.specs.Firing.{FiresJust};
+ghost use Rattle.catalog_store.specs.Steps.{is_taken};
+ghost use Rattle.replica.specs.States.{nothing_applied, applied_at, last_reply};
+
+use crate::copies;
+use cat_model::{Answer, Applied, Command, Fired, Memory, Query, Steps};
+use catalog_query::View;
+use catalog_store::Store;
+use std::alloc::Global;
+use std::marker::Model;
+use std::sync::ledger::Ledger;
+
+/// What a server has applied since it last started: the store of these commands, and its clock at each of them, in
+/// milliseconds. A restarted server begins with a new one.
+#[derive(Drop)]
+pub struct Replica {
+    store: Store,
+    clocks: Vec<u64>,
+    reply: Option<Applied>,
+}
+
+impl Model for Replica {
+    ghost use Rattle.std.specs.Prelude.{◌≡◌, ◌≤◌, length};
+    ghost use Rattle.replica.specs.States.{ReplicaState, last_reply};
+
+    ghost Value = { ReplicaState };
+
+    ghost view = { λ r. record { commands = r.store; clocks = r.clocks.items } };
+
+    ghost invariant = { λ r. (length r.clocks.items ≡ length r.store) × (length r.store ≤ 262144) × (r.reply ≡ last_reply r.store) };
+}
+
+impl Replica {
+    /// Nothing is applied.
+    pub fn new(alloc: Global) -> Result<Replica, Memory>
+        ensures { IfOk result (λ r. r ≡ nothing_applied) }
+    {
+        Ok(Replica {
+            store: Store::new(alloc)?,
+            clocks: Vec::new(alloc),
+            reply: None,
+        })
+    }
+
+    /// How many positions are applied, each with its clock.
+    pub fn length(&self) -> u64
+        ensures commands { result ≡ length self.now.commands }
+        ensures clocks { result ≡ length self.now.clocks }
+        ensures limit { result ≤ 262144 }
+    {
+        self.store.length()
+    }
+
+    /// The server's clock at each position, in milliseconds, the first one first.
+    pub fn clocks(&self) -> &[u64]
+        ensures { result.now ≡ self.now.clocks }
+    {
+        self.clocks.as_slice()
+    }
+
+    /// The catalog's answer to the last command.
+    pub fn last_reply(&self) -> Option<&Applied>
+        ensures { option_copied result ≡ last_reply self.now.commands }
+    {
+        self.reply.as_ref()
+    }
+
+    /// A copy of the last reply, to be put into a message or a reply of the cluster.
+    pub fn reply(&self, alloc: Global) -> Result<Option<Applied>, Memory>
+        ensures { IfOk result (λ reply. reply ≡ last_reply self.now.commands) }
+    {
+        match &self.reply {
+            None => Ok(None),
+            Some(applied) => Ok(Some(copies::copy_of(alloc, applied)?)),
+        }
+    }
+
+    /// Applies the command at the next position, at this time of the server's clock. The catalog's answer is then the
+    /// last reply. It gives the channels that the step fires and the keys that it frees. After want of memory all is as
+    /// before.
+    #[tactic(auto, using(crate::proofs::Replying::last_is))]
+    pub fn apply(&mut self, alloc: Global, command: &Command, now: u64) -> Result<Fired, Memory>
+        requires room { length self.old.commands < 262144 }
+        requires kind { is_taken command.now ≡ true }
+        ensures ok { OnOk result (self.new ≡ applied_at command.now now self.old) }
+        ensures fired { IfOk result (λ f. FiresJust (fires (catalog_at self.old.commands) command.now (catalog_at (self.old.commands ++ command.now ∷ []))) f.chans) }
+        ensures freed { IfOk result (λ f. map (λ k. (k.key, k.delay_ms)) f.freed ≡ freed (length self.old.commands + 1) command.now (catalog_at self.old.commands)) }
+        ensures err { OnErr result (self.new ≡ self.old) }
+    {
+        self.clocks.push(now)?;
+        let position = self.store.length() + 1;
+        match self.store.apply(alloc, position, command) {
+            Ok((reply, fired)) => {
+                self.reply = Some(reply);
+                Ok(fired)
+            }
+            Err(memory) => {
+                self.clocks.pop();
+                Err(memory)
+            }
+        }
+    }
+
+    /// The answer to the query at all that is applied, with its index. It is one step, also where memory fails.
+    pub fn read<L: Ledger>(
+        &self,
+        alloc: Global,
+        query: &Query,
+        steps: &mut Steps<L>,
+    ) -> Result<(Answer, u64), Memory>
+        ensures told { IfOk result (λ r. r ≡ (answer query.now (catalog_at self.now.commands), index_of query.now self.now.commands)) }
+        ensures cost { steps.new ≡ steps.old + 1 }
+    {
+        let view = View {
+            kv: self.store.kv(),
+            catalog: self.store.catalog(),
+            indexes: self.store.indexes(),
+        };
+        catalog_query::evaluate(alloc, &view, query, steps)
+    }
+}
