@@ -1,0 +1,57 @@
+-- What the program's contents, stands, starts and outs mean in the cluster's rules.
+use Rattle.std.specs.Prelude.{ℕ, Option, Some, None}
+use Rattle.cat_model.specs.declared.query.Answer.{Answer}
+use Rattle.cat_model.specs.declared.applied.Applied.{Applied}
+use Rattle.cat_model.specs.declared.request.Request.TheVariants.{Read, Write}
+use Rattle.cat_model.specs.declared.request.Asked.{Asked}
+use Rattle.cat_model.specs.declared.request.Asked.TheVariants.{Good, Bad}
+use Rattle.cluster_rules.specs.Replies as rules
+use Rattle.cluster_rules.specs.Replies.{Question, entered}
+use Rattle.cluster_rules.specs.Cluster as cluster
+use Rattle.open_requests.specs.declared.content.Content.{Content}
+use Rattle.open_requests.specs.declared.content.Content.TheVariants.{Shows, Tells, Says, Blank}
+use Rattle.open_requests.specs.declared.pending.Stand.{Stand}
+use Rattle.open_requests.specs.declared.pending.Stand.TheVariants.{AtPlace, InRound, ForIndex, Ended}
+use Rattle.open_requests.specs.declared.pending.Start.{Start}
+use Rattle.open_requests.specs.declared.pending.Start.TheVariants.{Proposed, Probed, Looked}
+use Rattle.open_requests.specs.declared.out.Given.{Given}
+use Rattle.open_requests.specs.declared.out.Given.TheVariants.{Replied, Closed, Synced}
+
+abbrev pub content_of : Content → rules.Content
+content_of (Shows query raw answer) = rules.Shows query raw answer
+content_of (Tells command applied) = rules.Tells command applied
+content_of (Says why) = rules.Says why
+content_of Blank = rules.Blank
+
+abbrev pub stand_of : Stand → cluster.Stand
+stand_of (AtPlace index term) = cluster.AtPlace index term
+stand_of (InRound round deadline) = cluster.InRound round deadline
+stand_of (ForIndex deadline seen) = cluster.ForIndex deadline seen
+stand_of (Ended event) = cluster.Ended event
+
+abbrev pub start_of : Start → cluster.Start
+start_of (Proposed index entry) = cluster.Proposed index entry
+start_of (Probed number server round) = cluster.Probed number server round
+start_of (Looked number server applied) = cluster.Looked number server applied
+
+abbrev pub out_of : Given → rules.Out
+out_of (Replied reply) = rules.Replied reply
+out_of (Closed number event) = rules.Closed number event
+out_of (Synced agent count) = rules.Synced agent count
+
+-- the requests that go to a server, or are none
+abbrev pub HasWay : Asked → Type 0
+HasWay (Good (Read query mode least wait raw)) = Unit {0}
+HasWay (Good (Write command)) = Unit {0}
+HasWay (Good other) = ⊥
+HasWay (Bad why) = Unit {0}
+
+-- what a read shows with this answer
+abbrev pub read_content : Asked → Answer → rules.Content
+read_content (Good (Read query mode least wait raw)) answer = rules.Shows query raw answer
+read_content other answer = rules.Blank
+
+-- what a write shows that was applied
+abbrev pub write_content : Question → Asked → Applied → rules.Content
+write_content q (Good (Write command)) applied = rules.Tells (entered q command) applied
+write_content q other applied = rules.Blank

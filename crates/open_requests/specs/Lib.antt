@@ -1,0 +1,5 @@
+pub mod Contents
+pub mod Notes
+pub mod Plain
+pub mod Requests
+pub mod Taking

@@ -1,0 +1,140 @@
+-- The requests of a cluster: what the rules' cluster has beside its world and what its servers have applied. `room` is
+-- how many calls may still come that take no memory; the rules know nothing of it.
+use Rattle.std.specs.Prelude.{◌≡◌, ℕ, suc, ◌+◌, ◌*◌, ◌-◌, ◌^◌, ◌<◌, ◌≤◌, ◌==◌, Bool, true, false, List, [], ◌∷◌, ◌++◌, map, if◌then◌else◌, Option, Some, None}
+use Rattle.std.specs.List.{AllByRecursion as Each}
+use Rattle.cat_model.specs.declared.request.Asked.{Asked}
+use Rattle.cat_model.specs.declared.request.Draw.{Draw}
+use Rattle.cat_model.specs.declared.request.Event.{Event}
+use Rattle.cat_model.specs.declared.request.Event.TheVariants as event
+use Rattle.cat_model.specs.declared.reply.Kind.{Kind}
+use Rattle.cat_model.specs.declared.reply.Mark.{Mark}
+use Rattle.cat_model.specs.declared.reply.Mark.TheVariants as mark
+use Rattle.cluster_rules.specs.Replies.{Question, Content, Reply, Out, Replied, Closed, index_shown, number_of}
+use Rattle.cluster_rules.specs.Cluster.{Cluster, Pending, Server, Stand, Start, Ended}
+use Rattle.cluster_rules.specs.Due.{without, put_out}
+use Rattle.cluster_rules.specs.Step.{ended}
+use Rattle.raft_model.specs.World.{World}
+use Rattle.open_requests.specs.declared.note.Note.{Note}
+use Rattle.open_requests.specs.declared.note.Note.TheVariants.{Marked, Joined}
+use Rattle.open_requests.specs.Notes.{past_of, events_noted, in_place, taken_note, rest_of}
+
+pub record Requests : Type 0 where
+  pub agents : ℕ
+  pub asked : ℕ  -- how many requests were asked
+  pub held : List Pending  -- in the order of their numbers
+  pub starts : List Start  -- the last one first
+  pub fresh : List Out  -- the outs of the event at work, in the order of their numbers
+  pub tray : List Out
+  pub notes : List Note  -- the last one first
+  pub room : ℕ
+
+-- The cluster of these requests.
+abbrev pub cluster_of : World → List Server → Requests → Cluster
+cluster_of world servers r = record {
+  world = world;
+  servers = servers;
+  agents = r.agents;
+  asked = r.asked;
+  held = r.held;
+  starts = r.starts;
+  fresh = r.fresh;
+  tray = r.tray;
+  past = past_of world.agreed r.notes;
+}
+
+-- no request was asked
+abbrev pub empty : ℕ → Requests
+empty agents = record { agents = agents; asked = 0; held = []; starts = []; fresh = []; tray = []; notes = []; room = 0 }
+
+abbrev pub with_note : Note → Requests → Requests
+with_note note r = record r { notes = note ∷ r.notes }
+
+-- the mark of an event, whatever it is
+abbrev pub noted : Event → Requests → Requests
+noted made r = with_note (Marked (mark.Made made)) r
+
+-- The request that was noted last is this one; answers alone came since.
+abbrev pub IsCome : ℕ → Asked → Draw → List Note → Type 0
+IsCome agent asked draw [] = ⊥
+IsCome agent asked draw (Marked (mark.Answered number kind known contact) ∷ notes) = IsCome agent asked draw notes
+IsCome agent asked draw (Marked (mark.Made made) ∷ notes) = made ≡ event.Ask agent asked draw
+IsCome agent asked draw (other ∷ notes) = ⊥
+
+-- some request came
+abbrev pub SomeCome : List Note → Type 0
+SomeCome notes = (agent : ℕ) × (asked : Asked) × (draw : Draw) × IsCome agent asked draw notes
+
+-- the request that was noted takes its number
+abbrev pub numbered : ℕ → Asked → Draw → Requests → Requests
+numbered agent asked draw r = record r { asked = r.asked + 1; notes = in_place (Marked (mark.Asked (r.asked + 1) agent asked draw)) r.notes }
+
+-- a request comes and is marked with its number
+abbrev pub came_with : ℕ → Asked → Draw → Requests → Requests
+came_with agent asked draw r = record r { asked = r.asked + 1; notes = Marked (mark.Asked (r.asked + 1) agent asked draw) ∷ r.notes }
+
+abbrev pub reply_with : ℕ → Kind → Bool → ℕ → Content → Reply
+reply_with number kind known contact content = record { number = number; index = index_shown kind; content = content; known = known; contact = contact; kind = kind }
+
+-- a request is let go of for its reply
+abbrev pub given_with : Reply → Mark → Requests → Requests
+given_with reply m r = record r { held = without reply.number r.held; fresh = put_out (Replied reply) r.fresh; notes = Marked m ∷ r.notes }
+
+-- the request of this number is answered
+abbrev pub answered_with : ℕ → Kind → Bool → ℕ → Content → Requests → Requests
+answered_with number kind known contact content r =
+    record r {
+      held = without number r.held;
+      fresh = put_out (Replied (reply_with number kind known contact content)) r.fresh;
+      notes = Marked (mark.Answered number kind known contact) ∷ r.notes;
+    }
+
+-- the request of this number is closed
+abbrev pub closed_with : ℕ → ℕ → Requests → Requests
+closed_with number event r = record r { held = without number r.held; fresh = put_out (Closed number event) r.fresh }
+
+-- server i begins to hold the request
+abbrev pub holding_with : Question → ℕ → Stand → Start → Requests → Requests
+holding_with q i stand start r = record r { held = r.held ++ record { question = q; server = i; stand = stand } ∷ []; starts = start ∷ r.starts }
+
+-- the held request of this number with another stand
+abbrev pub restood : ℕ → Stand → Pending → Pending
+restood number stand h = if h.question.number == number then record h { stand = stand } else h
+
+-- server i restarted in the event that was noted last
+abbrev pub ended_all : ℕ → Requests → Requests
+ended_all i r = record r { held = map (ended i (events_noted r.notes)) r.held }
+
+-- the outs of an event join the tray
+abbrev pub shelved_all : Requests → Requests
+shelved_all r = record r { tray = r.tray ++ r.fresh; fresh = [] }
+
+-- each held request has a lower number
+abbrev pub AreBelow : ℕ → List Pending → Type 0
+AreBelow number held = Each (λ (h : Pending). h.question.number < number) held
+
+-- what lies in store for so many calls, by lengths and capacities
+pub record HasRoom (room notes notes_room held held_room starts starts_room fresh fresh_room tray tray_room : ℕ) : Type 0 where
+  pub of_notes : notes + (fresh + tray) + 2 * room ≤ notes_room
+  pub of_held : held + room ≤ held_room
+  pub of_starts : starts + room ≤ starts_room
+  pub of_fresh : fresh + room ≤ fresh_room
+  pub of_tray : tray + fresh + room ≤ tray_room
+
+-- numbers in store for so many calls, and the count of events
+pub record HasNumbers (room asked events : ℕ) (notes : List Note) : Type 0 where
+  pub of_asked : asked + room ≤ 2 ^ 64 - 1
+  pub of_events : events + room ≤ 2 ^ 64 - 1
+  pub events_are : events ≡ events_noted notes
+
+-- one call more took what lay in store for it
+abbrev pub used : Requests → Requests
+used r = record r { room = r.room - 1 }
+
+-- the note that was put last was taken back
+abbrev pub forgotten : Requests → Requests
+forgotten r = record r { notes = rest_of r.notes }
+
+-- the mark of a server's halt, where its store failed
+abbrev pub halted_with : Bool → ℕ → Requests → Requests
+halted_with true i r = with_note (Marked (mark.Halted i)) r
+halted_with false i r = r

@@ -1,0 +1,83 @@
+//! The outs of an event, and those that wait to be taken.
+
+ghost use Rattle.std.specs.Prelude.{◌≡◌, ◌+◌, ◌<◌, ◌≤◌, [], ◌++◌, IfSome, IfNone, length, vec_len, vec_capacity};
+ghost use Rattle.std.specs.List.{position, position_or_len};
+ghost use Rattle.std.specs.VecDeque.{deque_len, deque_capacity};
+ghost use Rattle.cluster_rules.specs.Replies.{number_of};
+ghost use Rattle.cluster_rules.specs.Due.{is_before, put_out};
+ghost use Rattle.open_requests.specs.Taking.{HasNoOut, HasOutAt};
+
+use crate::out::Out;
+use std::collections::VecDeque;
+
+// Replies and closings come in ascending number, then the syncs.
+fn is_before(first: Option<u64>, second: Option<u64>) -> bool
+    ensures { result ≡ is_before first second }
+{
+    match (first, second) {
+        (None, _) => false,
+        (Some(_), None) => true,
+        (Some(a), Some(b)) => a < b,
+    }
+}
+
+// The first out that is to stand behind one of this number.
+fn first_later(fresh: &[Out], number: Option<u64>) -> Option<usize>
+    ensures { result ≡ position (λ o. is_before number (number_of o)) fresh.now }
+{
+    fresh.iter().position(|o| is_before(number, o.number()))
+}
+
+// How many outs stand before one of this number.
+fn place(fresh: &[Out], number: Option<u64>) -> usize
+    ensures place { result ≡ position_or_len (λ o. is_before number (number_of o)) fresh.now }
+    ensures within { result ≤ length fresh.now }
+{
+    match first_later(fresh, number) {
+        Some(at) => at,
+        None => fresh.len(),
+    }
+}
+
+/// Puts an out in its place among those of the event. There is room for it, so that it takes no memory.
+pub fn put(fresh: &mut Vec<Out>, out: Out)
+    requires { vec_len fresh.old < vec_capacity fresh.old }
+    ensures items { fresh.new.items ≡ put_out out fresh.old.items }
+    ensures len { vec_len fresh.new ≡ vec_len fresh.old + 1 }
+    ensures capacity { vec_capacity fresh.old ≤ vec_capacity fresh.new }
+{
+    let at = place(fresh, out.number());
+    let Ok(()) = fresh.insert(at, out) else {
+        unreachable!()
+    };
+}
+
+/// Puts the outs of an event into the tray. There is room for them, so that it takes no memory.
+pub fn shelve(tray: &mut VecDeque<Out>, fresh: &mut Vec<Out>)
+    requires { deque_len tray.old + vec_len fresh.old ≤ deque_capacity tray.old }
+    ensures items { tray.new.items ≡ tray.old.items ++ fresh.old.items }
+    ensures len { deque_len tray.new ≡ deque_len tray.old + vec_len fresh.old }
+    ensures capacity { deque_capacity tray.new ≡ deque_capacity tray.old }
+    ensures none { fresh.new.items ≡ [] }
+    ensures left { (vec_len fresh.new ≡ 0) × (vec_capacity fresh.new ≡ vec_capacity fresh.old) }
+{
+    fresh.reverse();
+    while let Some(out) = fresh.pop() {
+        tray.push_back_reserved(out);
+    }
+}
+
+/// Where the out of a request stands.
+#[tactic(none)]
+pub fn find(tray: &VecDeque<Out>, number: u64) -> Option<usize>
+    ensures found { IfSome result (λ at. HasOutAt number at tray.now.items) }
+    ensures within { IfSome result (λ at. at < length tray.now.items) }
+    ensures absent { IfNone result (HasNoOut number tray.now.items) }
+{
+    for at in 0..tray.len() {
+        if tray[at].number() == Some(number) {
+            return Some(at);
+        }
+    }
+    None
+}

@@ -1,0 +1,27 @@
+//! The requests of a cluster: those that are held, the outs that wait to be taken, and the marks of what has happened.
+#![tactic(auto)]
+
+mod collected;
+mod content;
+mod copies;
+mod giving;
+mod holding;
+pub mod laws;
+mod note;
+mod noting;
+mod out;
+mod pending;
+mod plain;
+mod question;
+mod requests;
+mod room;
+
+pub use collected::{Awaits, Collected};
+pub use content::Content;
+pub use copies::copy_asked;
+pub use note::Note;
+pub use out::{Given, Out, Reply};
+pub use pending::{Pending, Stand, Start};
+pub use plain::Plain;
+pub use question::Question;
+pub use requests::Requests;

@@ -1,0 +1,95 @@
+ghost use Rattle.std.specs.Prelude.{◌≡◌, IfOk};
+ghost use Rattle.open_requests.specs.Contents.{HasWay, content_of, read_content};
+ghost use Rattle.open_requests.specs.Taking.{least_of};
+
+use crate::content::Content;
+use crate::copies::{copy_asked, copy_query};
+use cat_model::{Answer, Asked, Draw, Memory, Request};
+use std::marker::Model;
+
+/// A request with its number, the agent that was asked, and the words that were drawn for it. Numbers start at 1.
+#[derive(Drop)]
+pub struct Question {
+    number: u64,
+    agent: u32,
+    asked: Asked,
+    draw: Draw,
+}
+
+impl Model for Question {
+    ghost use Rattle.cluster_rules.specs.Replies as rules;
+
+    ghost Value = { rules.Question };
+
+    ghost view = { λ q. record { number = q.number; agent = q.agent; asked = q.asked; draw = q.draw } };
+}
+
+impl Question {
+    pub fn new(number: u64, agent: u32, asked: Asked, draw: Draw) -> Question
+        ensures { result ≡ record { number = number; agent = agent; asked = asked; draw = draw } }
+    {
+        Question {
+            number,
+            agent,
+            asked,
+            draw,
+        }
+    }
+
+    pub fn number(&self) -> u64
+        ensures { result ≡ self.now.number }
+    {
+        self.number
+    }
+
+    pub fn agent(&self) -> u32
+        ensures { result ≡ self.now.agent }
+    {
+        self.agent
+    }
+
+    pub fn asked(&self) -> &Asked
+        ensures { result.now ≡ self.now.asked }
+    {
+        &self.asked
+    }
+
+    pub fn draw(&self) -> Draw
+        ensures { result ≡ self.now.draw }
+    {
+        self.draw
+    }
+
+    /// The index above which a read answers, and 0 of any other request.
+    pub fn least(&self) -> u64
+        ensures { result ≡ least_of self.now.asked }
+    {
+        match &self.asked {
+            Asked::Good(Request::Read { min, .. }) => *min,
+            _ => 0,
+        }
+    }
+
+    /// A copy of a request that has a way.
+    pub fn copy(&self) -> Result<Question, Memory>
+        requires { HasWay self.now.asked }
+        ensures { IfOk result (λ copy. copy ≡ self.now) }
+    {
+        let asked = copy_asked(&self.asked)?;
+        Ok(Question::new(self.number, self.agent, asked, self.draw))
+    }
+
+    /// What a read shows with this answer to its query.
+    pub fn read_content(&self, answer: Answer) -> Result<Content, Memory>
+        ensures { IfOk result (λ content. content_of content ≡ read_content self.now.asked answer) }
+    {
+        match &self.asked {
+            Asked::Good(Request::Read { query, raw, .. }) => Ok(Content::Shows {
+                query: copy_query(query)?,
+                raw: *raw,
+                answer,
+            }),
+            _ => Ok(Content::Blank),
+        }
+    }
+}

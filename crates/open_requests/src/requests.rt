@@ -1,0 +1,415 @@
+//! The requests of a cluster.
+
+ghost use Rattle.std.specs.Prelude.{◌≡◌, ◌<◌, ◌+◌, ℕ, [], ◌∷◌, IfOk, OnOk, OnErr, MatchOption, false, length, map, reverse};
+ghost use Rattle.cat_model.specs.declared.request.Asked.{Asked as SpecAsked};
+ghost use Rattle.cat_model.specs.declared.request.Draw.{Draw as SpecDraw};
+ghost use Rattle.cat_model.specs.declared.reply.Mark.TheVariants as mark;
+ghost use Rattle.open_requests.specs.declared.note.Note.TheVariants as notes;
+ghost use Rattle.open_requests.specs.Contents.{content_of, stand_of, start_of};
+ghost use Rattle.cluster_rules.specs.Replies.{Says};
+ghost use Rattle.open_requests.specs.Notes.{event_of, events_noted};
+ghost use Rattle.open_requests.specs.Plain.{refusal_of};
+ghost use Rattle.open_requests.specs.Requests.{answered_with, came_with, closed_with, empty, ended_all, holding_with, noted, numbered, restood, SomeCome, IsCome, shelved_all, used, with_note, forgotten, given_with};
+ghost use Rattle.open_requests.specs.Taking.{HasOutAt, IsCollected, TakesAt, TakesFirst};
+
+use crate::collected::Collected;
+use crate::content::Content;
+use crate::note::Note;
+use crate::out::{Given, Out, Reply};
+use crate::pending::{Pending, Stand, Start};
+use crate::plain::Plain;
+use crate::question::Question;
+use crate::room::reserve;
+use crate::{giving, holding, noting};
+use cat_model::{Asked, Draw, Event, Kind, List, Mark, Memory};
+use std::alloc::Global;
+use std::collections::VecDeque;
+use std::marker::Model;
+
+// Room is taken for so many calls at once.
+const CALLS: u64 = 4;
+
+/// The requests of a cluster: those that are held, the outs that wait to be taken, and what has happened.
+///
+/// Some calls take no memory, so that they can follow what can't be undone. `prepare` takes the room for four of them.
+#[derive(Drop)]
+pub struct Requests {
+    agents: u32,
+    asked: u64,
+    events: u64,
+    held: Vec<Pending>,
+    starts: Vec<Start>,
+    fresh: Vec<Out>,
+    tray: VecDeque<Out>,
+    notes: Vec<Note>,
+    room: u64,
+}
+
+impl Model for Requests {
+    ghost use Rattle.std.specs.Prelude.{map, reverse, vec_len, vec_capacity};
+    ghost use Rattle.std.specs.VecDeque.{deque_len, deque_capacity};
+    ghost use Rattle.open_requests.specs.Requests as spec;
+
+    ghost Value = { spec.Requests };
+
+    ghost use Rattle.open_requests.specs.Contents.{start_of};
+
+    ghost view = { λ r. record {
+      agents = r.agents;
+      asked = r.asked;
+      held = r.held.items;
+      starts = reverse (map start_of r.starts.items);
+      fresh = r.fresh.items;
+      tray = r.tray.items;
+      notes = reverse r.notes.items;
+      room = r.room;
+    } };
+
+    ghost invariant = { λ r.
+        spec.HasRoom r.room (vec_len r.notes) (vec_capacity r.notes) (vec_len r.held) (vec_capacity r.held) (vec_len r.starts) (vec_capacity r.starts) (vec_len r.fresh) (vec_capacity r.fresh) (deque_len r.tray) (deque_capacity r.tray)
+        × spec.HasNumbers r.room r.asked r.events (reverse r.notes.items) };
+}
+
+impl Requests {
+    /// No requests, in a cluster of so many agents.
+    pub fn new(alloc: Global, agents: u32) -> Requests
+        ensures { result ≡ empty agents }
+    {
+        Requests {
+            agents,
+            asked: 0,
+            events: 0,
+            held: Vec::new(alloc),
+            starts: Vec::new(alloc),
+            fresh: Vec::new(alloc),
+            tray: VecDeque::new(alloc),
+            notes: Vec::new(alloc),
+            room: 0,
+        }
+    }
+
+    // Takes the room for so many calls.
+    fn make_room(&mut self, room: u64) -> Result<(), Memory>
+        ensures ok { OnOk result (self.new ≡ record self.old { room = room }) }
+        ensures err { OnErr result (self.new ≡ self.old) }
+    {
+        if self.asked > u64::MAX - room || self.events > u64::MAX - room {
+            return Err(Memory);
+        }
+        reserve(
+            &mut self.notes,
+            &mut self.held,
+            &mut self.starts,
+            &mut self.fresh,
+            &mut self.tray,
+            room,
+        )?;
+        self.room = room;
+        Ok(())
+    }
+
+    /// Takes the room for four calls that take no memory.
+    pub fn prepare(&mut self) -> Result<(), Memory>
+        ensures ok { OnOk result (self.new ≡ record self.old { room = 4 }) }
+        ensures err { OnErr result (self.new ≡ self.old) }
+    {
+        self.make_room(CALLS)
+    }
+
+    // Takes the room for one call more.
+    fn prepare_one(&mut self) -> Result<(), Memory>
+        ensures ok { OnOk result (self.new ≡ record self.old { room = self.old.room + 1 }) }
+        ensures err { OnErr result (self.new ≡ self.old) }
+    {
+        match self.room.checked_add(1) {
+            Some(room) => self.make_room(room),
+            None => Err(Memory),
+        }
+    }
+
+    pub fn agents(&self) -> u32
+        ensures { result ≡ self.now.agents }
+    {
+        self.agents
+    }
+
+    /// How many requests were asked.
+    pub fn asked(&self) -> u64
+        ensures { result ≡ self.now.asked }
+    {
+        self.asked
+    }
+
+    /// The requests that are held, in the order of their numbers.
+    pub fn held(&self) -> &[Pending]
+        ensures { result.now ≡ self.now.held }
+    {
+        self.held.as_slice()
+    }
+
+    /// What has happened, the first one first.
+    pub fn notes(&self) -> &[Note]
+        ensures { reverse result.now ≡ self.now.notes }
+    {
+        self.notes.as_slice()
+    }
+
+    // Puts a note last that is no event's.
+    fn add(&mut self, note: Note)
+        requires room { 0 < self.old.room }
+        requires kind { events_noted (note ∷ self.old.notes) ≡ events_noted self.old.notes }
+        ensures { self.new ≡ used (with_note note self.old) }
+    {
+        noting::add(&mut self.notes, note);
+        self.room -= 1;
+    }
+
+    /// So many entries joined the agreed log. There is room for it, so that it takes no memory.
+    pub fn join(&mut self, count: u64)
+        requires { 0 < self.old.room }
+        ensures { self.new ≡ used (with_note (notes.Joined count) self.old) }
+    {
+        self.add(Note::Joined(count));
+    }
+
+    /// The server's durable store failed. There is room for it, so that it takes no memory.
+    pub fn halt(&mut self, server: u32)
+        requires { 0 < self.old.room }
+        ensures { self.new ≡ used (with_note (notes.Marked (mark.Halted server)) self.old) }
+    {
+        self.add(Note::Marked(Mark::Halted { server }));
+    }
+
+    // Puts the mark of an event last.
+    fn add_event(&mut self, event: Event)
+        requires { 0 < self.old.room }
+        ensures { self.new ≡ used (noted event self.old) }
+    {
+        noting::add(&mut self.notes, Note::Marked(Mark::Made(event)));
+        self.events += 1;
+        self.room -= 1;
+    }
+
+    /// Marks an event, whatever it is.
+    pub fn note(&mut self, event: Event) -> Result<(), Memory>
+        ensures ok { OnOk result (self.new ≡ noted event self.old) }
+        ensures err { OnErr result (self.new ≡ self.old) }
+    {
+        self.prepare_one()?;
+        self.add_event(event);
+        Ok(())
+    }
+
+    /// Marks a request that comes with its number. There is room for it, so that it takes no memory.
+    pub fn come(&mut self, agent: u32, asked: Asked, draw: Draw)
+        requires { 0 < self.old.room }
+        ensures { self.new ≡ used (came_with agent asked draw self.old) }
+    {
+        self.asked += 1;
+        self.events += 1;
+        let mark = Mark::Asked {
+            number: self.asked,
+            agent,
+            asked,
+            draw,
+        };
+        noting::add(&mut self.notes, Note::Marked(mark));
+        self.room -= 1;
+    }
+
+    /// The request that was noted last takes its number. There is room for it, so that it takes no memory.
+    #[tactic(none)]
+    pub fn number(&mut self)
+        requires room { 0 < self.old.room }
+        requires come { SomeCome self.old.notes }
+        ensures { (agent : ℕ) (asked : SpecAsked) (draw : SpecDraw) → IsCome agent asked draw self.old.notes → self.new ≡ used (numbered agent asked draw self.old) }
+    {
+        self.asked += 1;
+        noting::number_last(&mut self.notes, self.asked);
+        self.room -= 1;
+    }
+
+    /// Takes the note back that was put last.
+    pub fn forget(&mut self)
+        ensures { self.new ≡ forgotten self.old }
+    {
+        if let Some(note) = self.notes.pop() {
+            self.events -= note.events();
+        }
+    }
+
+    /// The server holds the request. There is room for it, so that it takes no memory.
+    pub fn hold(&mut self, question: Question, server: u32, stand: Stand, start: Start)
+        requires { 0 < self.old.room }
+        ensures { self.new ≡ used (holding_with question server (stand_of stand) (start_of start) self.old) }
+    {
+        self.held.push_reserved(Pending::new(question, server, stand));
+        self.starts.push_reserved(start);
+        self.room -= 1;
+    }
+
+    // Lets go of a request for its reply and the note of the answer. There is room for them.
+    fn give(&mut self, reply: Reply, mark: Mark)
+        requires room { 0 < self.old.room }
+        requires kind { event_of mark ≡ 0 }
+        ensures { self.new ≡ used (given_with reply mark self.old) }
+    {
+        holding::let_go(&mut self.held, reply.number());
+        giving::put(&mut self.fresh, Out::new(Given::Replied(reply)));
+        noting::add(&mut self.notes, Note::Marked(mark));
+        self.room -= 1;
+    }
+
+    // Lets go of a request for its reply and the note of the answer.
+    fn give_new(&mut self, reply: Reply, mark: Mark) -> Result<(), Memory>
+        requires { event_of mark ≡ 0 }
+        ensures ok { OnOk result (self.new ≡ given_with reply mark self.old) }
+        ensures err { OnErr result (self.new ≡ self.old) }
+    {
+        match self.prepare_one() {
+            Ok(()) => {
+                self.give(reply, mark);
+                Ok(())
+            }
+            Err(Memory) => Err(Memory),
+        }
+    }
+
+    // Answers a request by this reply.
+    fn answer_by(&mut self, reply: Reply) -> Result<(), Memory>
+        ensures ok { OnOk result (self.new ≡ given_with reply (mark.Answered reply.number reply.kind reply.known reply.contact) self.old) }
+        ensures err { OnErr result (self.new ≡ self.old) }
+    {
+        match reply.mark() {
+            Ok(mark) => self.give_new(reply, mark),
+            Err(Memory) => Err(Memory),
+        }
+    }
+
+    /// Answers a request by a reply that rests on this kind and shows this content.
+    pub fn answer(
+        &mut self,
+        number: u64,
+        kind: Kind,
+        known: bool,
+        contact: u64,
+        content: Content,
+    ) -> Result<(), Memory>
+        ensures ok { OnOk result (self.new ≡ answered_with number kind known contact (content_of content) self.old) }
+        ensures err { OnErr result (self.new ≡ self.old) }
+    {
+        self.answer_by(Reply::new(number, kind, known, contact, content))
+    }
+
+    /// Refuses a request for a cause that has no text. There is room for it, so that it takes no memory.
+    pub fn refuse(&mut self, number: u64, why: Plain)
+        requires { 0 < self.old.room }
+        ensures { self.new ≡ used (answered_with number (Kind.Refused (refusal_of why)) false 0 (Says (refusal_of why)) self.old) }
+    {
+        let mark = Mark::Answered {
+            number,
+            kind: Kind::Refused(why.refusal()),
+            known_leader: false,
+            last_contact: 0,
+        };
+        let content = Content::Says(why.refusal());
+        let reply = Reply::new(number, Kind::Refused(why.refusal()), false, 0, content);
+        self.give(reply, mark);
+    }
+
+    /// Closes a request, since its server restarted in the event with this number.
+    pub fn close(&mut self, number: u64, event: u64) -> Result<(), Memory>
+        ensures ok { OnOk result (self.new ≡ closed_with number event self.old) }
+        ensures err { OnErr result (self.new ≡ self.old) }
+    {
+        self.prepare_one()?;
+        holding::let_go(&mut self.held, number);
+        giving::put(&mut self.fresh, Out::new(Given::Closed { number, event }));
+        self.room -= 1;
+        Ok(())
+    }
+
+    /// The held request of a number waits for something else.
+    pub fn restand(&mut self, number: u64, stand: Stand)
+        ensures { self.new ≡ record self.old { held = map (restood number (stand_of stand)) self.old.held } }
+    {
+        holding::restand(self.held.as_mut_slice(), number, stand);
+    }
+
+    /// A server restarted in the event that was noted last: each request that it holds is to be closed.
+    pub fn end_all_of(&mut self, server: u32)
+        ensures { self.new ≡ ended_all server self.old }
+    {
+        let event = self.events;
+        holding::end_all(self.held.as_mut_slice(), server, event);
+    }
+
+    /// Lets the outs of the event join the tray. It takes no memory.
+    pub fn shelve(&mut self)
+        ensures { self.new ≡ shelved_all self.old }
+    {
+        giving::shelve(&mut self.tray, &mut self.fresh);
+    }
+
+    /// Takes the first out of the tray, if there is one.
+    pub fn next_out(&mut self) -> Option<Out>
+        ensures { MatchOption result ((self.old.tray ≡ []) × (self.new ≡ self.old)) (λ out. TakesFirst out self.old self.new) }
+    {
+        match self.tray.pop_front() {
+            None => None,
+            Some(out) => {
+                noting::add_taken(&mut self.notes, out.number());
+                Some(out)
+            }
+        }
+    }
+
+    // Takes the out at a place of the tray.
+    #[tactic(none)]
+    fn take_at(&mut self, at: usize) -> Out
+        requires { at < length self.old.tray }
+        ensures { TakesAt at result self.old self.new }
+    {
+        let Some(out) = self.tray.remove(at) else {
+            unreachable!()
+        };
+        noting::add_taken(&mut self.notes, out.number());
+        out
+    }
+
+    /// Takes a request's out, or says what it waits for.
+    #[tactic(none)]
+    pub fn collect(&mut self, number: u64) -> Collected
+        ensures { IsCollected number result self.old self.new }
+    {
+        match giving::find(&self.tray, number) {
+            Some(at) => self.collect_at(at, number),
+            None => match holding::find(self.held.as_slice(), number) {
+                Some(pending) => Collected::NotYet(pending.awaits()),
+                None => Collected::Gone,
+            },
+        }
+    }
+
+    // Takes a request's out from its place.
+    #[tactic(none)]
+    fn collect_at(&mut self, at: usize, number: u64) -> Collected
+        requires place { HasOutAt number at self.old.tray }
+        requires within { at < length self.old.tray }
+        ensures { IsCollected number result self.old self.new }
+    {
+        match self.take_at(at).into_given() {
+            Given::Replied(reply) => Collected::Ready(reply),
+            Given::Closed { event, .. } => Collected::Closed { event },
+            Given::Synced { .. } => unreachable!(),
+        }
+    }
+
+    /// The numbers of the requests that wait for their out, in the order in which they are held.
+    pub fn unanswered(&self, alloc: Global) -> Result<List<u64>, Memory>
+        ensures { IfOk result (λ numbers. numbers ≡ map (λ h. h.question.number) self.now.held) }
+    {
+        let numbers: Vec<u64> = self.held.iter().map(|h| h.number()).collect(alloc)?;
+        Ok(List::from(numbers))
+    }
+}
