@@ -1,0 +1,6 @@
+//! The cluster of several servers: their world, and what each has applied.
+#![tactic(auto)]
+
+mod servers;
+
+pub use servers::Servers;
