@@ -241,18 +241,6 @@ module _ (kv kv' : KvVersions) (rows rows' : RowsVersions) (index index' : Index
     kept_positions = index_before ∙ sym index_now;
   }
 
--- after a step that was taken back
-module _ (kv kv' kv'' : KvVersions) (rows rows' rows'' : RowsVersions) (index index' index'' : IndexVersions) (log : List Command) where
-  pub holds_again : Holds kv rows index log → kv'.before ≡ kv.before → kv''.now ≡ kv'.before → kv''.before ≡ kv'.before → rows'.before ≡ rows.before → rows'' ≡ record { now = rows'.before; before = rows'.before } → index'.before ≡ index.before → index''.now ≡ index'.before → index''.before ≡ index'.before → Holds kv'' rows'' index'' log
-  holds_again holds same now before rows_same rows_is index_same index_now index_before = record {
-    keys = subst (λ s. KeysStand s log) (sym (now ∙ same ∙ holds.kept_keys)) holds.keys;
-    lists = subst (λ s. RowsStand s log) (sym (ap (λ s. s.now) rows_is ∙ rows_same ∙ holds.kept_lists)) holds.lists;
-    positions = subst (λ s. PositionsStand s log) (sym (index_now ∙ index_same ∙ holds.kept_positions)) holds.positions;
-    kept_keys = before ∙ sym now;
-    kept_lists = ap (λ s. s.before) rows_is ∙ sym (ap (λ s. s.now) rows_is);
-    kept_positions = index_before ∙ sym index_now;
-  }
-
 -- the empty tables stand for the empty log
 pub first_holds : (kv : KvVersions) (rows : RowsVersions) (index : IndexVersions) → kv ≡ record { now = empty_state; before = empty_state } → rows.now ≡ no_rows → rows.before ≡ no_rows → index ≡ record { now = first_state; before = first_state } → Holds kv rows index []
 unfolding at_past past_fired

@@ -79,7 +79,8 @@ impl CatalogTable {
     }
 
     /// Removes the service with its checks, or where `service` is empty the check, or where both are empty the node with
-    /// all its services and checks. After want of memory the rows are again those of the last `keep`.
+    /// all its services and checks. Want of memory takes back all that was done since the last `keep`, and not this call
+    /// alone.
     pub fn deregister(
         &mut self,
         alloc: Global,

@@ -10,6 +10,7 @@ pub enum RegisterFault {
     /// The service of some check is neither of the node nor registered with it.
     #[error("missing service")]
     MissingService,
+    /// The rows are again those of the last `keep`.
     #[error("out of memory")]
     Memory,
 }

@@ -145,8 +145,8 @@ impl CatalogTable {
         Ok(changed)
     }
 
-    /// Registers the node, and the service and the checks that the command has. Where it is refused nothing changes, and
-    /// after want of memory the rows are again those of the last `keep`.
+    /// Registers the node, and the service and the checks that the command has. Where it is refused nothing changes. Want
+    /// of memory takes back all that was done since the last `keep`, and not this call alone.
     #[tactic(auto, unfolding(cat_model::specs::Machine::act))]
     pub fn register(
         &mut self,

@@ -4,17 +4,9 @@ use Rattle.raft_model.specs.declared.message.Message.TheVariants.{Yes}
 use Rattle.raft_model.specs.Log.{Log, term_at, accepted}
 use Rattle.raft_model.specs.Quorum.{is_majority}
 use Rattle.raft_model.specs.Node.{Node, quiet, reply}
-use Rattle.raft_model.specs.Rules.{has_index, has_round, committed_upto, is_refused, follows, accepts}
-use Rattle.raft_node.specs.Counting.{counting, reached}
+use Rattle.raft_model.specs.Rules.{has_index, committed_upto, is_refused, follows, accepts}
+use Rattle.raft_node.specs.Counting.{counting}
 use Rattle.raft_node.specs.Accepting.{refuses}
-
-pub index_reached : (n : Node) (k : ℕ) → has_index n k ≡ reached n.id n.matched k
-unfolding reached
-index_reached n k = refl
-
-pub round_reached : (n : Node) (r : ℕ) → has_round n r ≡ reached n.id n.acked r
-unfolding reached
-round_reached n r = refl
 
 pub commit_same : (n : Node) (k : ℕ) → committed_upto n k ≡ committed_upto (counting n.id n.servers n.term n.commit n.log n.matched) k
 commit_same n zero = refl

@@ -9,7 +9,7 @@ ghost use Rattle.raft_model.specs.Step.{LogFails, NodeStep, Works};
 ghost use Rattle.raft_node.specs.Nodes.{may_stand};
 ghost use Rattle.raft_node.specs.Steps.{FindsNoMemory, MayPropose, Proposes, Steps};
 
-use crate::counted::{bytes_in_log, fits};
+use crate::counted::{bytes_in_log, counted_at, fits};
 use crate::electing::elects;
 use crate::fault::{ProbeFault, ProposeFault};
 use crate::leading::appends;
@@ -65,9 +65,11 @@ impl<K: Keeper + Drop> Node<K> {
         ensures ok { IfOk result (λ room. (term number : ℕ) → room ≡ keeps_limits (self.old.log ++ record { term = term; number = number; command = command.now } ∷ [])) }
         ensures same { self.new ≡ self.old }
     {
-        self.counted.count_on(alloc, self.log.as_slice())?;
+        let last = self.log.len();
+        let counted = counted_at(alloc, self.log.as_slice(), self.counted, last)?;
+        self.counted = counted;
         let bytes = bytes_in_log(alloc, command)?;
-        Ok(fits(self.log.len(), self.counted.bytes, bytes as u64))
+        Ok(fits(last, counted.bytes, bytes as u64))
     }
 
     // Whether a proposal of this command may be made.

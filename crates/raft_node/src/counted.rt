@@ -1,17 +1,19 @@
 //! The command bytes of a log, counted once.
 
-ghost use Rattle.std.specs.Prelude.{◌≡◌, ◌+◌, ◌≤◌, nat_le, nat_lt, ◌&&◌, ◌++◌, cond, length, take, IfOk, OnOk};
+ghost use Rattle.std.specs.Prelude.{◌≡◌, ◌+◌, ◌≤◌, nat_le, nat_lt, ◌&&◌, ◌++◌, cond, length, take, IfOk};
 ghost use Rattle.cat_model.specs.LogLimits.{command_bytes, is_noop};
 ghost use Rattle.raft_model.specs.Log.{Log};
-ghost use Rattle.raft_node.specs.Counts.{IsCount};
+ghost use Rattle.raft_node.specs.Counts.{IsCount, bytes_of};
 
 use crate::batch::command_bytes;
-use crate::leading::MOST_LOG_ENTRIES;
 use cat_model::{Command, Entry, Memory};
 use std::alloc::Global;
 
+/// A log has at most so many entries.
+pub const MOST_LOG_ENTRIES: usize = 262_144;
+
 /// A log's commands have at most so many bytes, Noops' not counted.
-const MOST_LOG_BYTES: u64 = 67_108_864;
+pub const MOST_LOG_BYTES: u64 = 67_108_864;
 
 /// How many bytes a command adds to those of a log.
 pub fn bytes_in_log(alloc: Global, command: &Command) -> Result<usize, Memory>
@@ -54,20 +56,6 @@ impl Counted {
         }
     }
 
-    /// Counts on to the end of the log.
-    pub fn count_on(&mut self, alloc: Global, log: &[Entry]) -> Result<(), Memory>
-        requires { IsCount log.now self.old }
-        ensures count { IsCount log.now self.new }
-        ensures whole { OnOk result (self.new.entries ≡ length log.now) }
-    {
-        while self.entries < log.len() {
-            let bytes = bytes_in_log(alloc, &log[self.entries].command)?;
-            self.bytes = self.bytes.saturating_add(bytes as u64);
-            self.entries += 1;
-        }
-        Ok(())
-    }
-
     /// The log keeps so many entries, and others may come behind them. Where some that were counted go, the count
     /// begins anew.
     pub fn cut(&mut self, keep: usize)
@@ -77,4 +65,43 @@ impl Counted {
             *self = Counted::none();
         }
     }
+}
+
+/// How many bytes of these entries count for the limit of a log: those of their commands that are no Noops.
+pub fn log_bytes(alloc: Global, entries: &[Entry]) -> Result<u64, Memory>
+    ensures { IfOk result (λ bytes. bytes ≡ bytes_of entries.now) }
+{
+    let mut total: u64 = 0;
+    for entry in entries {
+        let bytes = bytes_in_log(alloc, &entry.command)?;
+        total = total.saturating_add(bytes as u64);
+    }
+    Ok(total)
+}
+
+/// The count of a log's first `entries` entries, from a count of others of its first. It reads no more than the
+/// entries between them.
+pub fn counted_at(
+    alloc: Global,
+    log: &[Entry],
+    counted: Counted,
+    entries: usize,
+) -> Result<Counted, Memory>
+    requires within { entries ≤ length log.now }
+    requires counted { IsCount log.now counted }
+    ensures count { IfOk result (λ new. IsCount log.now new) }
+    ensures same { IfOk result (λ new. new ≡ record { entries = entries; bytes = bytes_of (take entries log.now) }) }
+{
+    if counted.entries <= entries {
+        let more = log_bytes(alloc, &log[counted.entries..entries])?;
+        let bytes = counted.bytes.saturating_add(more);
+        return Ok(Counted { entries, bytes });
+    }
+    if counted.bytes < u64::MAX {
+        let cut = log_bytes(alloc, &log[entries..counted.entries])?;
+        let bytes = counted.bytes - cut;
+        return Ok(Counted { entries, bytes });
+    }
+    let bytes = log_bytes(alloc, &log[..entries])?;
+    Ok(Counted { entries, bytes })
 }

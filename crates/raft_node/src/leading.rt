@@ -5,13 +5,11 @@ ghost use Rattle.cat_model.specs.LogLimits.{keeps_limits};
 ghost use Rattle.raft_model.specs.Rules.{leads};
 ghost use Rattle.raft_node.specs.Nodes.{Plans, appends};
 
+use crate::counted::MOST_LOG_ENTRIES;
 use crate::sending::append_all;
 use crate::state::{Planned, State, Tail};
 use cat_model::{Command, Entry, List, Memory, Role};
 use std::alloc::Global;
-
-/// A log has at most so many entries.
-pub const MOST_LOG_ENTRIES: usize = 262_144;
 
 // The same number for each server.
 fn for_all(alloc: Global, servers: u32, number: u64) -> Result<Vec<u64>, Memory>

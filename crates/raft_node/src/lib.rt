@@ -8,16 +8,20 @@ mod calls;
 mod counted;
 mod delivery;
 mod electing;
+#[cfg(test)]
+mod election_tests;
 mod fault;
 mod leading;
 pub mod log;
+#[cfg(test)]
+mod log_tests;
 mod node;
 #[cfg(test)]
 mod node_tests;
+#[cfg(test)]
+mod plain_messages;
 pub mod quorum;
 mod receiving;
-#[cfg(test)]
-mod receiving_tests;
 mod saving;
 mod sending;
 mod starting;

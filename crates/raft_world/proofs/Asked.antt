@@ -1,5 +1,5 @@
 -- What proposals and probes make of a world's parts, and what they show.
-use Rattle.std.proofs.Common.{◌≡◌, ◌≢◌, ℕ, zero, suc, ◌+◌, ◌<◌, ◌≤◌, cond, Bool, true, false, ◌⊎◌, inl, inr, min, max, length, set, get_or, List, [], ◌∷◌, ◌++◌, Option, Some, None, Ok, Err, refl, sym, ap, ◌∙◌, subst, arith, add-one}
+use Rattle.std.proofs.Common.{◌≡◌, ◌≢◌, ℕ, zero, suc, ◌+◌, ◌<◌, ◌≤◌, cond, true, false, inl, inr, min, max, length, get_or, List, [], ◌∷◌, ◌++◌, Some, Ok, Err, refl, sym, ap, ◌∙◌, subst, arith, add-one}
 use Rattle.std.specs.Prelude.{◌==◌}
 use Rattle.std.proofs.lemmas.List.{get_or_default, get_or-set_same, length-set, length_push}
 use Rattle.cat_model.specs.declared.command.Command.{Command}
@@ -9,11 +9,11 @@ use Rattle.cat_model.specs.declared.reply.Role.TheVariants.{Candidate, Follower,
 use Rattle.raft_model.specs.declared.message.Place.{Place}
 use Rattle.raft_model.specs.declared.message.Round.{Round}
 use Rattle.raft_model.specs.declared.message.Sent.{Sent}
-use Rattle.raft_model.specs.Facts.{IsLeading, IsPlaced, IsReady, ShowsAgreed, next_round}
+use Rattle.raft_model.specs.Facts.{ShowsAgreed, next_round}
 use Rattle.raft_model.specs.Log.{Log, entry_at}
 use Rattle.raft_model.specs.Node.{Done, Node, Store, last, quiet}
 use Rattle.raft_model.specs.Rules.{Input, Probe, Propose, append_all, appended, does, done, has_room, probes, proposal, proposes}
-use Rattle.raft_model.specs.Step.{HasVoteOf, LogFails, LogStored, NodeStep, Outcome, VoteSaved, Works, halts}
+use Rattle.raft_model.specs.Step.{LogFails, LogStored, NodeStep, Outcome, VoteSaved, Works, halts}
 use Rattle.raft_model.specs.World.{World, Acts, IsNew, IsReached, IsServer, Probes, Proposes, raised}
 use Rattle.raft_model.specs.World as world
 use Rattle.raft_model.proofs.Servers.{running_done}
@@ -77,10 +77,11 @@ pub pushed : (n new : Node) (number : ℕ) (command : Command) (sent : List Sent
 pushed n new number command sent may (between, v, l, is, out) =
     let d : (done n (Propose number command)).node ≡ appended n (proposal n number command) =
     ap (λ (z : Done). z.node) (running_done n (Propose number command) may.0 ∙ propose_is n number command may.1 ∙ ap (λ b. cond b (append_all (appended n (proposal n number command))) (quiet n)) may.2) in
-    let a = appended_is n (proposal n number command) in
-    (ap (λ (z : Node). z.log) (is ∙ ap (λ (z : Node). record z { store = new.store }) d) ∙ a.0,
-    ap (λ (z : Node). z.halted) (is ∙ ap (λ (z : Node). record z { store = new.store }) d) ∙ a.1,
-    ap (λ (z : Node). z.term) (is ∙ ap (λ (z : Node). record z { store = new.store }) d) ∙ a.2)
+    let a = appended_is n (proposal n number command) in (
+      ap (λ (z : Node). z.log) (is ∙ ap (λ (z : Node). record z { store = new.store }) d) ∙ a.0,
+      ap (λ (z : Node). z.halted) (is ∙ ap (λ (z : Node). record z { store = new.store }) d) ∙ a.1,
+      ap (λ (z : Node). z.term) (is ∙ ap (λ (z : Node). record z { store = new.store }) d) ∙ a.2,
+    )
 
 -- a step that does nothing
 quiet_step : (n : Node) (input : Input) → done n input ≡ quiet n → NodeStep Works n input n []
@@ -118,9 +119,10 @@ module _ (p : Parts) (is : Is p) (w : World) (view : world_of p ≡ w) (at s : �
   lone outcome k command fresh most step =
       let same = still p is at size old new (sym here) (max p.greatest k) most in
       let r = acts p is at size old new (sym here) outcome (Propose k command) [] (max p.greatest k) refl (subst (λ v. IsNew v (Propose k command)) (sym view) fresh) step in
-      let Goal : World → ℕ → World → Type 0 = λ v i v'. (a : Acts v i (Propose k command) v') × (a.outcome ≡ outcome) × (a.old ≡ old) in
-      (subst Is same (step_is p is at size old new (sym here) outcome (Propose k command) [] (max p.greatest k) tt step),
-      subst (λ z. Goal w s (world_of z)) same (subst (λ v. Goal v s (world_of (with_step p at new [] (max p.greatest k)))) view (subst (λ i. Goal (world_of p) i (world_of (with_step p at new [] (max p.greatest k)))) named (r.0, r.1, r.2))))
+      let Goal : World → ℕ → World → Type 0 = λ v i v'. (a : Acts v i (Propose k command) v') × (a.outcome ≡ outcome) × (a.old ≡ old) in (
+        subst Is same (step_is p is at size old new (sym here) outcome (Propose k command) [] (max p.greatest k) tt step),
+        subst (λ z. Goal w s (world_of z)) same (subst (λ v. Goal v s (world_of (with_step p at new [] (max p.greatest k)))) view (subst (λ i. Goal (world_of p) i (world_of (with_step p at new [] (max p.greatest k)))) named (r.0, r.1, r.2))),
+      )
 
   raised_is : (k : ℕ) → new ≡ old → world_of (counts (max p.greatest k)) ≡ raised_to k w
   raised_is k e = let same = unchanged p is at size old new (sym here) e in (λ i. world_of (record (same i) { greatest = max p.greatest k })) ∙ ap (raised_to k) view
@@ -169,17 +171,18 @@ module _ (p : Parts) (is : Is p) (w : World) (view : world_of p ≡ w) (at s : �
       let index : last new ≡ suc (last old) = ap length log.0 ∙ length_push old.log (proposal old k command) ∙ add-one (last old) in
       let answer_is : answer ≡ record { index = suc (last old); term = old.term } = where_is ∙ (λ i. record { index = index i; term = log.2 i }) in
       let there : IsServer (world_of q) s new = subst (λ z. IsServer (world_of z) s new) (sym same) (subst (λ i. IsServer (world_of (with_step p at new sent q.greatest)) i new) named
-      (omega (arith, size, length-set p.nodes at new), get_or-set_same p.nodes at new new size)) in
-      (r.0,
-      record {
-        acts = a;
-        works = r.1.1;
-        may = subst (λ (n : Node). MayPropose n k command) (sym was) may;
-        runs = ap (λ (n : Node). n.halted) now ∙ log.1 ∙ may.0;
-        log = ap (λ (n : Node). n.log) now ∙ log.0 ∙ ap (λ (n : Node). n.log ++ proposal n k command ∷ []) (sym was);
-        is = answer_is ∙ ap (λ (n : Node). record { index = suc (last n); term = n.term }) (sym was);
-      },
-      (λ reached n at_w.
-      let entry : entry_at answer.index new.log ≡ Some (proposal n k command) = (λ i. entry_at (answer_is i).index (log.0 i)) ∙ entry_pushed old.log (proposal old k command) ∙ ap (λ (m : Node). Some (proposal m k command)) (same_as n at_w) in
-      placed (world_of q) (world.step (Proposes s k command) reached a) s new there (log.1 ∙ may.0) answer.index (proposal n k command) entry),
-      by_move w _ (Proposes s k command) a)
+      (omega (arith, size, length-set p.nodes at new), get_or-set_same p.nodes at new new size)) in (
+        r.0,
+        record {
+          acts = a;
+          works = r.1.1;
+          may = subst (λ (n : Node). MayPropose n k command) (sym was) may;
+          runs = ap (λ (n : Node). n.halted) now ∙ log.1 ∙ may.0;
+          log = ap (λ (n : Node). n.log) now ∙ log.0 ∙ ap (λ (n : Node). n.log ++ proposal n k command ∷ []) (sym was);
+          is = answer_is ∙ ap (λ (n : Node). record { index = suc (last n); term = n.term }) (sym was);
+        },
+        (λ reached n at_w.
+            let entry : entry_at answer.index new.log ≡ Some (proposal n k command) = (λ i. entry_at (answer_is i).index (log.0 i)) ∙ entry_pushed old.log (proposal old k command) ∙ ap (λ (m : Node). Some (proposal m k command)) (same_as n at_w) in
+            placed (world_of q) (world.step (Proposes s k command) reached a) s new there (log.1 ∙ may.0) answer.index (proposal n k command) entry),
+        by_move w _ (Proposes s k command) a,
+      )

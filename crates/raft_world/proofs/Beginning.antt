@@ -1,12 +1,12 @@
 -- How servers begin one after the other, and what is handed back.
-use Rattle.std.proofs.Common.{◌≡◌, ◌≢◌, ℕ, zero, suc, ◌+◌, ◌<◌, ◌≤◌, ◌⊎◌, inl, inr, length, map, take, get_or, replicate, min, ◌^◌, List, [], ◌∷◌, ◌++◌, Option, Some, None, refl, sym, ap, ◌∙◌, subst, arith, add-one}
+use Rattle.std.proofs.Common.{◌≡◌, ℕ, zero, suc, ◌+◌, ◌<◌, inl, inr, length, map, get_or, replicate, ◌^◌, List, [], ◌∷◌, ◌++◌, Option, None, refl, sym, ap, ◌∙◌, subst, arith, add-one}
 use Rattle.std.specs.Prelude.{All, slice_index_or}
 use Rattle.std.specs.List.{remove}
 use Rattle.std.proofs.lemmas.List.{append_assoc, append-nil, map-append, length-append, length-map, length-replicate}
 use Rattle.cat_outside.specs.declared.faults.KeepFail.{KeepFail}
-use Rattle.cat_outside.specs.declared.faults.KeepFail.TheVariants.{Failed, Memory}
+use Rattle.cat_outside.specs.declared.faults.KeepFail.TheVariants.{Memory}
 use Rattle.raft_model.specs.Node.{Node, Store}
-use Rattle.raft_model.specs.Step.{CallWorks, Starts, as_before}
+use Rattle.raft_model.specs.Step.{Starts}
 use Rattle.raft_model.specs.World.{Bag, StartAll}
 use Rattle.raft_node.specs.Steps.{FailsToLoad}
 use Rattle.raft_world.specs.declared.agreed.Agreed.TheVariants.{Kept}

@@ -1,6 +1,6 @@
 -- What a call of the world owes where a node has made a step.
-use Rattle.std.proofs.Common.{◌≡◌, ◌≢◌, ℕ, zero, suc, ◌+◌, ◌<◌, ◌≤◌, cond, Bool, true, false, inl, inr, min, length, take, drop, set, get_or, List, [], ◌∷◌, ◌++◌, Option, Some, None, Result, Ok, Err, OnErr, refl, sym, ap, ◌∙◌, subst, arith, add-one}
-use Rattle.std.proofs.lemmas.List.{get_or-set_same, get_or_default, length-set, take-append-le, take_all}
+use Rattle.std.proofs.Common.{◌≡◌, ℕ, suc, ◌+◌, ◌<◌, cond, inl, inr, min, length, take, drop, set, get_or, List, ◌++◌, Option, Some, Result, Ok, Err, OnErr, sym, ap, ◌∙◌, subst, arith, add-one}
+use Rattle.std.proofs.lemmas.List.{get_or-set_same, length-set, take-append-le, take_all}
 use Rattle.raft_model.specs.declared.message.Sent.{Sent}
 use Rattle.raft_model.specs.Node.{Node}
 use Rattle.raft_model.specs.Rules.{Input}
@@ -74,9 +74,10 @@ module _ (p : Parts) (is : Is p) (w : World) (view : world_of p ≡ w) (at s : �
   pub call_makes : (q : Parts) (input : Input) (sent : List Sent) → q ≡ with_step p at new sent p.greatest → IsFit old input → IsNew w input → p.greatest ≡ raised input p.greatest → Steps old input new sent
       → Is q × StepsWhole w s input (world_of q)
   call_makes q input sent same fit fresh up steps =
-      let r = makes p is at within old new (sym here) input sent fit (subst (λ v. IsNew v input) (sym view) fresh) up steps in
-      (subst Is (sym same) r.0,
-      subst (λ z. StepsWhole w s input (world_of z)) (sym same) (subst (λ v. StepsWhole v s input (world_of (with_step p at new sent p.greatest))) view (subst (λ k. StepsWhole (world_of p) k input (world_of (with_step p at new sent p.greatest))) named r.1)))
+      let r = makes p is at within old new (sym here) input sent fit (subst (λ v. IsNew v input) (sym view) fresh) up steps in (
+        subst Is (sym same) r.0,
+        subst (λ z. StepsWhole w s input (world_of z)) (sym same) (subst (λ v. StepsWhole v s input (world_of (with_step p at new sent p.greatest))) view (subst (λ k. StepsWhole (world_of p) k input (world_of (with_step p at new sent p.greatest))) named r.1)),
+      )
 
   -- the node is as before
   pub call_same : new ≡ old → Is (with_node p at new) × (world_of (with_node p at new) ≡ w)
@@ -86,9 +87,10 @@ module _ (p : Parts) (is : Is p) (w : World) (view : world_of p ≡ w) (at s : �
       → Is q × ((a : Acts w s input (world_of q)) × (a.outcome ≡ Works) × (a.old ≡ old) × (a.new ≡ new))
   call_works q input sent same fit fresh up step =
       let r = acts p is at within old new (sym here) Works input sent q.greatest up (subst (λ v. IsNew v input) (sym view) fresh) step in
-      let Goal : World → ℕ → World → Type 0 = λ v k v'. (a : Acts v k input v') × (a.outcome ≡ Works) × (a.old ≡ old) × (a.new ≡ new) in
-      (subst Is (sym same) (step_is p is at within old new (sym here) Works input sent q.greatest fit step),
-      subst (λ z. Goal w s (world_of z)) (sym same) (subst (λ v. Goal v s (world_of (with_step p at new sent q.greatest))) view (subst (λ k. Goal (world_of p) k (world_of (with_step p at new sent q.greatest))) named r)))
+      let Goal : World → ℕ → World → Type 0 = λ v k v'. (a : Acts v k input v') × (a.outcome ≡ Works) × (a.old ≡ old) × (a.new ≡ new) in (
+        subst Is (sym same) (step_is p is at within old new (sym here) Works input sent q.greatest fit step),
+        subst (λ z. Goal w s (world_of z)) (sym same) (subst (λ v. Goal v s (world_of (with_step p at new sent q.greatest))) view (subst (λ k. Goal (world_of p) k (world_of (with_step p at new sent q.greatest))) named r)),
+      )
 
 -- a message's receiver, and what it must know of the message
 pub record IsReceived (p : Parts) (w : World) (k : ℕ) (packet : Packet) : Type 0 where

@@ -1,17 +1,16 @@
 -- What a tick, a loss, an arming and a restart make of a world's parts.
-use Rattle.std.proofs.Common.{◌≡◌, ◌≢◌, ℕ, zero, suc, ◌+◌, ◌<◌, ◌≤◌, cond, Bool, true, false, ◌⊎◌, inl, inr, min, length, set, get_or, List, [], ◌∷◌, Option, Some, None, refl, sym, ap, ◌∙◌, subst, arith, add-one}
+use Rattle.std.proofs.Common.{◌≡◌, ℕ, suc, ◌+◌, ◌<◌, ◌≤◌, cond, true, ◌⊎◌, inl, inr, min, length, set, get_or, List, [], ◌∷◌, Option, Some, None, refl, sym, ap, ◌∙◌, subst, arith, add-one}
 use Rattle.std.specs.Prelude.{◌==◌, is_some}
 use Rattle.std.proofs.lemmas.List.{get_or_default, length-set}
 use Rattle.raft_model.specs.Log.{Log}
-use Rattle.raft_model.specs.Node.{Node, of_server, set_server}
+use Rattle.raft_model.specs.Node.{Node}
 use Rattle.raft_model.specs.Step.{RestartFails, RestartWorks, arms}
 use Rattle.raft_model.specs.World.{World, Bag, Packet, Arms, Drops, Restarts, Ticks, WorldStep, IsServer, numbered, without}
 use Rattle.raft_model.proofs.Tests.{at_bool}
-use Rattle.raft_world.specs.declared.agreed.Agreed.{Agreed}
-use Rattle.raft_world.specs.Agreeing.{count_of, left, log_at, shown, Stands}
+use Rattle.raft_world.specs.Agreeing.{count_of, left}
 use Rattle.raft_world.specs.Fronts.{HasFront}
 use Rattle.raft_world.specs.Steps.{IsNumber}
-use Rattle.raft_world.specs.Worlds.{AllMayCome, IsSeated, IsWorld, MayCome}
+use Rattle.raft_world.specs.Worlds.{AllMayCome, MayCome}
 use Rattle.raft_world.proofs.Sharing.{Stays, leaves, log_there, stays, stays_apart}
 use Rattle.raft_world.proofs.Stepped.{Is, Parts, seats, with_node, world_of}
 
@@ -63,16 +62,17 @@ parted p at log = record p { agreed = left p.agreed at log }
 
 pub parted_is : (p : Parts) → Is p → (at : ℕ) (n : Node) → at < length p.nodes → n ≡ get_or p.nodes at n → (log : Log) → log ≡ n.log → Is (parted p at log) × (world_of (parted p at log) ≡ world_of p)
 parted_is p is at n l here log same =
-    let gone = leaves p.agreed p.nodes at log (same ∙ log_there p.nodes at n l here) is.stands in
-    (record {
-      count = is.count;
-      has_clocks = is.has_clocks;
-      has_contacts = is.has_contacts;
-      seated = λ j m k e. let was = is.seated j m k e in record { id = was.id; servers = was.servers; committed = omega (arith, was.committed, gone.count) };
-      come = is.come;
-      stands = gone.stands;
-    },
-    λ i. record (world_of p) { agreed = gone.list i })
+    let gone = leaves p.agreed p.nodes at log (same ∙ log_there p.nodes at n l here) is.stands in (
+      record {
+        count = is.count;
+        has_clocks = is.has_clocks;
+        has_contacts = is.has_contacts;
+        seated = λ j m k e. let was = is.seated j m k e in record { id = was.id; servers = was.servers; committed = omega (arith, was.committed, gone.count) };
+        come = is.come;
+        stands = gone.stands;
+      },
+      λ i. record (world_of p) { agreed = gone.list i },
+    )
 
 module _ (p : Parts) (is : Is p) (w : World) (view : world_of p ≡ w) (at s : ℕ) (place : at + 1 ≡ s) (number : IsNumber s w) where
   there : at < length p.nodes
@@ -96,9 +96,10 @@ module _ (p : Parts) (is : Is p) (w : World) (view : world_of p ≡ w) (at s : �
       let seat = is.seated at old there (sym here) in
       let kept = stays p.nodes at old new there (sym here) (λ x f. subst (λ (z : Node). HasFront x z) (sym e) f) p.agreed is.stands in
       let most : min new.commit (length new.log) ≤ count_of p.agreed = omega (arith, seat.committed, ap (λ (n : Node). n.commit) e, ap (λ (n : Node). length n.log) e) in
-      let Goal : World → ℕ → Type 0 = λ v k. WorldStep v (Arms k nth) (world_of (with_node p at new)) in
-      (swapped p is at old new there (sym here) (ap (λ (n : Node). n.id) e) (ap (λ (n : Node). n.servers) e) most kept p.contacts refl,
-      subst (λ v. Goal v s) view (subst (λ k. Goal (world_of p) k) called (old, (there, sym here), λ i. record (world_of p) { nodes = set p.nodes at (e i); agreed = kept.list i })))
+      let Goal : World → ℕ → Type 0 = λ v k. WorldStep v (Arms k nth) (world_of (with_node p at new)) in (
+        swapped p is at old new there (sym here) (ap (λ (n : Node). n.id) e) (ap (λ (n : Node). n.servers) e) most kept p.contacts refl,
+        subst (λ v. Goal v s) view (subst (λ k. Goal (world_of p) k) called (old, (there, sym here), λ i. record (world_of p) { nodes = set p.nodes at (e i); agreed = kept.list i })),
+      )
 
   begins_low : (old new : Node) → RestartWorks old new ⊎ RestartFails old new → (new.id ≡ old.id) × (new.servers ≡ old.servers) × (new.commit ≡ 0)
   begins_low old new (inl (kept, call, reads, e)) = (ap (λ (n : Node). n.id) e, ap (λ (n : Node). n.servers) e, ap (λ (n : Node). n.commit) e)
@@ -111,10 +112,11 @@ module _ (p : Parts) (is : Is p) (w : World) (view : world_of p ≡ w) (at s : �
       let gone = leaves p.agreed p.nodes at log (same ∙ log_there p.nodes at old there here) is.stands in
       let kept = stays_apart p.nodes at new (left p.agreed at log) gone.apart gone.stands in
       let q = parted_is p is at old there here log same in
-      let Goal : World → ℕ → Type 0 = λ v k. WorldStep v (Restarts k) (world_of (record (with_node (parted p at log) at new) { contacts = set p.contacts at None })) in
-      (swapped (parted p at log) q.0 at old new there (sym here) low.0 low.1 (omega (arith, low.2)) kept (set p.contacts at None) (length-set p.contacts at None),
-      subst (λ v. Goal v s) view (subst (λ k. Goal (world_of p) k) called
-      (old, new, (there, sym here), begins, λ i. record (world_of p) { nodes = set p.nodes at new; contacts = set p.contacts at None; agreed = (kept.list ∙ gone.list) i })))
+      let Goal : World → ℕ → Type 0 = λ v k. WorldStep v (Restarts k) (world_of (record (with_node (parted p at log) at new) { contacts = set p.contacts at None })) in (
+        swapped (parted p at log) q.0 at old new there (sym here) low.0 low.1 (omega (arith, low.2)) kept (set p.contacts at None) (length-set p.contacts at None),
+        subst (λ v. Goal v s) view (subst (λ k. Goal (world_of p) k) called
+            (old, new, (there, sym here), begins, λ i. record (world_of p) { nodes = set p.nodes at new; contacts = set p.contacts at None; agreed = (kept.list ∙ gone.list) i })),
+      )
 
 -- a message that is there may come
 pub may_come : (servers k : ℕ) (ps : List Packet) (p : Packet) → AllMayCome servers ps → numbered k ps ≡ Some p → MayCome servers p

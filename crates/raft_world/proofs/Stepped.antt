@@ -1,27 +1,25 @@
 -- What a server's step makes of a world's parts.
-use Rattle.std.proofs.Common.{◌≡◌, ◌≢◌, ℕ, zero, suc, ◌+◌, ◌<◌, ◌≤◌, eqb, true, false, cond, Bool, ◌⊎◌, inl, inr, min, max, length, set, get_or, List, [], ◌∷◌, ◌++◌, Option, Some, None, refl, sym, ap, ◌∙◌, subst, arith}
-use Rattle.std.specs.Prelude.{nat_lt, nat_le, ◌&&◌, ◌==◌}
+use Rattle.std.proofs.Common.{◌≡◌, ◌≢◌, ℕ, suc, ◌+◌, ◌<◌, ◌≤◌, eqb, true, false, cond, ◌⊎◌, inl, inr, min, length, set, get_or, List, [], ◌∷◌, ◌++◌, Option, Some, refl, sym, ap, ◌∙◌, subst, arith}
+use Rattle.std.specs.Prelude.{nat_lt, nat_le}
 use Rattle.std.proofs.lemmas.Bool.Decides.{eqb_tells, nat_tests}
-use Rattle.std.proofs.lemmas.List.{get_or-set_same, get_or-set_other, get_or_default, length-set, set-get_or}
-use Rattle.cat_model.specs.declared.command.Command.{Command}
-use Rattle.cat_model.specs.LogLimits.{command_bytes, entries_bytes, is_noop, keeps_limits, log_bytes, most_bytes, most_entries}
-use Rattle.cat_model.specs.declared.command.Entry.{Entry}
+use Rattle.std.proofs.lemmas.List.{get_or-set_same, get_or-set_other, length-set, set-get_or}
+use Rattle.cat_model.specs.LogLimits.{command_bytes, entries_bytes, is_noop, log_bytes, most_bytes, most_entries}
 use Rattle.raft_model.specs.declared.message.Message.{Message}
 use Rattle.raft_model.specs.declared.message.Message.TheVariants.{Append, AskVote, No, Vote, Yes}
 use Rattle.raft_model.specs.declared.message.Sent.{Sent}
 use Rattle.raft_model.specs.Log.{Log}
-use Rattle.raft_model.specs.Node.{Node, committed, of_server, set_server}
-use Rattle.raft_model.specs.Rules.{Input, Receive, done}
+use Rattle.raft_model.specs.Node.{Node, committed}
+use Rattle.raft_model.specs.Rules.{Input, done}
 use Rattle.raft_model.specs.Step.{Outcome, Works, VoteFails, LogFails, Forgets, NodeStep, forgets}
-use Rattle.raft_model.specs.World.{World, Packet, Bag, Acts, IsNew, IsServer, after, longer, message_bytes, packets_bytes, posted, posted_all, raised, says_yes, takes}
+use Rattle.raft_model.specs.World.{World, Packet, Bag, Acts, IsNew, after, longer, message_bytes, posted, posted_all, raised, says_yes, takes}
 use Rattle.raft_model.proofs.Tests.{and_is, at_bool, le_is}
-use Rattle.raft_node.specs.Receiving.{CarriesAllowed, IsOther}
+use Rattle.raft_node.specs.Receiving.{CarriesAllowed}
 use Rattle.raft_node.specs.Steps.{Steps}
 use Rattle.raft_node.specs.Steps as node
 use Rattle.raft_world.specs.declared.agreed.Agreed.{Agreed}
-use Rattle.raft_world.specs.declared.agreed.Agreed.TheVariants.{Kept, Committed}
-use Rattle.raft_world.specs.Agreeing.{count_of, grown, shown, Stands}
-use Rattle.raft_world.specs.Steps.{FindsNoMemory, StepsWhole, StepsWorking}
+use Rattle.raft_world.specs.declared.agreed.Agreed.TheVariants.{Committed}
+use Rattle.raft_world.specs.Agreeing.{count_of, grown, shown}
+use Rattle.raft_world.specs.Steps.{FindsNoMemory, StepsWhole}
 use Rattle.raft_world.specs.Worlds.{AllMayCome, IsSeated, IsWorld, MayCome}
 use Rattle.raft_world.proofs.Fronting.{step_kept}
 use Rattle.raft_world.proofs.Outgoing.{AllGo, IsFit, IsPeer, IsShort, step_sends}
@@ -112,6 +110,7 @@ seats nodes a b at old new all l here up id servers most j n k e = go (eqb_tells
   where
     size : length (set nodes at new) ≡ length nodes
     size = length-set nodes at new
+
     go : ((eqb j at ≡ true) × (j ≡ at)) ⊎ ((eqb j at ≡ false) × (j ≢ at)) → IsSeated (length (set nodes at new)) b j n
     go (inl q) =
         let same : new ≡ n = sym (get_or-set_same nodes at new n l) ∙ ap (λ i. get_or (set nodes at new) i n) (sym q.1) ∙ e in
@@ -142,7 +141,7 @@ module _ (p : Parts) (is : Is p) (at : ℕ) (l : at < length p.nodes) (old new :
         count = omega (arith, is.count, size);
         has_clocks = is.has_clocks ∙ sym size;
         has_contacts = at_bool (λ b. length (cond b (set p.contacts at (Some (get_or p.clocks at 0))) p.contacts) ≡ length (set p.nodes at new)) (says_yes sent)
-        (λ _. length-set p.contacts at (Some (get_or p.clocks at 0)) ∙ is.has_contacts ∙ sym size) (λ _. is.has_contacts ∙ sym size);
+            (λ _. length-set p.contacts at (Some (get_or p.clocks at 0)) ∙ is.has_contacts ∙ sym size) (λ _. is.has_contacts ∙ sym size);
         seated = seats p.nodes (count_of p.agreed) (count_of (grown p.agreed at c)) at old new is.seated l here up.0 out.0 out.1 up.1;
         come = subst (λ k. AllMayCome k (posted_all (suc at) sent p.bag).packets) (sym size) (posts_come (length p.nodes) (suc at) sent p.bag (omega arith, omega arith) go is.come);
         stands = grown_stands (set p.nodes at new) at new (omega (arith, l, size)) here_now p.agreed c refl kept.stands;

@@ -1,15 +1,14 @@
 -- What a call of the world makes of it.
-use Rattle.std.specs.Prelude.{◌≡◌, ◌≢◌, ℕ, zero, suc, get_or, ◌++◌, ◌^◌, ◌<◌, ◌≤◌, max, ◌⊎◌, true, false, List, [], ◌∷◌, length, take, Option, Some, None, Result, Ok, Err}
-use Rattle.std.specs.Option.{ForSome}
+use Rattle.std.specs.Prelude.{◌≡◌, ◌≢◌, ℕ, zero, suc, get_or, ◌++◌, ◌≤◌, max, ◌⊎◌, true, false, [], ◌∷◌, length, take, Option, Some, None, Result, Ok, Err}
 use Rattle.cat_model.specs.declared.command.Command.{Command}
 use Rattle.cat_model.specs.declared.reply.Role.TheVariants.{Leader}
 use Rattle.raft_model.specs.declared.message.Place.{Place}
 use Rattle.raft_model.specs.declared.message.Round.{Round}
 use Rattle.raft_model.specs.Facts.{IsLeading, IsPlaced, IsReady, ShowsAgreed, next_round}
-use Rattle.raft_model.specs.Node.{Store, Node, last}
+use Rattle.raft_model.specs.Node.{Node, last}
 use Rattle.raft_model.specs.Rules.{Input, Propose, Probe, Receive, has_room, proposal}
 use Rattle.raft_model.specs.Step.{Forgets, LogFails, Works}
-use Rattle.raft_model.specs.World.{World, Packet, Acts, Agrees, IsReached, IsServer, Restarts, WorldStep, numbered}
+use Rattle.raft_model.specs.World.{World, Packet, Acts, Agrees, IsReached, IsServer, numbered}
 use Rattle.raft_node.specs.declared.fault.ProposeFault.{ProposeFault}
 use Rattle.raft_node.specs.declared.fault.ProposeFault.TheVariants.{NotLeader, Halted, Full, Memory}
 use Rattle.raft_node.specs.Steps.{MayPropose}

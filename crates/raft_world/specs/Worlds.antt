@@ -1,6 +1,5 @@
 -- What always holds of a world's parts.
 use Rattle.std.specs.Prelude.{◌≡◌, ◌≢◌, ℕ, suc, ◌^◌, ◌<◌, ◌≤◌, min, List, [], ◌∷◌, length, get_or, Option}
-use Rattle.raft_model.specs.declared.message.Message.{Message}
 use Rattle.raft_model.specs.Node.{Node}
 use Rattle.raft_model.specs.World.{Packet}
 use Rattle.raft_node.specs.Receiving.{CarriesAllowed}

@@ -13,5 +13,7 @@ mod starting;
 mod tests;
 pub mod weight;
 mod world;
+#[cfg(test)]
+mod world_tests;
 
 pub use world::World;

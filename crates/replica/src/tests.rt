@@ -1,8 +1,10 @@
-ghost use Rattle.std.specs.Prelude.{◌≡◌, ◌<◌, IfOk, length, true};
+ghost use Rattle.std.specs.Prelude.{◌≡◌, ◌<◌, ◌+◌, IfOk, OnOk, length, true};
 ghost use Rattle.catalog_store.specs.Steps.{is_taken};
 
 use crate::Replica;
-use cat_model::{Answer, Applied, Bytes, Command, List, Memory, NewService, Query, Steps, Text};
+use cat_model::{
+    Answer, Applied, Bytes, Command, Fired, List, Memory, NewService, Query, Steps, Text,
+};
 use std::alloc::Global;
 use std::marker::Brand;
 use std::sync::ledger::{Blank, Ledger};
@@ -47,12 +49,32 @@ fn register(alloc: Global, node: &str, service: &str) -> Result<Command, Memory>
     })
 }
 
+// A new replica, of which the proofs of these tests need only how short it is.
+fn empty(alloc: Global) -> Result<Replica, Memory>
+    ensures { IfOk result (λ r. length r.commands ≡ 0) }
+{
+    Replica::new(alloc)
+}
+
+fn applied(
+    alloc: Global,
+    replica: &mut Replica,
+    command: &Command,
+    now: u64,
+) -> Result<Fired, Memory>
+    requires room { length replica.old.commands < 262144 }
+    requires kind { is_taken command.now ≡ true }
+    ensures { OnOk result (length replica.new.commands ≡ length replica.old.commands + 1) }
+{
+    replica.apply(alloc, command, now)
+}
+
 // A Noop at 3 of the clock.
 fn started(alloc: Global) -> Result<Replica, Memory>
     ensures { IfOk result (λ r. length r.commands ≡ 1) }
 {
-    let mut replica = Replica::new(alloc)?;
-    replica.apply(alloc, &Command::Noop, 3)?;
+    let mut replica = empty(alloc)?;
+    applied(alloc, &mut replica, &Command::Noop, 3)?;
     Ok(replica)
 }
 
@@ -62,7 +84,7 @@ fn with_key(alloc: Global) -> Result<Replica, Memory>
 {
     let command = set(alloc, "a", b"hello")?;
     let mut replica = started(alloc)?;
-    replica.apply(alloc, &command, 8)?;
+    applied(alloc, &mut replica, &command, 8)?;
     Ok(replica)
 }
 
@@ -103,7 +125,7 @@ fn compared(alloc: Global) -> Result<(bool, bool, u64), Memory> {
     let command = compare_and_set(alloc, "a", 5)?;
     let mut replica = with_key(alloc)?;
     let set = matches!(replica.reply(alloc)?, Some(Applied::Yes));
-    replica.apply(alloc, &command, 9)?;
+    applied(alloc, &mut replica, &command, 9)?;
     let refused = matches!(replica.last_reply(), Some(Applied::No));
     let clock = replica.clocks().last().copied().unwrap_or(0);
     Ok((set, refused, clock))
@@ -119,7 +141,7 @@ fn the_last_reply_is_kept_with_its_clock(rt: HostRuntime) -> Result<(), Fail> {
 fn registered(alloc: Global) -> Result<(usize, u64), Memory> {
     let command = register(alloc, "n1", "web")?;
     let mut replica = started(alloc)?;
-    let fired = replica.apply(alloc, &command, 8)?;
+    let fired = applied(alloc, &mut replica, &command, 8)?;
     Ok((fired.chans.len(), replica.length()))
 }
 

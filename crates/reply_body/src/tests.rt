@@ -7,6 +7,10 @@ use cluster_model::Shown;
 use std::alloc::Global;
 use std::test::Fail;
 
+fn shows(shown: &Shown, status: u16, text: &str) -> bool {
+    shown.status == status && shown.body.as_slice() == text.as_bytes()
+}
+
 fn one<T: Drop>(alloc: Global, item: T) -> Result<List<T>, Memory> {
     let mut list = List::new(alloc);
     list.push(item)?;
@@ -33,12 +37,15 @@ fn key(alloc: Global, raw: bool) -> Result<Shown, Memory> {
 #[test]
 fn a_key_is_shown_as_its_row_or_its_value(rt: HostRuntime) -> Result<(), Fail> {
     let shown = key(rt.alloc(), false)?;
-    assert_eq!(rt; shown.status, 200);
-    assert_eq!(rt;
-        shown.body.as_slice(),
-        br#"[{"CreateIndex":2,"Flags":0,"Key":"a","LockIndex":0,"ModifyIndex":2,"Value":"aGVsbG8="}]"#
+    assert!(rt;
+        shows(
+            &shown,
+            200,
+            r#"[{"CreateIndex":2,"Flags":0,"Key":"a","LockIndex":0,"ModifyIndex":2,"Value":"aGVsbG8="}]"#
+        )
     );
-    assert_eq!(rt; key(rt.alloc(), true)?.body.as_slice(), b"hello");
+    let shown = key(rt.alloc(), true)?;
+    assert!(rt; shows(&shown, 200, "hello"));
     Ok(())
 }
 
@@ -80,9 +87,13 @@ fn health(alloc: Global) -> Result<Shown, Memory> {
 
 #[test]
 fn an_instance_is_shown_with_its_node(rt: HostRuntime) -> Result<(), Fail> {
-    assert_eq!(rt;
-        health(rt.alloc())?.body.as_slice(),
-        br#"[{"Checks":[],"Node":{"Address":"10.0.0.1","CreateIndex":2,"Datacenter":"dc1","ModifyIndex":2,"Node":"n1"},"Service":{"Address":"","CreateIndex":2,"EnableTagOverride":false,"ID":"web","ModifyIndex":2,"Port":80,"Service":"web","Tags":[]}}]"#
+    let shown = health(rt.alloc())?;
+    assert!(rt;
+        shows(
+            &shown,
+            200,
+            r#"[{"Checks":[],"Node":{"Address":"10.0.0.1","CreateIndex":2,"Datacenter":"dc1","ModifyIndex":2,"Node":"n1"},"Service":{"Address":"","CreateIndex":2,"EnableTagOverride":false,"ID":"web","ModifyIndex":2,"Port":80,"Service":"web","Tags":[]}}]"#
+        )
     );
     Ok(())
 }
@@ -106,9 +117,13 @@ fn session(alloc: Global) -> Result<Shown, Memory> {
 
 #[test]
 fn a_session_is_shown(rt: HostRuntime) -> Result<(), Fail> {
-    assert_eq!(rt;
-        session(rt.alloc())?.body.as_slice(),
-        br#"[{"Behavior":"release","Checks":["serfHealth"],"CreateIndex":3,"ID":"00000000-0000-4007-8000-000000000001","LockDelay":15000000000,"ModifyIndex":3,"Name":"","Node":"agent-1","TTL":"10s"}]"#
+    let shown = session(rt.alloc())?;
+    assert!(rt;
+        shows(
+            &shown,
+            200,
+            r#"[{"Behavior":"release","Checks":["serfHealth"],"CreateIndex":3,"ID":"00000000-0000-4007-8000-000000000001","LockDelay":15000000000,"ModifyIndex":3,"Name":"","Node":"agent-1","TTL":"10s"}]"#
+        )
     );
     Ok(())
 }
@@ -139,13 +154,15 @@ fn node_alone(alloc: Global) -> Result<Shown, Memory> {
 
 #[test]
 fn services_are_shown_by_their_names(rt: HostRuntime) -> Result<(), Fail> {
-    assert_eq!(rt;
-        services(rt.alloc())?.body.as_slice(),
-        br#"{"db":[],"web":[]}"#
-    );
-    assert_eq!(rt;
-        node_alone(rt.alloc())?.body.as_slice(),
-        br#"{"Node":{"Address":"10.0.0.1","CreateIndex":2,"Datacenter":"dc1","ModifyIndex":2,"Node":"n1"},"Services":{}}"#
+    let shown = services(rt.alloc())?;
+    assert!(rt; shows(&shown, 200, r#"{"db":[],"web":[]}"#));
+    let shown = node_alone(rt.alloc())?;
+    assert!(rt;
+        shows(
+            &shown,
+            200,
+            r#"{"Node":{"Address":"10.0.0.1","CreateIndex":2,"Datacenter":"dc1","ModifyIndex":2,"Node":"n1"},"Services":{}}"#
+        )
     );
     Ok(())
 }
@@ -163,15 +180,18 @@ fn refused(alloc: Global) -> Result<Shown, Memory> {
 
 #[test]
 fn writes_and_refusals_are_shown(rt: HostRuntime) -> Result<(), Fail> {
-    let alloc = rt.alloc();
     let verb = Verb::CheckIndex;
-    let failed = told(alloc, Applied::RolledBack { op: 1, verb })?;
-    assert_eq!(rt; failed.status, 409);
-    assert_eq!(rt;
-        failed.body.as_slice(),
-        br#"{"Errors":[{"OpIndex":1,"What":"check-index failed"}],"Results":null}"#
+    let shown = told(rt.alloc(), Applied::RolledBack { op: 1, verb })?;
+    assert!(rt;
+        shows(
+            &shown,
+            409,
+            r#"{"Errors":[{"OpIndex":1,"What":"check-index failed"}],"Results":null}"#
+        )
     );
-    assert_eq!(rt; told(alloc, Applied::No)?.body.as_slice(), b"false");
-    assert_eq!(rt; refused(alloc)?.body.as_slice(), b"Invalid key");
+    let shown = told(rt.alloc(), Applied::No)?;
+    assert!(rt; shows(&shown, 200, "false"));
+    let shown = refused(rt.alloc())?;
+    assert!(rt; shows(&shown, 400, "Invalid key"));
     Ok(())
 }

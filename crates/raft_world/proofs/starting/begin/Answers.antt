@@ -5,7 +5,7 @@ use Rattle.std.specs.Prelude.{All}
 use Rattle.std.specs.Option.{ForSome}
 use Rattle.raft_node.specs.Nodes.{KeepsLimits}
 use Rattle.raft_node.specs.Steps.{stored}
-use Rattle.raft_world.proofs.Beginning.{Begun, all_first, all_rest, begun_all, begun_length, begun_more, stopped, taken_first}
+use Rattle.raft_world.proofs.Beginning.{Begun, all_rest, begun_length, begun_more, taken_first}
 use Rattle.raft_world.proofs.starting.begin.Goals as goal
 
 pub overflow_cast-id : goal.overflow_cast-id
@@ -29,7 +29,8 @@ loop-alloc-preserved g c =
     let nodes = c.loop-alloc.nodes.items in let x = c.remove-keeper.result in let rest = c.remove-keeper.new.self.items in
     let first = taken_first c.loop-alloc.waiting.items rest x (omega (arith, c.remove-keeper.ensures.len, c.loop-alloc.waiting.ok.0)) c.remove-keeper.ensures.value c.remove-keeper.ensures.items in
     let id : c.len.result + 1 ≡ length nodes + 1 = omega (arith, c.len.ensures, c.loop-alloc.nodes.ok.0) in
-    let more = begun_more st c.args.servers _ c.loop-alloc.waiting.items rest x nodes c.in-Ok.node first c.loop-alloc.invariant.0 (subst (λ k. Starts k c.args.servers (st x) c.in-Ok.node) id c.in-Ok.ensures.ok) in
-    (subst (λ z. Begun st c.args.servers c.args.waiting.now.items rest z) (sym c.push_reserved.ensures.items) more,
-    c.push_reserved.ensures.capacity ∙ c.loop-alloc.invariant.1,
-    all_rest (λ k. ForSome (g.K.Keeper.held k) KeepsLimits) x rest (subst (All (λ k. ForSome (g.K.Keeper.held k) KeepsLimits)) first c.loop-alloc.invariant.2))
+    let more = begun_more st c.args.servers _ c.loop-alloc.waiting.items rest x nodes c.in-Ok.node first c.loop-alloc.invariant.0 (subst (λ k. Starts k c.args.servers (st x) c.in-Ok.node) id c.in-Ok.ensures.ok) in (
+      subst (λ z. Begun st c.args.servers c.args.waiting.now.items rest z) (sym c.push_reserved.ensures.items) more,
+      c.push_reserved.ensures.capacity ∙ c.loop-alloc.invariant.1,
+      all_rest (λ k. ForSome (g.K.Keeper.held k) KeepsLimits) x rest (subst (All (λ k. ForSome (g.K.Keeper.held k) KeepsLimits)) first c.loop-alloc.invariant.2),
+    )

@@ -1,4 +1,4 @@
-use Rattle.std.proofs.Common.{List, arith, ap, length, map, subst, sym, ◌∙◌, ◌≡◌}
+use Rattle.std.proofs.Common.{arith, ap, length, map, subst, sym, ◌∙◌}
 use Rattle.std.proofs.lemmas.List.{length-map}
 use Rattle.raft_model.specs.Node.{Store}
 use Rattle.raft_model.specs.World.{StartAll}

@@ -1,6 +1,6 @@
 use Rattle.std.proofs.Common.{◌≡◌, Err, subst, sym}
 use Rattle.raft_world.specs.Steps.{KeepsAgreement, Proposes, counted}
-use Rattle.raft_world.proofs.Stepped.{Is, Parts, with_node, world_of}
+use Rattle.raft_world.proofs.Stepped.{Parts, with_node, world_of}
 use Rattle.raft_world.proofs.Calling.{settled}
 use Rattle.raft_world.proofs.Asked.{enters, refuses}
 use Rattle.raft_world.proofs.world.World.propose.Goals as goal

@@ -1,6 +1,5 @@
 use Rattle.std.proofs.Common.{None, refl, set, subst, sym, ◌≡◌, ◌∙◌}
 use Rattle.raft_model.specs.World.{Restarts, WorldStep}
-use Rattle.raft_world.specs.Steps.{KeepsAgreement}
 use Rattle.raft_world.proofs.Stepped.{Is, Parts, with_node, world_of}
 use Rattle.raft_world.proofs.Eventful.{parted, parted_is, restarts}
 use Rattle.raft_world.proofs.Calling.{by_move, by_same, call_same, within}

@@ -1,0 +1,4 @@
+pub mod Keeping
+pub mod Working
+pub mod Numbering
+pub mod Pairing

@@ -1,0 +1,5 @@
+use Rattle.cluster_turns.proofs.Numbering.{ask_none as refused_step}
+use Rattle.cluster_turns.proofs.asking.ask_none.Goals as goal
+
+pub returns-clause-whole : goal.returns-clause-whole
+returns-clause-whole g c = refused_step c.args.agent c.args.asked.now c.args.draw c.args.why _ _ _ c.requires.answers c.in_ok-refuse.ensures.ok c.shelve.ensures

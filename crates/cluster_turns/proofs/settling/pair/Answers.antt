@@ -1,0 +1,25 @@
+use Rattle.std.proofs.Common.{rules, ◌≡◌, true}
+use Rattle.cat_model.specs.declared.request.Event.TheVariants as event
+use Rattle.cluster_rules.specs.Step.{ClusterStep}
+use Rattle.cluster_turns.proofs.Working.{ok_by, err_by, err_any}
+use Rattle.cluster_turns.proofs.Pairing.{under_way, under_way_still, cut_delivery, pair_is, cut_loss}
+use Rattle.cluster_turns.proofs.settling.pair.Goals as goal
+
+pub deliver-requires : goal.deliver-requires
+deliver-requires g c = under_way c.args.number (g.P.Parts.state c.args.parts.now) c.requires
+
+pub returns-in_err-deliver-clause-whole : goal.returns-in_err-deliver-clause-whole
+returns-in_err-deliver-clause-whole g c = search rules
+
+pub returns-in_err-deliver-clause-cut : goal.returns-in_err-deliver-clause-cut
+returns-in_err-deliver-clause-cut g c = err_any c.from_residual.result _ (cut_delivery c.args.number (g.P.Parts.state c.args.parts.now) (g.P.Parts.state c.deliver.new.parts) c.requires c.in_err-deliver.ensures.cut)
+
+pub lose-requires : goal.lose-requires
+lose-requires g c = under_way_still c.args.number (g.P.Parts.state c.args.parts.now) (g.P.Parts.state c.deliver.new.parts) c.requires c.in_ok-deliver.ensures.whole
+
+pub returns-clause-whole : goal.returns-clause-whole
+returns-clause-whole g c =
+    ok_by c.lose.result (ClusterStep (g.P.Parts.state c.deliver.new.parts) (event.Drop c.args.number) (g.P.Parts.state c.lose.new.parts) true) _ (λ s. pair_is c.args.number (g.P.Parts.state c.args.parts.now) (g.P.Parts.state c.deliver.new.parts) (g.P.Parts.state c.lose.new.parts) c.requires c.in_ok-deliver.ensures.whole s) c.lose.ensures.whole
+
+pub returns-clause-cut : goal.returns-clause-cut
+returns-clause-cut g c = err_by c.lose.result ((g.P.Parts.state c.lose.new.parts) ≡ (g.P.Parts.state c.deliver.new.parts)) _ (λ e. cut_loss c.args.number (g.P.Parts.state c.args.parts.now) (g.P.Parts.state c.deliver.new.parts) (g.P.Parts.state c.lose.new.parts) c.requires c.in_ok-deliver.ensures.whole e) c.lose.ensures.same

@@ -1,0 +1,117 @@
+//! The events that are no requests.
+
+ghost use Rattle.std.specs.Prelude.{◌≡◌, Some, OnOk, OnErr, true};
+ghost use Rattle.cat_model.specs.declared.request.Event.TheVariants as event;
+ghost use Rattle.cluster_rules.specs.Reached.{IsServerNumber, IsUnderWay, Fits};
+ghost use Rattle.cluster_rules.specs.Step.{ClusterStep, goes_to};
+ghost use Rattle.cluster_turns.specs.Turns.{FindsNoMemory, event_of};
+
+use crate::cut::Cut;
+use crate::impulse::Impulse;
+use crate::parts::Parts;
+use crate::turns::react;
+use cat_model::{Event, Memory};
+use std::alloc::Global;
+
+// Makes an event that goes to one server.
+#[tactic(none)]
+fn impel<P: Parts>(
+    parts: &mut P,
+    alloc: Global,
+    server: u32,
+    impulse: Impulse,
+) -> Result<(), Memory>
+    requires server { IsServerNumber (P.state parts.old) server }
+    requires goes { goes_to (P.state parts.old) (event_of impulse) ≡ Some server }
+    requires fits { Fits (P.state parts.old) (event_of impulse) }
+    ensures whole { OnOk result (ClusterStep (P.state parts.old) (event_of impulse) (P.state parts.new) true) }
+    ensures cut { OnErr result (FindsNoMemory (event_of impulse) (P.state parts.old) (P.state parts.new)) }
+{
+    parts.note(alloc, impulse.event())?;
+    match react(parts, alloc, server, impulse) {
+        Ok(()) => {
+            parts.shelve();
+            Ok(())
+        }
+        Err(Cut::Before) => {
+            parts.forget();
+            Err(Memory)
+        }
+        Err(Cut::Within) => {
+            parts.shelve();
+            Err(Memory)
+        }
+    }
+}
+
+/// The server's election timeout is over.
+pub fn timeout<P: Parts>(parts: &mut P, alloc: Global, server: u32) -> Result<(), Memory>
+    requires { IsServerNumber (P.state parts.old) server }
+    ensures whole { OnOk result (ClusterStep (P.state parts.old) (event.Timeout server) (P.state parts.new) true) }
+    ensures cut { OnErr result (FindsNoMemory (event.Timeout server) (P.state parts.old) (P.state parts.new)) }
+{
+    impel(parts, alloc, server, Impulse::Timeout(server))
+}
+
+/// The server sends a heartbeat, if it leads.
+pub fn beat<P: Parts>(parts: &mut P, alloc: Global, server: u32) -> Result<(), Memory>
+    requires { IsServerNumber (P.state parts.old) server }
+    ensures whole { OnOk result (ClusterStep (P.state parts.old) (event.Beat server) (P.state parts.new) true) }
+    ensures cut { OnErr result (FindsNoMemory (event.Beat server) (P.state parts.old) (P.state parts.new)) }
+{
+    impel(parts, alloc, server, Impulse::Beat(server))
+}
+
+/// The server's clock goes on by so many milliseconds, and stays at or below 2 ^ 53.
+pub fn tick<P: Parts>(parts: &mut P, alloc: Global, server: u32, ms: u64) -> Result<(), Memory>
+    requires { Fits (P.state parts.old) (event.Tick server ms) }
+    ensures whole { OnOk result (ClusterStep (P.state parts.old) (event.Tick server ms) (P.state parts.new) true) }
+    ensures cut { OnErr result (FindsNoMemory (event.Tick server ms) (P.state parts.old) (P.state parts.new)) }
+{
+    impel(parts, alloc, server, Impulse::Tick(server, ms))
+}
+
+/// The message with this number reaches its receiver, and may do so again.
+pub fn deliver<P: Parts>(parts: &mut P, alloc: Global, number: u64) -> Result<(), Memory>
+    requires { IsUnderWay (P.state parts.old) number }
+    ensures whole { OnOk result (ClusterStep (P.state parts.old) (event.Deliver number) (P.state parts.new) true) }
+    ensures cut { OnErr result (FindsNoMemory (event.Deliver number) (P.state parts.old) (P.state parts.new)) }
+{
+    let server = parts.receiver(number);
+    impel(parts, alloc, server, Impulse::Deliver(number))
+}
+
+/// The server restarts with what its durable store holds.
+pub fn restart<P: Parts>(parts: &mut P, alloc: Global, server: u32) -> Result<(), Memory>
+    requires { IsServerNumber (P.state parts.old) server }
+    ensures whole { OnOk result (ClusterStep (P.state parts.old) (event.Restart server) (P.state parts.new) true) }
+    ensures cut { OnErr result (FindsNoMemory (event.Restart server) (P.state parts.old) (P.state parts.new)) }
+{
+    impel(parts, alloc, server, Impulse::Restart(server))
+}
+
+/// The n-th call from now on of the server's durable store is to fail, or none for 0.
+pub fn fail_keep<P: Parts>(
+    parts: &mut P,
+    alloc: Global,
+    server: u32,
+    nth: u32,
+) -> Result<(), Memory>
+    requires { IsServerNumber (P.state parts.old) server }
+    ensures whole { OnOk result (ClusterStep (P.state parts.old) (event.FailKeep server nth) (P.state parts.new) true) }
+    ensures cut { OnErr result (FindsNoMemory (event.FailKeep server nth) (P.state parts.old) (P.state parts.new)) }
+{
+    impel(parts, alloc, server, Impulse::FailKeep(server, nth))
+}
+
+/// The message with this number is lost.
+pub fn lose<P: Parts>(parts: &mut P, alloc: Global, number: u64) -> Result<(), Memory>
+    requires { IsUnderWay (P.state parts.old) number }
+    ensures whole { OnOk result (ClusterStep (P.state parts.old) (event.Drop number) (P.state parts.new) true) }
+    ensures same { OnErr result (P.state parts.new ≡ P.state parts.old) }
+{
+    parts.note(alloc, Event::Drop(number))?;
+    parts.lose(number);
+    parts.shelve();
+    Ok(())
+}

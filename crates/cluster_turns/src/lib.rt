@@ -1,0 +1,19 @@
+//! The order of an event's work, over whatever holds a cluster: it is marked, its server makes up for what is due, acts,
+//! makes up again, and its outs join the tray.
+#![tactic(auto)]
+
+mod asking;
+mod cut;
+mod events;
+mod impulse;
+mod parts;
+mod settling;
+mod turns;
+
+pub use asking::ask;
+pub use cut::Cut;
+pub use events::{beat, deliver, fail_keep, lose, restart, tick, timeout};
+pub use impulse::Impulse;
+pub use parts::{Parts, Way};
+pub use settling::settle;
+pub use turns::make_up;

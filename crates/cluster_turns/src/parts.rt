@@ -1,0 +1,137 @@
+ghost use Rattle.std.specs.Prelude.{◌≡◌, ◌≢◌, ◌<◌, ℕ, None, Some, true, IfOk, IfErr, OnOk, OnErr, length};
+ghost use Rattle.cat_model.specs.declared.request.Asked.{Asked as SpecAsked};
+ghost use Rattle.cat_model.specs.declared.request.Event.{Event as SpecEvent};
+ghost use Rattle.cat_model.specs.declared.request.Event.TheVariants as event;
+ghost use Rattle.raft_model.specs.World.{numbered as packet};
+ghost use Rattle.cluster_rules.specs.Cluster.{Cluster};
+ghost use Rattle.cluster_rules.specs.Due.{due};
+ghost use Rattle.cluster_rules.specs.Left.{left};
+ghost use Rattle.cluster_rules.specs.Reached.{IsServerNumber, IsAgentNumber, IsUnderWay, Fits};
+ghost use Rattle.cluster_rules.specs.Requests.{refused, Goes};
+ghost use Rattle.cluster_rules.specs.Step.{goes_to, marked, noted, receiver, shelved};
+ghost use Rattle.cluster_turns.specs.Turns.{Turned, ActsWhole, ActsCut, event_of, way_of, GoesBy, IsCome, HandlesNewest, Loses, newest};
+ghost use Rattle.cluster_turns.specs.Pairs.{HasLowest, settled};
+
+use crate::cut::Cut;
+use crate::impulse::Impulse;
+use cat_model::{Asked, Draw, Event, Memory, Refusal};
+use std::alloc::Global;
+
+/// Where a request goes: it is answered at once, or a server handles it.
+#[derive(Drop)]
+pub enum Way {
+    Answers(Refusal),
+    Goes(u32),
+}
+
+/// What holds a cluster. Servers and agents are numbered from 1.
+pub trait Parts {
+    /// The cluster.
+    ghost state: { Self → Cluster };
+
+    /// The requests that it takes so far.
+    ghost takes: { SpecAsked → Type 0 };
+
+    /// Does one work that is due at a server, and says whether there was one. It lacks memory only where there is one.
+    fn turn(&mut self, alloc: Global, server: u32) -> Result<bool, Memory>
+        requires { IsServerNumber (state self.old) server }
+        ensures turned { IfOk result (λ was. Turned server was (state self.old) (state self.new)) }
+        ensures left { IfOk result (λ was. was ≡ true → left server (state self.new) < left server (state self.old)) }
+        ensures same { OnErr result (state self.new ≡ state self.old) }
+        ensures behind { OnErr result (due server (state self.old) ≢ None) };
+
+    /// Marks an event, whatever it is.
+    fn note(&mut self, alloc: Global, made: Event) -> Result<(), Memory>
+        ensures ok { OnOk result (state self.new ≡ noted made (state self.old)) }
+        ensures err { OnErr result (state self.new ≡ state self.old) };
+
+    /// Marks an event that is a request, of which the number is still to be given.
+    fn note_request(
+        &mut self,
+        alloc: Global,
+        agent: u32,
+        asked: &Asked,
+        draw: Draw,
+    ) -> Result<(), Memory>
+        requires { takes asked.now }
+        ensures ok { OnOk result (state self.new ≡ noted (event.Ask agent asked.now draw) (state self.old)) }
+        ensures err { OnErr result (state self.new ≡ state self.old) };
+
+    /// Takes the mark of an event back that has changed nothing.
+    fn forget(&mut self)
+        requires { (made : SpecEvent) × (c : Cluster) × (state self.old ≡ noted made c) }
+        ensures { (made : SpecEvent) (c : Cluster) → state self.old ≡ noted made c → state self.new ≡ c };
+
+    /// The server does what the event makes it do.
+    fn act(&mut self, alloc: Global, server: u32, impulse: Impulse) -> Result<(), Cut>
+        requires server { IsServerNumber (state self.old) server }
+        requires goes { goes_to (state self.old) (event_of impulse) ≡ Some server }
+        requires fits { Fits (state self.old) (event_of impulse) }
+        ensures whole { OnOk result (ActsWhole server (event_of impulse) (state self.old) (state self.new)) }
+        ensures cut { IfErr result (λ cut. ActsCut server (event_of impulse) cut (state self.old) (state self.new)) };
+
+    /// Lets the event's outs join the tray.
+    fn shelve(&mut self)
+        ensures { state self.new ≡ shelved (state self.old) };
+
+    /// The server to which a message goes.
+    fn receiver(&self, number: u64) -> u32
+        requires { IsUnderWay (state self.now) number }
+        ensures receiver { receiver (packet number (state self.now).world.bag.packets) ≡ Some result }
+        ensures server { IsServerNumber (state self.now) result };
+
+    /// A message is lost.
+    fn lose(&mut self, number: u64)
+        requires { IsUnderWay (state self.old) number }
+        ensures { Loses number (state self.old) (state self.new) };
+
+    /// The lowest number of a message.
+    fn lowest(&self) -> Option<u64>
+        ensures { HasLowest result (state self.now) };
+
+    /// Marks so many pairs of a delivery and the message's loss.
+    fn settled(&mut self, alloc: Global, pairs: u32) -> Result<(), Memory>
+        ensures ok { OnOk result (state self.new ≡ settled pairs (state self.old)) }
+        ensures err { OnErr result (state self.new ≡ state self.old) };
+
+    /// Where a request goes.
+    fn way(&self, alloc: Global, agent: u32, asked: &Asked) -> Result<Way, Memory>
+        requires agent { IsAgentNumber (state self.now) agent }
+        requires takes { takes asked.now }
+        ensures way { IfOk result (λ way. GoesBy agent asked.now (way_of way) (state self.now)) }
+        ensures server { IfOk result (λ way. (server : ℕ) → way_of way ≡ Goes server → IsServerNumber (state self.now) server) };
+
+    /// Marks a request with its number, and refuses it.
+    fn refuse(
+        &mut self,
+        alloc: Global,
+        agent: u32,
+        asked: &Asked,
+        draw: Draw,
+        why: Refusal,
+    ) -> Result<(), Memory>
+        requires { takes asked.now }
+        ensures ok { OnOk result (let come = marked (event.Ask agent asked.now draw) (state self.old) in state self.new ≡ refused (newest agent asked.now draw come) why come) }
+        ensures err { OnErr result (state self.new ≡ state self.old) };
+
+    /// Gives the request that was marked last its number, and does the server's part for it.
+    fn handle(
+        &mut self,
+        alloc: Global,
+        server: u32,
+        agent: u32,
+        asked: &Asked,
+        draw: Draw,
+    ) -> Result<(), Memory>
+        requires server { IsServerNumber (state self.old) server }
+        requires takes { takes asked.now }
+        requires come { IsCome agent asked.now draw (state self.old).past }
+        requires goes { GoesBy agent asked.now (Goes server) (state self.old) }
+        requires made_up { due server (state self.old) ≡ None }
+        ensures ok { OnOk result (HandlesNewest server agent asked.now draw (state self.old) (state self.new)) }
+        ensures err { OnErr result (state self.new ≡ state self.old) };
+
+    /// How many requests were asked.
+    fn asked(&self) -> u64
+        ensures { result ≡ (state self.now).asked };
+}

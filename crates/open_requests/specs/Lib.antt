@@ -1,5 +1,0 @@
-pub mod Contents
-pub mod Notes
-pub mod Plain
-pub mod Requests
-pub mod Taking

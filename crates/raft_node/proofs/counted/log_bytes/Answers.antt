@@ -1,0 +1,11 @@
+use Rattle.raft_node.proofs.Fitting.{count_end, count_step}
+use Rattle.raft_node.proofs.counted.log_bytes.Goals as goal
+
+pub loop-entry-preserved : goal.loop-entry-preserved
+loop-entry-preserved c = record {
+  counted = count_step c.args.entries.now c.loop-entry.entry-index c.loop-entry.total c.in_ok-bytes.bytes c.saturating_add-total.result c.entry-item.result c.loop-entry-test.true c.in_ok-bytes.ensures c.entry-item.is c.saturating_add-total.ensures c.loop-entry.invariant.counted;
+  fits = c.saturating_add-total.type_inv;
+}
+
+pub returns : goal.returns
+returns c = count_end c.args.entries.now c.loop-entry.entry-index c.loop-entry.total c.loop-entry-test.false c.loop-entry.invariant.fits c.loop-entry.invariant.counted

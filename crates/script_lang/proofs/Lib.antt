@@ -1,0 +1,5 @@
+pub mod Cuts
+pub mod Values
+pub mod Keys
+pub mod Shapes
+pub mod Asking
