@@ -2,5 +2,6 @@
 #![tactic(auto)]
 
 mod servers;
+mod taken;
 
 pub use servers::Servers;
