@@ -2,6 +2,7 @@
 #![tactic(auto)]
 
 mod servers;
+mod steps;
 mod taken;
 
 pub use servers::Servers;
