@@ -1,0 +1,4 @@
+pub mod Following
+pub mod Seeing
+pub mod Applying
+pub mod Stepping

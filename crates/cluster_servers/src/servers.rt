@@ -1,0 +1,157 @@
+//! The servers of a cluster.
+
+ghost use Rattle.std.specs.Prelude.{◌≡◌, ◌+◌, ◌≤◌, length, nat_lt, IfOk, OnErr, OnOk};
+ghost use Rattle.cat_model.specs.Indexes.{index_of};
+ghost use Rattle.cat_model.specs.Log.{commands_of};
+ghost use Rattle.cat_model.specs.Machine.{catalog_at};
+ghost use Rattle.cat_model.specs.Queries.{answer};
+ghost use Rattle.cluster_rules.specs.Cluster.{clock_of, node_of, server_of};
+ghost use Rattle.raft_world.specs.Steps.{IsNumber};
+ghost use Rattle.cluster_servers.specs.Servers.{HasNext, applies_next};
+
+use crate::taken::is_taken;
+use cat_model::{Answer, Entry, Memory, Query, Steps};
+use cat_outside::Keeper;
+use raft_node::Node;
+use raft_world::World;
+use replica::Replica;
+use std::alloc::Global;
+use std::marker::Model;
+use std::sync::ledger::Ledger;
+
+// The most positions that the tables of a server take.
+const MOST: u64 = 262_144;
+
+/// The servers of a cluster, numbered from 1: their world, and what each has applied. Contracts see of each server the
+/// first entries of its node's log, as many as it has applied, and its clock at each of them.
+#[derive(Drop)]
+pub struct Servers<K: Keeper> {
+    pub(crate) world: World<K>,
+    pub(crate) replicas: Vec<Replica>,
+}
+
+impl<K: Keeper> Model for Servers<K> {
+    ghost use Rattle.cluster_servers.specs.Servers as spec;
+    ghost use Rattle.cluster_servers.specs.Servers.{AllFollow, servers_with};
+
+    ghost Value = { spec.Servers };
+
+    ghost view = { λ s. record { world = s.world; servers = servers_with s.world.nodes s.replicas.items } };
+
+    ghost invariant = { λ s. AllFollow s.world.nodes s.replicas.items };
+}
+
+// The place of a server in the lists by server.
+pub(crate) fn place(s: u32) -> usize
+    requires { 1 ≤ s }
+    ensures { result + 1 ≡ s }
+{
+    s as usize - 1
+}
+
+impl<K: Keeper> Servers<K> {
+    /// How many servers there are.
+    #[tactic(auto, using(crate::proofs::Following::as_many))]
+    pub fn count(&self) -> u32
+        ensures nodes { result ≡ length self.now.world.nodes }
+        ensures servers { result ≡ length self.now.servers }
+    {
+        self.world.servers()
+    }
+
+    /// The node of a server.
+    #[tactic(auto, using(crate::proofs::Following::is_node))]
+    pub fn node(&self, s: u32) -> &Node<K>
+        requires { IsNumber s self.now.world }
+        ensures { result.now ≡ node_of self.now.world s }
+    {
+        self.world.node(s)
+    }
+
+    /// The clock of a server, in milliseconds.
+    pub fn clock(&self, s: u32) -> u64
+        requires { IsNumber s self.now.world }
+        ensures { result ≡ clock_of self.now.world s }
+    {
+        self.world.clock(s)
+    }
+
+    /// The longest list that any server has committed so far.
+    pub fn agreed(&self) -> &[Entry]
+        ensures { result.now ≡ self.now.world.agreed }
+    {
+        self.world.agreed()
+    }
+
+    // What a server has applied.
+    fn replica(&self, s: u32) -> &Replica
+        requires { IsNumber s self.now.world }
+        ensures commands { result.now.commands ≡ commands_of (server_of self.now.servers s).applied }
+        ensures clocks { result.now.clocks ≡ (server_of self.now.servers s).clocks }
+        ensures count { length result.now.commands ≡ length (server_of self.now.servers s).applied }
+    {
+        &self.replicas[place(s)]
+    }
+
+    /// How many positions a server has applied.
+    pub fn applied(&self, s: u32) -> u64
+        requires { IsNumber s self.now.world }
+        ensures { result ≡ length (server_of self.now.servers s).applied }
+    {
+        self.replica(s).length()
+    }
+
+    /// A server's clock at each position that it has applied, in milliseconds, the first one first.
+    pub fn clocks(&self, s: u32) -> &[u64]
+        requires { IsNumber s self.now.world }
+        ensures { result.now ≡ (server_of self.now.servers s).clocks }
+    {
+        self.replica(s).clocks()
+    }
+
+    /// More is committed at a server than it has applied.
+    pub fn has_next(&self, s: u32) -> bool
+        requires { IsNumber s self.now.world }
+        ensures { result ≡ nat_lt (length (server_of self.now.servers s).applied) (node_of self.now.world s).commit }
+    {
+        self.applied(s) < self.node(s).commit()
+    }
+
+    /// The answer to a query at all that a server has applied, with its index. It is one step, also where memory fails.
+    pub fn read<L: Ledger>(
+        &self,
+        alloc: Global,
+        s: u32,
+        query: &Query,
+        steps: &mut Steps<L>,
+    ) -> Result<(Answer, u64), Memory>
+        requires { IsNumber s self.now.world }
+        ensures told { let log = commands_of (server_of self.now.servers s).applied in IfOk result (λ r. r ≡ (answer query.now (catalog_at log), index_of query.now log)) }
+        ensures cost { steps.new ≡ steps.old + 1 }
+    {
+        self.replica(s).read(alloc, query, steps)
+    }
+
+    /// A server applies its next position, at its clock's time. It answers Memory also where the entry there is one
+    /// that its tables don't take: no request enters such a one, and it can only come out of a durable store. After
+    /// Memory all is as before.
+    pub fn apply(&mut self, alloc: Global, s: u32) -> Result<(), Memory>
+        requires server { IsNumber s self.old.world }
+        requires next { HasNext self.old s }
+        ensures ok { OnOk result (self.new ≡ applies_next s self.old) }
+        ensures err { OnErr result (self.new ≡ self.old) }
+    {
+        let clock = self.world.clock(s);
+        let at = place(s);
+        let replica = &mut self.replicas[at];
+        let applied = replica.length();
+        let Some(entry) = self.world.node(s).entry(applied + 1) else {
+            return Err(Memory);
+        };
+        if applied >= MOST || !is_taken(&entry.command) {
+            return Err(Memory);
+        }
+        replica.apply(alloc, &entry.command, clock)?;
+        Ok(())
+    }
+}
