@@ -9,8 +9,6 @@ mod reads;
 mod refusals;
 mod rows;
 mod sessions;
-#[cfg(test)]
-mod tests;
 mod writes;
 
 pub use content::{Content, body};
