@@ -1,0 +1,98 @@
+ghost use Rattle.std.specs.Prelude.{◌≡◌, IfOk};
+ghost use Rattle.script_lang.specs.Text.{out_text, reason_text, end_text as end_text_of};
+ghost use Rattle.open_requests.specs.Contents.{content_of, out_of};
+ghost use Rattle.reply_body.specs.Contents.{shown_content};
+ghost use Rattle.script_player.specs.Text as spec;
+
+use crate::refused::Refused;
+use cat_model::{Bytes, Form, Memory, Out, Reply};
+use cluster_model::Shown;
+use open_requests::{Content, Given};
+use reply_body::{read_body, refusal_body, write_body};
+use script_lang::{print_end, print_out, print_refused};
+use std::alloc::Global;
+
+// The status, body and form of what a reply shows.
+fn shown_by(alloc: Global, content: &Content) -> Result<Shown, Memory>
+    ensures { IfOk result (λ shown. shown ≡ shown_content (content_of content.now)) }
+{
+    match content {
+        Content::Shows { query, raw, answer } => read_body(alloc, query, *raw, answer),
+        Content::Tells { command, applied } => write_body(alloc, command, applied),
+        Content::Says(why) => refusal_body(alloc, why),
+        Content::Blank => Ok(Shown {
+            status: 500,
+            body: Bytes::new(alloc, b"")?,
+            form: Form::Plain,
+        }),
+    }
+}
+
+// The reply with the status, body and form of its content.
+fn given_reply(alloc: Global, reply: &open_requests::Reply) -> Result<Reply, Memory>
+    ensures { IfOk result (λ r. r ≡ spec.given_reply reply.now) }
+{
+    let Shown { status, body, form } = shown_by(alloc, reply.content())?;
+    Ok(Reply {
+        number: reply.number(),
+        status,
+        index: reply.index(),
+        body,
+        form,
+        known_leader: reply.known(),
+        last_contact: reply.contact(),
+        kind: reply.kind().clone()?,
+    })
+}
+
+// What the out gives, as it is given to the outside.
+fn outward(alloc: Global, given: &Given) -> Result<Out, Memory>
+    ensures { IfOk result (λ o. o ≡ spec.given (out_of given.now)) }
+{
+    match given {
+        Given::Replied(reply) => Ok(Out::Reply(given_reply(alloc, reply)?)),
+        Given::Closed { number, event } => Ok(Out::Closed {
+            number: *number,
+            event: *event,
+        }),
+        Given::Synced { agent, count } => Ok(Out::Synced {
+            agent: *agent,
+            count: *count,
+        }),
+    }
+}
+
+// The line of what an out gives.
+fn printed(alloc: Global, given: &Out) -> Result<Bytes, Memory>
+    ensures { IfOk result (λ text. text ≡ out_text given.now) }
+{
+    let mut text = Bytes::new(alloc, b"")?;
+    print_out(alloc, given, &mut text)?;
+    Ok(text)
+}
+
+/// The line of an out of the cluster.
+pub fn line_of_out(alloc: Global, out: &open_requests::Out) -> Result<Bytes, Memory>
+    ensures { IfOk result (λ text. text ≡ spec.line_of_out out.now) }
+{
+    let given = outward(alloc, out.given())?;
+    printed(alloc, &given)
+}
+
+/// The line that says which line is refused, and why.
+pub fn refused_text(alloc: Global, refused: Refused) -> Result<Bytes, Memory>
+    ensures { IfOk result (λ text. text ≡ spec.refused_text refused.line (reason_text refused.reason)) }
+{
+    let mut text = Bytes::new(alloc, b"")?;
+    print_refused(alloc, refused.line, refused.reason, &mut text)?;
+    Ok(text)
+}
+
+/// The last line of a whole run: the length of the agreed log, and the requests without a reply.
+pub fn end_text(alloc: Global, log: u64, unanswered: &[u64]) -> Result<Bytes, Memory>
+    ensures { IfOk result (λ text. text ≡ end_text_of log unanswered.now) }
+{
+    let mut text = Bytes::new(alloc, b"")?;
+    print_end(alloc, log, unanswered, &mut text)?;
+    Ok(text)
+}
