@@ -43,7 +43,7 @@ fn a_vote_that_is_not_kept_is_not_sent(rt: HostRuntime) -> Result<(), Fail> {
     hears(&rt, &mut node, 2, AskVote(1, 0, 0), &[(2, Vote(1, true))])
 }
 
-// The paper's section 5.4.1: the later last term is more up-to-date, and of the same the longer log.
+// The Raft paper's section 5.4.1: the later last term is more up-to-date, and of the same the longer log.
 #[test]
 fn a_vote_goes_to_no_log_behind(rt: HostRuntime) -> Result<(), Fail> {
     let mut node = server(rt.alloc(), 3, 3)?;

@@ -74,7 +74,7 @@ fn a_heartbeat_is_a_leaders(rt: HostRuntime) -> Result<(), Fail> {
     Ok(())
 }
 
-// The paper's section 8: "a leader must check whether it has been deposed .. by having the leader exchange heartbeat
+// The Raft paper's section 8: "a leader must check whether it has been deposed .. by having the leader exchange heartbeat
 // messages with a majority of the cluster before responding to read-only requests".
 #[test]
 fn a_round_is_confirmed_by_a_majority(rt: HostRuntime) -> Result<(), Fail> {
