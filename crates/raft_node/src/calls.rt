@@ -6,6 +6,7 @@ ghost use Rattle.cat_model.specs.LogLimits.{keeps_limits};
 ghost use Rattle.raft_model.specs.Node.{last};
 ghost use Rattle.raft_model.specs.Rules.{Beat, Probe, Propose, Timeout, is_confirmed, is_leader};
 ghost use Rattle.raft_model.specs.Step.{LogFails, NodeStep, Works};
+ghost use Rattle.raft_node.specs.Counts.{bytes_of};
 ghost use Rattle.raft_node.specs.Nodes.{may_stand};
 ghost use Rattle.raft_node.specs.Steps.{FindsNoMemory, MayPropose, Proposes, Steps};
 
@@ -58,6 +59,16 @@ impl<K: Keeper + Drop> Node<K> {
             return Ok(List::new(alloc));
         }
         append_all(alloc, &self.state, self.log.as_slice(), &[])
+    }
+
+    /// How many bytes the commands of the log have, Noops' not counted, and 2^64 - 1 where they have more. Entries that
+    /// a proposal counted are not read again.
+    pub fn log_bytes(&self, alloc: Global) -> Result<u64, Memory>
+        ensures { IfOk result (λ bytes. bytes ≡ bytes_of self.now.log) }
+    {
+        let last = self.log.len();
+        let counted = counted_at(alloc, self.log.as_slice(), self.counted, last)?;
+        Ok(counted.bytes)
     }
 
     // Whether the log has room for this command.
