@@ -19,6 +19,11 @@ pub record HasPlace (number : ℕ) (packets : List Packet) (at : ℕ) : Type 0 w
   pub is : (p : Packet) → (get_or packets at p).number ≡ number
   pub below : (i : ℕ) (p : Packet) → i < at → (get_or packets i p).number < number
 
+-- the first of the packets, which has the lowest number
+abbrev pub first_of : List Packet → Option Packet
+first_of [] = None
+first_of (p ∷ ps) = Some p
+
 -- the lowest number of a message, where there is one
 abbrev pub IsLowest : Option ℕ → List Packet → Type 0
 IsLowest None packets = packets ≡ []

@@ -7,7 +7,7 @@ ghost use Rattle.std.specs.VecDeque.{deque_capacity};
 ghost use Rattle.std.specs.List.Sorted.{IsNonDecreasingBy};
 ghost use Rattle.raft_model.specs.World as model;
 ghost use Rattle.raft_model.specs.World.{message_bytes, numbered, posted, posted_all, without};
-ghost use Rattle.raft_world.specs.Packets.{HasPlace, IsLowest};
+ghost use Rattle.raft_world.specs.Packets.{HasPlace, IsLowest, first_of};
 ghost use Rattle.raft_world.specs.Weights.{capped};
 
 use crate::weight::message_bytes;
@@ -194,5 +194,12 @@ impl Bag {
     {
         let packet = self.packets.front()?;
         Some(packet.number())
+    }
+
+    /// The message with the lowest number.
+    pub fn first(&self) -> Option<&Packet>
+        ensures { option_copied result ≡ first_of self.now.packets }
+    {
+        self.packets.front()
     }
 }

@@ -1,10 +1,10 @@
 //! All servers of a cluster, with the messages on their way.
 
-ghost use Rattle.std.specs.Prelude.{◌≡◌, length, is_some};
-ghost use Rattle.std.specs.Option.{option_copied};
+ghost use Rattle.std.specs.Prelude.{◌≡◌, IfSome, length, is_some};
+ghost use Rattle.std.specs.Option.{option_copied, option_map};
 ghost use Rattle.raft_model.specs.Node.{of_server};
 ghost use Rattle.raft_model.specs.World.{IsServer, numbered};
-ghost use Rattle.raft_world.specs.Packets.{IsLowest};
+ghost use Rattle.raft_world.specs.Packets.{IsLowest, first_of};
 ghost use Rattle.raft_world.specs.Steps.{IsNumber, contact_of};
 
 use crate::agreed::Agreed;
@@ -93,6 +93,24 @@ impl<K: Keeper> World<K> {
         ensures { option_copied result ≡ numbered k self.now.bag.packets }
     {
         self.bag.find(k)
+    }
+
+    /// The server that is to receive the message of this number.
+    pub fn receiver(&self, k: u64) -> Option<u32>
+        ensures receiver { result ≡ option_map (λ p. p.to) (numbered k self.now.bag.packets) }
+        ensures server { IfSome result (λ s. IsNumber s self.now) }
+    {
+        match self.bag.find(k) {
+            Some(packet) => Some(packet.to()),
+            None => None,
+        }
+    }
+
+    /// The message in the bag with the lowest number.
+    pub fn first(&self) -> Option<&Packet>
+        ensures { option_copied result ≡ first_of self.now.bag.packets }
+    {
+        self.bag.first()
     }
 
     /// The lowest number of a message in the bag.
