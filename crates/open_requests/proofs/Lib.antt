@@ -1,4 +1,6 @@
 pub mod Among
 pub mod Fronts
+pub mod Telling
 pub mod Lifting
 pub mod Placing
+pub mod Numbering

@@ -1,4 +1,5 @@
 pub mod Contents
+pub mod Marking
 pub mod Notes
 pub mod Plain
 pub mod Requests

@@ -1,6 +1,6 @@
 -- The marks of a cluster as they are kept. Entries that joined the agreed log are counted only, since that log has
 -- them.
-use Rattle.std.specs.Prelude.{ℕ, ◌+◌, List, [], ◌∷◌, take, drop, Option, Some, None}
+use Rattle.std.specs.Prelude.{ℕ, ◌+◌, Bool, true, false, List, [], ◌∷◌, take, drop, if◌then◌else◌, Option, Some, None}
 use Rattle.cat_model.specs.declared.reply.Mark.{Mark}
 use Rattle.cat_model.specs.declared.reply.Mark.TheVariants as mark
 use Rattle.raft_model.specs.Log.{Log}
@@ -39,3 +39,36 @@ events_noted (note ∷ notes) = events_of note + events_noted notes
 abbrev pub taken_note : Option ℕ → List Note → List Note
 taken_note None notes = notes
 taken_note (Some number) notes = Marked (mark.Taken number) ∷ notes
+
+-- a note that may follow the mark of an event at work: an answer's, or a count of entries that joined
+abbrev pub follows : Note → Bool
+follows (Marked (mark.Answered number kind known contact)) = true
+follows (Joined count) = true
+follows other = false
+
+-- The last note that follows none is the mark of an event, and of no request with a number.
+abbrev pub IsMadeLast : List Note → Type 0
+IsMadeLast [] = ⊥
+IsMadeLast (Marked (mark.Answered number kind known contact) ∷ notes) = IsMadeLast notes
+IsMadeLast (Marked (mark.Made made) ∷ notes) = Unit {0}
+IsMadeLast (Marked other ∷ notes) = ⊥
+IsMadeLast (Joined count ∷ notes) = IsMadeLast notes
+
+-- another note in its place
+abbrev pub in_place : Note → List Note → List Note
+in_place new [] = []
+in_place new (Marked (mark.Answered number kind known contact) ∷ notes) = Marked (mark.Answered number kind known contact) ∷ in_place new notes
+in_place new (Marked other ∷ notes) = new ∷ notes
+in_place new (Joined count ∷ notes) = Joined count ∷ in_place new notes
+
+-- Behind notes that count entries the last one is the mark of an event, and of no request with a number.
+abbrev pub IsJustMade : List Note → Type 0
+IsJustMade [] = ⊥
+IsJustMade (Marked (mark.Made made) ∷ notes) = Unit {0}
+IsJustMade (Marked other ∷ notes) = ⊥
+IsJustMade (Joined count ∷ notes) = IsJustMade notes
+
+-- the notes before the mark of the event at work
+abbrev pub before_made : List Note → List Note
+before_made [] = []
+before_made (note ∷ notes) = if follows note then before_made notes else notes

@@ -14,7 +14,7 @@ use Rattle.cluster_rules.specs.Step.{ended}
 use Rattle.raft_model.specs.World.{World}
 use Rattle.open_requests.specs.declared.note.Note.{Note}
 use Rattle.open_requests.specs.declared.note.Note.TheVariants.{Marked}
-use Rattle.open_requests.specs.Notes.{past_of, events_noted}
+use Rattle.open_requests.specs.Notes.{past_of, before_made, events_noted, in_place}
 
 pub record Requests : Type 0 where
   pub agents : ℕ
@@ -54,6 +54,14 @@ noted made r = with_note (Marked (mark.Made made)) r
 -- a request comes and is marked with its number
 abbrev pub came_with : ℕ → Asked → Draw → Requests → Requests
 came_with agent asked draw r = record r { asked = r.asked + 1; notes = Marked (mark.Asked (r.asked + 1) agent asked draw) ∷ r.notes }
+
+-- the request that was noted last takes its number
+abbrev pub numbered_with : ℕ → Asked → Draw → Requests → Requests
+numbered_with agent asked draw r = record r { asked = r.asked + 1; notes = in_place (Marked (mark.Asked (r.asked + 1) agent asked draw)) r.notes }
+
+-- the mark of an event is taken back
+abbrev pub forgotten : Requests → Requests
+forgotten r = record r { notes = before_made r.notes }
 
 abbrev pub reply_with : ℕ → Kind → Bool → ℕ → Content → Reply
 reply_with number kind known contact content = record { number = number; index = index_shown kind; content = content; known = known; contact = contact; kind = kind }

@@ -5,6 +5,7 @@ mod collected;
 mod content;
 mod copies;
 mod giving;
+mod history;
 mod holding;
 pub mod laws;
 mod note;

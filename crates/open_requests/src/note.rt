@@ -1,5 +1,5 @@
 ghost use Rattle.std.specs.Prelude.{◌≡◌};
-ghost use Rattle.open_requests.specs.Notes.{events_of};
+ghost use Rattle.open_requests.specs.Notes.{events_of, follows};
 
 use cat_model::Mark;
 
@@ -20,5 +20,12 @@ impl Note {
             Note::Marked(Mark::Asked { .. } | Mark::Made(_)) => 1,
             _ => 0,
         }
+    }
+
+    /// Whether it may follow the mark of an event at work, as answers and counts of entries do.
+    pub fn follows(&self) -> bool
+        ensures { result ≡ follows self.now }
+    {
+        matches!(self, Note::Marked(Mark::Answered { .. }) | Note::Joined(_))
     }
 }

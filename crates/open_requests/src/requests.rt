@@ -1,18 +1,20 @@
 //! The requests of a cluster.
 
-ghost use Rattle.std.specs.Prelude.{◌≡◌, ◌<◌, ◌+◌, [], ◌∷◌, IfOk, IfSome, IfNone, None, Some, OnOk, OnErr, false, length, map, reverse};
+ghost use Rattle.std.specs.Prelude.{◌≡◌, ◌<◌, ◌≤◌, ◌+◌, [], ◌∷◌, IfOk, IfSome, IfNone, None, Some, OnOk, OnErr, false, true, length, map, reverse};
 ghost use Rattle.cat_model.specs.declared.reply.Mark.TheVariants as mark;
 ghost use Rattle.open_requests.specs.declared.note.Note.TheVariants as notes;
-ghost use Rattle.open_requests.specs.Contents.{content_of, stand_of, start_of};
+ghost use Rattle.open_requests.specs.Contents.{HasWay, content_of, stand_of, start_of};
 ghost use Rattle.std.specs.List.{position};
 ghost use Rattle.cluster_rules.specs.Replies.{Says};
-ghost use Rattle.open_requests.specs.Notes.{event_of, events_noted};
+ghost use Rattle.open_requests.specs.Notes.{IsJustMade, IsMadeLast, event_of, events_noted, past_of};
 ghost use Rattle.open_requests.specs.Plain.{refusal_of};
-ghost use Rattle.open_requests.specs.Requests.{answered_with, came_with, closed_with, empty, ended_all, holding_with, noted, restood, shelved_all, used, with_note, given_with};
+ghost use Rattle.open_requests.specs.Requests.{answered_with, came_with, closed_with, empty, ended_all, forgotten, holding_with, noted, numbered_with, reply_with, restood, shelved_all, used, with_note, given_with};
 ghost use Rattle.open_requests.specs.Taking.{IsCollected, TakesAt, TakesFirst, is_of};
 
 use crate::collected::Collected;
 use crate::content::Content;
+use crate::copies::{copy_asked, copy_refusal};
+use crate::history::marks_of;
 use crate::note::Note;
 use crate::out::{Given, Out, Reply};
 use crate::pending::{Pending, Stand, Start};
@@ -20,7 +22,7 @@ use crate::plain::Plain;
 use crate::question::Question;
 use crate::room::reserve;
 use crate::{giving, holding, noting};
-use cat_model::{Asked, Draw, Event, Kind, List, Mark, Memory};
+use cat_model::{Asked, Draw, Entry, Event, Kind, List, Mark, Memory, Refusal};
 use std::alloc::Global;
 use std::collections::VecDeque;
 use std::marker::Model;
@@ -71,6 +73,25 @@ impl Model for Requests {
 
 // Lets go of a reply that is not given.
 fn discard_reply(_reply: Reply) {}
+
+fn discard_asked(_asked: Asked) {}
+
+// The reply of a refusal, and its mark.
+fn refusing(number: u64, why: &Refusal) -> Result<(Reply, Mark), Memory>
+    ensures reply { IfOk result (λ r. r.0 ≡ reply_with number (Kind.Refused why.now) false 0 (Says why.now)) }
+    ensures mark { IfOk result (λ r. r.1 ≡ mark.Answered number (Kind.Refused why.now) false 0) }
+{
+    let kind = Kind::Refused(copy_refusal(why)?);
+    let content = Content::Says(copy_refusal(why)?);
+    let reply = Reply::new(number, kind, false, 0, content);
+    match reply.mark() {
+        Ok(mark) => Ok((reply, mark)),
+        Err(Memory) => {
+            discard_reply(reply);
+            Err(Memory)
+        }
+    }
+}
 
 impl Requests {
     /// No requests, in a cluster of so many agents.
@@ -202,6 +223,45 @@ impl Requests {
         Ok(())
     }
 
+    /// Takes the mark of the event at work back, which has changed nothing. It takes no memory.
+    #[tactic(auto, using(crate::proofs::Numbering::made_counted))]
+    pub fn forget(&mut self)
+        requires { IsJustMade self.old.notes }
+        ensures { self.new ≡ forgotten self.old }
+    {
+        noting::take_back(&mut self.notes);
+        self.events -= 1;
+    }
+
+    /// The request that was noted last takes its number, and its mark. Answers alone were given since. There is room
+    /// for it, so that it takes no memory.
+    pub fn number(&mut self, agent: u32, asked: Asked, draw: Draw)
+        requires room { 0 < self.old.room }
+        requires made { IsMadeLast self.old.notes }
+        ensures { self.new ≡ used (numbered_with agent asked draw self.old) }
+    {
+        let number = self.asked + 1;
+        let mark = Mark::Asked {
+            number,
+            agent,
+            asked,
+            draw,
+        };
+        noting::replace_made(&mut self.notes, Note::Marked(mark));
+        self.asked = number;
+        self.room -= 1;
+    }
+
+    /// Marks so many pairs of a delivery and the message's loss.
+    pub fn settle(&mut self, pairs: u32) -> Result<(), Memory>
+        ensures ok { OnOk result (self.new ≡ with_note (notes.Marked (mark.Settled pairs true)) self.old) }
+        ensures err { OnErr result (self.new ≡ self.old) }
+    {
+        self.prepare_one()?;
+        self.add(Note::Marked(Mark::Settled { pairs, whole: true }));
+        Ok(())
+    }
+
     /// Marks a request that comes with its number. There is room for it, so that it takes no memory.
     pub fn come(&mut self, agent: u32, asked: Asked, draw: Draw)
         requires { 0 < self.old.room }
@@ -288,6 +348,66 @@ impl Requests {
         ensures err { OnErr result (self.new ≡ self.old) }
     {
         self.answer_by(Reply::new(number, kind, known, contact, content))
+    }
+
+    // Takes the room for two calls more.
+    fn prepare_two(&mut self) -> Result<(), Memory>
+        ensures ok { OnOk result (self.new ≡ record self.old { room = self.old.room + 2 }) }
+        ensures err { OnErr result (self.new ≡ self.old) }
+    {
+        match self.room.checked_add(2) {
+            Some(room) => self.make_room(room),
+            None => Err(Memory),
+        }
+    }
+
+    // Marks a request that comes with its number, and refuses it. There is room for it, which is given back where
+    // there is no memory.
+    fn come_with(
+        &mut self,
+        agent: u32,
+        asked: Asked,
+        draw: Draw,
+        why: &Refusal,
+    ) -> Result<(), Memory>
+        requires { 2 ≤ self.old.room }
+        ensures ok { OnOk result (self.new ≡ used (answered_with (self.old.asked + 1) (Kind.Refused why.now) false 0 (Says why.now) (used (came_with agent asked draw self.old)))) }
+        ensures err { OnErr result (self.new ≡ used (used self.old)) }
+    {
+        match refusing(self.asked + 1, why) {
+            Ok((reply, mark)) => {
+                self.come(agent, asked, draw);
+                self.give(reply, mark);
+                Ok(())
+            }
+            Err(Memory) => {
+                discard_asked(asked);
+                self.room -= 2;
+                Err(Memory)
+            }
+        }
+    }
+
+    /// Marks a request that comes with its number, and refuses it.
+    pub fn come_refused(
+        &mut self,
+        agent: u32,
+        asked: &Asked,
+        draw: Draw,
+        why: &Refusal,
+    ) -> Result<(), Memory>
+        requires { HasWay asked.now }
+        ensures ok { OnOk result (self.new ≡ answered_with (self.old.asked + 1) (Kind.Refused why.now) false 0 (Says why.now) (came_with agent asked.now draw self.old)) }
+        ensures err { OnErr result (self.new ≡ self.old) }
+    {
+        self.prepare_two()?;
+        match copy_asked(asked) {
+            Ok(copy) => self.come_with(agent, copy, draw, why),
+            Err(Memory) => {
+                self.room -= 2;
+                Err(Memory)
+            }
+        }
     }
 
     /// Refuses a request for a cause that has no text. There is room for it, so that it takes no memory.
@@ -408,5 +528,14 @@ impl Requests {
     {
         let numbers: Vec<u64> = self.held.iter().map(|h| h.number()).collect(alloc)?;
         Ok(List::from(numbers))
+    }
+
+    /// The marks of what has happened, the first one first, beside the agreed log.
+    #[tactic(auto, using(crate::proofs::Telling::all_told))]
+    pub fn into_marks(self, alloc: Global, agreed: &[Entry]) -> Result<List<Mark>, Memory>
+        ensures { IfOk result (λ marks. marks ≡ reverse (past_of agreed.now self.notes)) }
+    {
+        let marks = marks_of(alloc, self.notes, agreed)?;
+        Ok(List::from(marks))
     }
 }
