@@ -1,5 +1,5 @@
 -- What becomes of the servers where one applies its next position.
-use Rattle.std.proofs.Common.{◌≡◌, ℕ, suc, ◌+◌, ◌<◌, length, take, set, get_or, List, Option, Some, None, refl, sym, ap, ◌∙◌, subst, arith}
+use Rattle.std.proofs.Common.{◌≡◌, ℕ, suc, ◌+◌, ◌<◌, length, take, set, get_or, List, Option, Some, sym, ap, ◌∙◌, subst, arith}
 use Rattle.std.proofs.lemmas.List.{length-take-le}
 use Rattle.cat_model.specs.declared.command.Entry.{Entry}
 use Rattle.raft_model.specs.Log.{entry_at}

@@ -1,14 +1,13 @@
 -- What becomes of the servers where a replica or a node changes.
-use Rattle.std.proofs.Common.{◌≡◌, ℕ, zero, suc, ◌+◌, ◌<◌, ◌≤◌, length, take, set, get_or, map, List, [], ◌∷◌, ◌++◌, Option, Some, None, refl, sym, ap, ◌∙◌, subst, arith, add-one}
-use Rattle.std.proofs.lemmas.List.{map-append, length-append, length-take-le, get_or_default}
+use Rattle.std.proofs.Common.{◌≡◌, ℕ, zero, suc, ◌+◌, ◌<◌, ◌≤◌, length, take, set, get_or, List, [], ◌∷◌, ◌++◌, Some, refl, sym, ap, ◌∙◌, subst, arith, add-one}
+use Rattle.std.proofs.lemmas.List.{map-append, length-append, get_or_default}
 use Rattle.cat_model.specs.declared.command.Entry.{Entry}
 use Rattle.cat_model.specs.Log.{commands_of}
 use Rattle.raft_model.specs.Log.{Log, entry_at}
-use Rattle.raft_model.specs.Node.{Node, set_server}
+use Rattle.raft_model.specs.Node.{Node}
 use Rattle.raft_model.specs.World.{World, IsServer}
-use Rattle.raft_world.specs.Steps.{IsNumber}
 use Rattle.replica.specs.States.{ReplicaState, applied_at, nothing_applied}
-use Rattle.cluster_rules.specs.Cluster.{Server, no_node, no_server, node_of, server_of}
+use Rattle.cluster_rules.specs.Cluster.{Server, no_node, no_server, node_of}
 use Rattle.cluster_rules.specs.Due.{applies_entry}
 use Rattle.cluster_servers.specs.Servers.{AllFollow, Follows, server_with, servers_with}
 

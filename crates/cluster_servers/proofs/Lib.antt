@@ -2,3 +2,5 @@ pub mod Following
 pub mod Seeing
 pub mod Applying
 pub mod Stepping
+pub mod Beginning
+pub mod Placed

@@ -1,5 +1,5 @@
 -- No step of the world changes what its servers have applied.
-use Rattle.std.proofs.Common.{◌≡◌, ℕ, zero, suc, ◌≤◌, ◌⊎◌, inl, inr, length, take, set, List, Option, Some, Result, Ok, Err, refl, sym, ap, ◌∙◌, subst, arith}
+use Rattle.std.proofs.Common.{◌≡◌, ℕ, zero, suc, ◌+◌, inl, inr, length, take, set, List, Result, Ok, Err, refl, sym, ap, ◌∙◌, subst, arith}
 use Rattle.std.specs.Prelude.{IfOk, OnErr, OnOk}
 use Rattle.std.proofs.lemmas.List.{length-take-le}
 use Rattle.cat_model.specs.declared.command.Command.{Command}
@@ -18,7 +18,8 @@ use Rattle.raft_world.proofs.Fronting.{step_kept}
 use Rattle.replica.specs.States.{ReplicaState, nothing_applied}
 use Rattle.cluster_rules.specs.Cluster.{no_server}
 use Rattle.cluster_servers.specs.Servers.{AllFollow, Servers, servers_with}
-use Rattle.cluster_servers.proofs.Following.{Keeps, begins, node_changes}
+use Rattle.cluster_servers.proofs.Following.{Keeps, begins, named, node_changes}
+use Rattle.cluster_servers.proofs.Seeing.{seen}
 
 -- the replicas follow the servers of another world, and what they have applied is the same there
 abbrev pub Kept : World → World → Type 0
@@ -93,3 +94,11 @@ pub restart_begins : (w : World) (rs : List ReplicaState) (at s : ℕ) → suc a
     → AllFollow w'.nodes (set rs at nothing_applied) × (servers_with w'.nodes (set rs at nothing_applied) ≡ set_server (servers_with w.nodes rs) s no_server)
 restart_begins w rs at s place w' step a =
     subst (λ (k : ℕ). WorldStep w (Restarts k) w' → AllFollow w'.nodes (set rs at nothing_applied) × (servers_with w'.nodes (set rs at nothing_applied) ≡ set_server (servers_with w.nodes rs) k no_server)) place (λ st. restart_here w rs at w' st a) step
+
+-- server s begins again, with a replica that is empty at its place
+pub restarts_it : (w : World) (rs : List ReplicaState) (v : Servers) → seen w rs ≡ v → AllFollow w.nodes rs → (at s : ℕ) → at + 1 ≡ s → (new : ReplicaState) → new ≡ nothing_applied → (w' : World) → WorldStep w (Restarts s) w'
+    → AllFollow w'.nodes (set rs at new) × (servers_with w'.nodes (set rs at new) ≡ set_server v.servers s no_server)
+restarts_it w rs v view all at s place new is w' step =
+    let Goal : ReplicaState → Type 0 = λ z. AllFollow w'.nodes (set rs at z) × (servers_with w'.nodes (set rs at z) ≡ set_server v.servers s no_server) in
+    let made = restart_begins w rs at s (named at s place) w' step all in
+    subst Goal (sym is) (made.0, made.1 ∙ ap (λ (u : Servers). set_server u.servers s no_server) view)

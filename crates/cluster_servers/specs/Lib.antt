@@ -1,1 +1,2 @@
+pub mod EntryTerms
 pub mod Servers

@@ -1,17 +1,19 @@
-//! The steps of the servers' world. None of them changes what a server has applied.
+//! The steps of the servers' world. None but a restart changes what a server has applied.
 
 ghost use Rattle.std.specs.Prelude.{◌≡◌, ◌-◌, ◌+◌, ◌^◌, ◌<◌, ◌↔◌, ℕ, true, IfOk, IsErrOf, OnErr, OnOk, is_some};
 ghost use Rattle.raft_model.specs.Node as model;
+ghost use Rattle.raft_model.specs.Node.{set_server};
 ghost use Rattle.raft_model.specs.Rules.{Beat, Propose, Timeout};
-ghost use Rattle.raft_model.specs.World.{Arms, Drops, IsNew, IsServer, Ticks, WorldStep, numbered};
+ghost use Rattle.raft_model.specs.World.{Arms, Drops, IsNew, IsServer, Restarts, Ticks, WorldStep, numbered};
 ghost use Rattle.raft_world.specs.Steps.{Begun, Delivers, FindsNoMemory, IsNumber, KeepsAgreement, Leads, Places, Proposes, Shows, StepsWhole, StepsWorking};
-ghost use Rattle.cluster_rules.specs.Cluster.{clock_of};
+ghost use Rattle.cluster_rules.specs.Cluster.{clock_of, no_server};
 
-use crate::servers::Servers;
+use crate::servers::{Servers, place};
 use cat_model::{Command, Memory};
 use cat_outside::Keeper;
 use raft_model::{Place, Round};
 use raft_node::{ProbeFault, ProposeFault};
+use replica::Replica;
 use std::alloc::Global;
 
 impl<K: Keeper + Drop> Servers<K> {
@@ -113,5 +115,21 @@ impl<K: Keeper + Drop> Servers<K> {
         ensures servers { self.new.servers ≡ self.old.servers }
     {
         self.world.probe(alloc, s)
+    }
+
+    /// A server stops and begins again with what its store holds, and has applied nothing. Where the store fails it
+    /// halts, and where there is no memory all is as before.
+    pub fn restart(&mut self, alloc: Global, s: u32) -> Result<(), Memory>
+        requires { IsNumber s self.old.world }
+        ensures ok { OnOk result (WorldStep self.old.world (Restarts s) self.new.world) }
+        ensures begins { OnOk result (self.new.servers ≡ set_server self.old.servers s no_server) }
+        ensures memory { OnErr result (self.new ≡ self.old) }
+        ensures agreement { KeepsAgreement self.old.world self.new.world }
+    {
+        let anew = Replica::new(alloc)?;
+        self.world.restart(alloc, s)?;
+        let at = place(s);
+        self.replicas[at] = anew;
+        Ok(())
     }
 }

@@ -1,4 +1,4 @@
-use Rattle.std.proofs.Common.{ap, subst, ◌≡◌, ◌∙◌, OnErr, OnOk}
+use Rattle.std.proofs.Common.{ap, subst, ◌∙◌, OnOk}
 use Rattle.raft_model.specs.Rules.{Beat}
 use Rattle.raft_model.specs.World.{World}
 use Rattle.raft_world.specs.Steps.{StepsWorking}

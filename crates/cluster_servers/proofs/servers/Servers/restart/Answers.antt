@@ -1,0 +1,22 @@
+use Rattle.std.proofs.Common.{ap, length, refl, arith}
+use Rattle.raft_world.proofs.Calling.{by_same}
+use Rattle.cluster_servers.specs.Servers.{Servers}
+use Rattle.cluster_servers.proofs.Following.{same_length}
+use Rattle.cluster_servers.proofs.Stepping.{restarts_it}
+use Rattle.cluster_servers.proofs.servers.Servers.restart.Goals as goal
+
+pub returns-in_err-anew-clause-agreement : goal.returns-in_err-anew-clause-agreement
+returns-in_err-anew-clause-agreement g c = by_same c.args.self.now.world c.args.self.now.world refl
+
+pub index_mut-requires : goal.index_mut-requires
+index_mut-requires g c =
+    let e = same_length c.self.inside.world.nodes c.self.inside.replicas.items c.self.invariant in
+    omega (arith, e, c.place-at.ensures, c.requires.0, c.requires.1, ap (λ (v : Servers). length v.world.nodes) c.self.view_is)
+
+pub invariant_of-self-2 : goal.invariant_of-self-2
+invariant_of-self-2 g c =
+    (restarts_it c.self.inside.world c.self.inside.replicas.items c.args.self.now c.self.view_is c.self.invariant c.place-at.result c.args.s c.place-at.ensures c.in_ok-anew.anew c.in_ok-anew.ensures c.restart.new.self c.in_ok-restart.ensures.ok).0
+
+pub returns-clause-begins : goal.returns-clause-begins
+returns-clause-begins g c =
+    (restarts_it c.self.inside.world c.self.inside.replicas.items c.args.self.now c.self.view_is c.self.invariant c.place-at.result c.args.s c.place-at.ensures c.in_ok-anew.anew c.in_ok-anew.ensures c.restart.new.self c.in_ok-restart.ensures.ok).1
