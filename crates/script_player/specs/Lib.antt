@@ -3,3 +3,4 @@ pub mod Script
 pub mod Servers
 pub mod Text
 pub mod Stage
+pub mod Run

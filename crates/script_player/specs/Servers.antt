@@ -1,5 +1,5 @@
 -- What the calls of a cluster of servers do, of those that the program makes.
-use Rattle.std.specs.Prelude.{◌≡◌, ◌⊎◌, ◌≤◌, ℕ, List, [], ◌∷◌, map, Option, None, Some}
+use Rattle.std.specs.Prelude.{◌≡◌, ◌⊎◌, ◌≤◌, ℕ, List, [], ◌∷◌, map, length, Option, None, Some}
 use Rattle.cat_model.specs.declared.request.Event.{Event}
 use Rattle.cat_model.specs.declared.request.Event.TheVariants as event
 use Rattle.cluster_model.specs.Events.{IsTakenAsked}
@@ -30,3 +30,7 @@ TakesFirst c c' (Some out) =
 -- the numbers of the requests that are held
 abbrev pub held_numbers : Cluster → List ℕ
 held_numbers c = map (λ h. h.question.number) c.held
+
+-- how many entries of the agreed log each server has applied
+abbrev pub applied_lengths : Cluster → List ℕ
+applied_lengths c = map (λ s. length s.applied) c.servers

@@ -1,11 +1,15 @@
--- The text of what a script's lines give.
-use Rattle.std.specs.Prelude.{ℕ, List, ◌++◌, codes}
+-- The text that a script's run writes.
+use Rattle.std.specs.Prelude.{ℕ, List, [], ◌++◌, length, codes}
+use Rattle.std.specs.List.{flat_map}
 use Rattle.std.specs.Fmt.{decimal}
 use Rattle.cat_model.specs.declared.reply.Reply.{Reply}
 use Rattle.cat_model.specs.declared.reply.Out as out
 use Rattle.cluster_rules.specs.Replies as rules
+use Rattle.cluster_rules.specs.Cluster.{Cluster}
 use Rattle.reply_body.specs.Contents.{shown_content}
-use Rattle.script_lang.specs.Text.{out_text}
+use Rattle.script_lang.specs.Text.{out_text, end_text}
+use Rattle.script_runs.specs.Plays.{Ending, Whole, Refused, Broken}
+use Rattle.script_player.specs.Servers.{held_numbers}
 
 -- a reply with the status, body and form of its content
 abbrev pub given_reply : rules.Reply → Reply
@@ -29,6 +33,15 @@ given (rules.Synced agent count) = out.TheVariants.Synced agent count
 abbrev pub line_of_out : rules.Out → List ℕ
 line_of_out o = out_text (given o)
 
+abbrev pub outs_text : List rules.Out → List ℕ
+outs_text outs = flat_map line_of_out outs
+
 -- the line that says which line is refused, and why
 abbrev pub refused_text : ℕ → List ℕ → List ℕ
 refused_text line why = codes "line " ++ decimal line ++ codes ": " ++ why ++ codes "\n"
+
+-- the last line of a run, by how its lines ended; one that broke off has none
+abbrev pub last_text : Ending → Cluster → List ℕ
+last_text Whole c = end_text (length c.world.agreed) (held_numbers c)
+last_text (Refused line why) c = refused_text line why
+last_text Broken c = []

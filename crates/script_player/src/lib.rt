@@ -1,15 +1,19 @@
-//! What a script of requests and events says, line by line, to anything that holds a cluster, and the text of its outs.
+//! Plays a script of requests and events on anything that holds a cluster of servers, and writes the replies.
 #![tactic(auto)]
 
 mod line;
 mod opening;
+mod output;
+mod playing;
 mod reading;
 mod refused;
+mod report;
 mod servers;
+mod stage;
 mod text;
 
-pub use opening::{NotOpened, Opened, Opening, open};
-pub use reading::{Says, said_by};
-pub use refused::Refused;
-pub use servers::Servers;
-pub use text::{end_text, line_of_out, refused_text};
+pub use line::split_at_byte;
+pub use output::write_all;
+pub use playing::play_script;
+pub use report::Report;
+pub use servers::{History, Servers};

@@ -11,6 +11,15 @@ use open_requests::Out;
 use std::alloc::Global;
 use std::sync::ledger::Ledger;
 
+/// What servers leave.
+#[derive(Debug, Drop)]
+pub struct History {
+    /// The agreed log.
+    pub agreed: List<Entry>,
+    /// What has happened, the first one first.
+    pub marks: List<Mark>,
+}
+
 /// The servers of a cluster, with the outs that wait to be taken and the marks of what has happened.
 pub trait Servers: Drop {
     ghost state: { Self → Cluster };
@@ -61,7 +70,7 @@ pub trait Servers: Drop {
         ensures { result ≡ length (state self.now).servers };
 
     /// The agreed log.
-    fn agreed(&self) -> &List<Entry>
+    fn agreed(&self) -> &[Entry]
         ensures { result.now ≡ (state self.now).world.agreed };
 
     /// How many entries of the agreed log this server has applied.
@@ -74,11 +83,8 @@ pub trait Servers: Drop {
     fn unanswered(&self, alloc: Global) -> Result<List<u64>, Memory>
         ensures { IfOk result (λ numbers. numbers ≡ held_numbers (state self.now)) };
 
-    /// What has happened, the first one first.
-    fn marks(&self, alloc: Global) -> Result<List<Mark>, Memory>
-        ensures { IfOk result (λ marks. marks ≡ reverse (state self.now).past) };
-
-    /// The agreed log, of servers that are done with.
-    fn into_agreed(self) -> List<Entry>
-        ensures { result ≡ (state self).world.agreed };
+    /// The agreed log, and what has happened, of servers that are done with.
+    fn into_history(self, alloc: Global) -> Result<History, Memory>
+        ensures agreed { IfOk result (λ h. h.agreed ≡ (state self).world.agreed) }
+        ensures marks { IfOk result (λ h. h.marks ≡ reverse (state self).past) };
 }

@@ -1,0 +1,51 @@
+-- How the run of an opened script ends.
+use Rattle.std.proofs.Common.{◌≡◌, ◌⊎◌, inr, ℕ, List, [], length, Option, None, Some, Result, Ok, Err, IfOk, OnOk, OnErr, IfSome, MatchOption}
+use Rattle.std.specs.Io.KnownBytes.{Appends}
+use Rattle.cluster_rules.specs.Cluster.{Cluster}
+use Rattle.script_runs.specs.Holds.{IsFirstStart}
+use Rattle.script_player.specs.declared.opening.Opening.{Opening}
+use Rattle.script_player.specs.declared.refused.Refused.{Refused}
+use Rattle.script_player.specs.declared.report.Report.{Report}
+use Rattle.script_player.specs.Script.{Script, Opened, said}
+use Rattle.script_player.specs.Text.{last_text}
+use Rattle.script_player.specs.Stage.{PlaysTo, PlaysPart, ending_of}
+use Rattle.script_player.specs.Run.{WholeRun, RefusedRun, PartOfRun, WritesPart, IsReportOf}
+use Rattle.script_player.proofs.Runs.{whole_from, refused_from, part_playing, part_ending}
+
+-- the run of a script, by whether there is a report
+abbrev pub IsRun : Script → Option (List ℕ) → Option (List ℕ) → Option Report → Type 0
+IsRun script held held' r = MatchOption r (RefusedRun script held held') (WholeRun script held held')
+
+ended : (opening : Opening) (next : ℕ) (lines : List (List ℕ)) (start c : Cluster) (made : ℕ) (held held' held'' : Option (List ℕ)) (refused : Option Refused) (r : Option Report) →
+    IsFirstStart start → length start.servers ≡ opening.servers → start.agents ≡ opening.agents →
+    PlaysTo (said opening.seed) next lines start (ending_of refused) c made held held' → Appends held' held'' (last_text (ending_of refused) c) →
+    IfSome r (IsReportOf c made) → MatchOption r ((why : Refused) × (refused ≡ Some why)) (λ _. refused ≡ None) →
+    IsRun (Opened opening next lines) held held'' r
+ended opening next lines start c made held held' held'' None None first servers agents p w reports (why, e) = absurd cc
+ended opening next lines start c made held held' held'' (Some why) (Some report) first servers agents p w reports e = absurd cc
+ended opening next lines start c made held held' held'' None (Some report) first servers agents p w reports e =
+    whole_from opening next lines start c made held held' held'' report first servers agents p w reports
+ended opening next lines start c made held held' held'' (Some why) None first servers agents p w reports e =
+    refused_from opening next lines start c made _ _ held held' held'' first servers agents p w
+
+pub run_ended : {E : Type 0} (result : Result (Option Report) E) (opening : Opening) (next : ℕ) (lines : List (List ℕ)) (start c : Cluster) (made : ℕ) (held held' held'' : Option (List ℕ)) (refused : Option Refused) →
+    IsFirstStart start → length start.servers ≡ opening.servers → start.agents ≡ opening.agents →
+    PlaysTo (said opening.seed) next lines start (ending_of refused) c made held held' → OnOk result (Appends held' held'' (last_text (ending_of refused) c)) →
+    IfOk result (λ r. IfSome r (IsReportOf c made)) → IfOk result (λ r. MatchOption r ((why : Refused) × (refused ≡ Some why)) (λ _. refused ≡ None)) →
+    IfOk result (IsRun (Opened opening next lines) held held'')
+run_ended (Ok r) opening next lines start c made held held' held'' refused first servers agents p w reports whether =
+    ended opening next lines start c made held held' held'' refused r first servers agents p w reports whether
+run_ended (Err fail) opening next lines start c made held held' held'' refused first servers agents p w reports whether = tt
+
+pub run_broke : {E : Type 0} (result : Result (Option Report) E) (opening : Opening) (next : ℕ) (lines : List (List ℕ)) (start c : Cluster) (made : ℕ) (held held' held'' : Option (List ℕ)) (refused : Option Refused) →
+    IsFirstStart start → length start.servers ≡ opening.servers → start.agents ≡ opening.agents →
+    PlaysTo (said opening.seed) next lines start (ending_of refused) c made held held' → OnErr result (WritesPart held' held'' (last_text (ending_of refused) c)) →
+    OnErr result (Appends held held'' [] ⊎ PartOfRun (Opened opening next lines) held held'')
+run_broke (Ok r) opening next lines start c made held held' held'' refused first servers agents p part = tt
+run_broke (Err fail) opening next lines start c made held held' held'' refused first servers agents p part =
+    inr (part_ending opening next lines start c (ending_of refused) made held held' held'' first servers agents p part)
+
+pub play_broke : (opening : Opening) (next : ℕ) (lines : List (List ℕ)) (start : Cluster) (held held' : Option (List ℕ)) →
+    IsFirstStart start → length start.servers ≡ opening.servers → start.agents ≡ opening.agents →
+    PlaysPart (said opening.seed) next lines start held held' → Appends held held' [] ⊎ PartOfRun (Opened opening next lines) held held'
+play_broke opening next lines start held held' first servers agents p = inr (part_playing opening next lines start held held' first servers agents p)

@@ -1,0 +1,169 @@
+-- The lines that were played so far, and those that follow.
+use Rattle.std.proofs.Common.{◌≡◌, inl, inr, ℕ, suc, ◌+◌, ◌*◌, List, [], ◌∷◌, ◌++◌, Option, refl, sym, ◌∙◌, subst, append_assoc, append-nil, arith, true, nat_eq, length, eqb-true}
+use Rattle.std.specs.Io.KnownBytes.{Appends}
+use Rattle.std.proofs.KnownBytes.{Appends-nil, Appends-trans}
+use Rattle.std.proofs.lemmas.Grind.{flat_map-append}
+use Rattle.cluster_rules.specs.Replies.{Out}
+use Rattle.cluster_rules.specs.Cluster.{Cluster}
+use Rattle.script_lang.specs.declared.bad_line.BadLine.{BadLine}
+use Rattle.script_lang.specs.Text.{reason_text}
+use Rattle.script_runs.specs.Lines.{Said, Nothing, Makes, Settles, Refuses}
+use Rattle.script_runs.specs.Plays.{Ending, Whole, Refused, Broken, Plays, over, breaks, skips, makes, settles, refuses, misfits, emptied, settled}
+use Rattle.script_player.specs.declared.stage.Turn.TheVariants as turn
+use Rattle.script_player.specs.Stage.{Turns, GoesOn, WritesAll, WritesFirst, PlaysTo, PlaysPart}
+use Rattle.script_player.specs.Run.{WritesPart, made_in}
+use Rattle.script_player.specs.Text.{outs_text, line_of_out}
+use Rattle.script_player.specs.Line.{lines_of}
+use Rattle.script_player.proofs.Written.{part_after}
+
+-- lines with the number of their events
+pub record Longer (says : ℕ → List ℕ → Said) (number : ℕ) (lines : List (List ℕ)) (c : Cluster) (outs : List Out) (end : Ending) (c' : Cluster) (made : ℕ) : Type 0 where
+  pub plays : Plays says number lines c outs end c'
+  pub counts : made_in says number lines c outs end c' plays ≡ made
+
+-- whatever the lines do that follow, a line goes before them
+abbrev Follows : (says : ℕ → List ℕ → Said) (number : ℕ) (line : List ℕ) (lines : List (List ℕ)) (c d : Cluster) (outs : List Out) (n : ℕ) → Type 0
+Follows says number line lines c d outs n =
+    (later : List Out) (end : Ending) (c' : Cluster) (p : Plays says (suc number) lines d later end c') →
+    Longer says number (line ∷ lines) c (outs ++ later) end c' (n + made_in says (suc number) lines d later end c' p)
+
+follows_as : (says : ℕ → List ℕ → Said) (number : ℕ) (line : List ℕ) (lines : List (List ℕ)) (c d e : Cluster) (outs outs' : List Out) (n m : ℕ) →
+    e ≡ d → outs' ≡ outs → m ≡ n → Follows says number line lines c d outs n → Follows says number line lines c e outs' m
+follows_as says number line lines c d e outs outs' n m same given counts f =
+    subst (λ z. Follows says number line lines c z outs' m) (sym same)
+    (subst (λ z. Follows says number line lines c d z m) (sym given)
+    (subst (λ z. Follows says number line lines c d outs z) (sym counts) f))
+
+zero_more : (n : ℕ) → n ≡ 0 + n
+zero_more n = omega arith
+
+pub follows : (says : ℕ → List ℕ → Said) (number : ℕ) (line : List ℕ) (lines : List (List ℕ)) (c d : Cluster) (outs : List Out) (n : ℕ) →
+    Turns c (says (suc c.asked) line) d outs (turn.Made n) → Follows says number line lines c d outs n
+follows says number line lines c d outs n t = by (says (suc c.asked) line) refl t
+  where
+    by : (w : Said) → says (suc c.asked) line ≡ w → Turns c w d outs (turn.Made n) → Follows says number line lines c d outs n
+    by Nothing e (same, given, counts) =
+        follows_as says number line lines c c d [] outs 0 n same given counts
+        (λ later end c' p. record { plays = skips e p; counts = zero_more (made_in says (suc number) lines c later end c' p) })
+    by (Makes made) e (fits, (c₁, step, same, given), counts) =
+        follows_as says number line lines c (emptied c₁) d c₁.tray outs 1 n same given counts
+        (λ later end c' p. record { plays = makes made c₁ e fits step p; counts = refl })
+    by (Settles most) e (pairs, (c₁, s, few, stops, same, given), counts) =
+        follows_as says number line lines c (emptied (settled pairs c₁)) d c₁.tray outs (2 * pairs) n same given counts
+        (λ later end c' p. record { plays = settles most pairs c₁ e s few stops p; counts = refl })
+    by (Refuses why) e t = absurd t
+
+-- a line that is refused ends the run
+pub ends_refused : (says : ℕ → List ℕ → Said) (number : ℕ) (line : List ℕ) (lines : List (List ℕ)) (c d : Cluster) (outs : List Out) (bad : BadLine) →
+    Turns c (says (suc c.asked) line) d outs (turn.Refused bad) → (d ≡ c) × (outs ≡ []) × Longer says number (line ∷ lines) c [] (Refused number (reason_text bad)) c 0
+ends_refused says number line lines c d outs bad t = by (says (suc c.asked) line) refl t
+  where
+    by : (w : Said) → says (suc c.asked) line ≡ w → Turns c w d outs (turn.Refused bad) → (d ≡ c) × (outs ≡ []) × Longer says number (line ∷ lines) c [] (Refused number (reason_text bad)) c 0
+    by Nothing e t = absurd t
+    by (Makes made) e (miss, misfit_is, text, same, none) =
+        (same, none, subst (λ z. Longer says number (line ∷ lines) c [] (Refused number z) c 0) (sym text) (record { plays = misfits made miss e misfit_is; counts = refl }))
+    by (Settles most) e t = absurd t
+    by (Refuses why) e (same, none, is) =
+        (same, none, subst (λ z. Longer says number (line ∷ lines) c [] (Refused number z) c 0) is (record { plays = refuses why e; counts = refl }))
+
+-- What was played so far, whatever follows, with all its outs written.
+pub record SoFar (says : ℕ → List ℕ → Said) (first : ℕ) (all : List (List ℕ)) (start : Cluster) (held held' : Option (List ℕ)) (made : ℕ) (number : ℕ) (lines : List (List ℕ)) (c : Cluster) : Type 0 where
+  pub outs : List Out
+  pub written : Appends held held' (outs_text outs)
+  pub on : (later : List Out) (end : Ending) (c' : Cluster) (p : Plays says number lines c later end c') →
+      Longer says first all start (outs ++ later) end c' (made + made_in says number lines c later end c' p)
+
+pub so_far_none : (says : ℕ → List ℕ → Said) (first : ℕ) (all : List (List ℕ)) (start : Cluster) (held : Option (List ℕ)) → SoFar says first all start held held 0 first all start
+so_far_none says first all start held = record {
+  outs = [];
+  written = Appends-nil held;
+  on = λ later end c' p. record { plays = p; counts = zero_more (made_in says first all start later end c' p) };
+}
+
+longer_as : (says : ℕ → List ℕ → Said) (number : ℕ) (lines : List (List ℕ)) (c : Cluster) (outs outs' : List Out) (end : Ending) (c' : Cluster) (made made' : ℕ) →
+    outs ≡ outs' → made ≡ made' → Longer says number lines c outs end c' made → Longer says number lines c outs' end c' made'
+longer_as says number lines c outs outs' end c' made made' e f l =
+    subst (λ z. Longer says number lines c outs' end c' z) f (subst (λ z. Longer says number lines c z end c' made) e l)
+
+texts_join : (held held' held'' : Option (List ℕ)) (outs more : List Out) → Appends held held' (outs_text outs) → Appends held' held'' (outs_text more) → Appends held held'' (outs_text (outs ++ more))
+texts_join held held' held'' outs more a b =
+    subst (λ (z : List ℕ). Appends held held'' z) (sym (flat_map-append line_of_out outs more)) (Appends-trans held held' held'' (outs_text outs) (outs_text more) a b)
+
+-- one line more
+pub so_far_more : (says : ℕ → List ℕ → Said) (first : ℕ) (all : List (List ℕ)) (start : Cluster) (held held' held'' : Option (List ℕ)) (made number : ℕ) (line : List ℕ) (lines : List (List ℕ)) (c d : Cluster) (n : ℕ) →
+    SoFar says first all start held held' made number (line ∷ lines) c → WritesAll (λ outs. Turns c (says (suc c.asked) line) d outs (turn.Made n)) held' held'' →
+    SoFar says first all start held held'' (made + n) (suc number) lines d
+so_far_more says first all start held held' held'' made number line lines c d n s (outs, t, w) = record {
+  outs = s.outs ++ outs;
+  written = texts_join held held' held'' s.outs outs s.written w;
+  on = λ later end c' p.
+      let f = follows says number line lines c d outs n t later end c' p in
+      let rest = made_in says (suc number) lines d later end c' p in
+      let l = s.on (outs ++ later) end c' f.plays in
+      let counts = f.counts in
+      longer_as says first all start (s.outs ++ (outs ++ later)) ((s.outs ++ outs) ++ later) end c' _ (made + n + rest)
+      (sym (append_assoc s.outs outs later)) (omega (arith, counts)) l;
+}
+
+pub so_far_at : (says : ℕ → List ℕ → Said) (first : ℕ) (all : List (List ℕ)) (start : Cluster) (held held' : Option (List ℕ)) (made number next : ℕ) (lines : List (List ℕ)) (c : Cluster) →
+    number ≡ next → SoFar says first all start held held' made number lines c → SoFar says first all start held held' made next lines c
+so_far_at says first all start held held' made number next lines c e s =
+    subst (λ (n : ℕ). SoFar says first all start held held' made n lines c) e s
+
+no_more : (made : ℕ) → made + 0 ≡ made
+no_more made = omega arith
+
+-- all lines were played
+pub ends_whole : (says : ℕ → List ℕ → Said) (first : ℕ) (all : List (List ℕ)) (start : Cluster) (held held' : Option (List ℕ)) (made number : ℕ) (c : Cluster) →
+    SoFar says first all start held held' made number [] c → PlaysTo says first all start Whole c made held held'
+ends_whole says first all start held held' made number c s =
+    let l = longer_as says first all start (s.outs ++ []) s.outs Whole c (made + 0) made (append-nil s.outs) (no_more made) (s.on [] Whole c over) in
+    record { outs = s.outs; plays = l.plays; counts = l.counts; written = s.written }
+
+pub ends_empty : (says : ℕ → List ℕ → Said) (first : ℕ) (all : List (List ℕ)) (start : Cluster) (held held' : Option (List ℕ)) (made number : ℕ) (rest : List ℕ) (c : Cluster) →
+    SoFar says first all start held held' made number (lines_of rest) c → true ≡ nat_eq (length rest) 0 → PlaysTo says first all start Whole c made held held'
+ends_empty says first all start held held' made number [] c s e = ends_whole says first all start held held' made number c s
+ends_empty says first all start held held' made number (b ∷ bs) c s e =
+    let none : length (b ∷ bs) ≡ 0 = eqb-true _ _ (sym e) in absurd (omega (arith, none))
+
+-- a line is refused
+pub ends_at : (says : ℕ → List ℕ → Said) (first : ℕ) (all : List (List ℕ)) (start : Cluster) (held held' held'' : Option (List ℕ)) (made number : ℕ) (line : List ℕ) (lines : List (List ℕ)) (c d : Cluster) (bad : BadLine) →
+    SoFar says first all start held held' made number (line ∷ lines) c → WritesAll (λ outs. Turns c (says (suc c.asked) line) d outs (turn.Refused bad)) held' held'' →
+    PlaysTo says first all start (Refused number (reason_text bad)) d made held held''
+ends_at says first all start held held' held'' made number line lines c d bad s (outs, t, w) =
+    let q = ends_refused says number line lines c d outs bad t in
+    let last = q.2 in
+    let end = Refused number (reason_text bad) in
+    let counts = last.counts in
+    let l = longer_as says first all start (s.outs ++ []) s.outs end c _ made (append-nil s.outs) (omega (arith, counts)) (s.on [] end c last.plays) in
+    let nothing = subst (λ (z : List Out). Appends held' held'' (outs_text z)) q.1 w in
+    subst (λ (z : Cluster). PlaysTo says first all start end z made held held'') (sym q.0)
+    (record {
+      outs = s.outs;
+      plays = l.plays;
+      counts = l.counts;
+      written = subst (λ (z : List Out). Appends held held'' (outs_text z)) (append-nil s.outs) (texts_join held held' held'' s.outs [] s.written nothing);
+    })
+
+-- nothing more was written
+part_so_far : (held held' held'' : Option (List ℕ)) (text : List ℕ) → Appends held held' text → Appends held' held'' [] → WritesPart held held'' text
+part_so_far held held' held'' text a b =
+    record { front = text ++ []; rest = []; written = Appends-trans held held' held'' text [] a b; splits = sym (append-nil (text ++ []) ∙ append-nil text) }
+
+-- a line broke off
+pub breaks_at : (says : ℕ → List ℕ → Said) (first : ℕ) (all : List (List ℕ)) (start : Cluster) (held held' held'' : Option (List ℕ)) (made number : ℕ) (line : List ℕ) (lines : List (List ℕ)) (c : Cluster) →
+    SoFar says first all start held held' made number (line ∷ lines) c → WritesFirst (GoesOn c (says (suc c.asked) line)) held' held'' →
+    PlaysPart says first all start held held''
+breaks_at says first all start held held' held'' made number line lines c s (inl nothing) =
+    record { outs = s.outs ++ []; reached = c; plays = (s.on [] Broken c breaks).plays; part = subst (λ (z : List Out). WritesPart held held'' (outs_text z)) (sym (append-nil s.outs)) (part_so_far held held' held'' (outs_text s.outs) s.written nothing) }
+breaks_at says first all start held held' held'' made number line lines c s (inr (outs, (d, n, t), part)) =
+    let f = follows says number line lines c d outs n t [] Broken d breaks in
+    record {
+      outs = s.outs ++ (outs ++ []);
+      reached = d;
+      plays = (s.on (outs ++ []) Broken d f.plays).plays;
+      part =
+          subst (λ (z : List Out). WritesPart held held'' (outs_text (s.outs ++ z))) (sym (append-nil outs))
+          (subst (λ (z : List ℕ). WritesPart held held'' z) (sym (flat_map-append line_of_out s.outs outs))
+          (part_after held held' held'' (outs_text s.outs) (outs_text outs) s.written part));
+    }

@@ -1,0 +1,179 @@
+ghost use Rattle.std.specs.Prelude.{◌≡◌, ◌⊎◌, ◌<◌, ◌^◌, ◌+◌, IfOk, OnOk, OnErr, IfSome, MatchResult, MatchOption, None, Some, length, []};
+ghost use Rattle.std.specs.Io.KnownBytes.{Appends};
+ghost use Rattle.script_lang.specs.Text.{reason_text};
+ghost use Rattle.script_runs.specs.Plays.{Whole};
+ghost use Rattle.script_player.specs.Line.{lines_of};
+ghost use Rattle.script_player.specs.Script as script;
+ghost use Rattle.script_player.specs.Script.{script_of};
+ghost use Rattle.script_player.specs.Servers.{applied_lengths};
+ghost use Rattle.script_player.specs.Run.{WritesPart, WholeRun, RefusedRun, PartOfRun, IsReportOf};
+ghost use Rattle.script_player.specs.Stage.{CountsWrite, IsOpening, ending_of};
+ghost use Rattle.script_player.specs.Text.{last_text, refused_text as refused_text_of};
+
+use crate::opening::{NotOpened, Opened, open};
+use crate::output::write_all;
+use crate::refused::Refused;
+use crate::report::Report;
+use crate::servers::{History, Servers};
+use crate::stage::{Played, play};
+use crate::text::{end_text, refused_text};
+use cat_model::{Bytes, List, Memory, Steps};
+use cat_outside::{KeepFail, Sink};
+use std::alloc::Global;
+use std::marker::Brand;
+use std::sync::ledger::{Blank, Ledger};
+
+/// Plays the script on servers of the type `S` that are started as its first line says, writes what its lines give and
+/// then a last line, and reports the run. There is no report where a line is refused: then the last line says which one,
+/// and why. After a failed write, or for want of memory, a first part of the text is written.
+pub fn play_script<S: Servers, Si: Sink>(
+    alloc: Global,
+    sink: &mut Si,
+    script: &[u8],
+) -> Result<Option<Report>, KeepFail>
+    requires { length script.now < 2 ^ 29 }
+    ensures run { IfOk result (λ r. MatchOption r (RefusedRun (script_of script.now) (Si.held sink.old) (Si.held sink.new)) (WholeRun (script_of script.now) (Si.held sink.old) (Si.held sink.new))) }
+    ensures part { OnErr result (Appends (Si.held sink.old) (Si.held sink.new) [] ⊎ PartOfRun (script_of script.now) (Si.held sink.old) (Si.held sink.new)) }
+    ensures cause { MatchResult result (λ _. Si.faults sink.new ≡ Si.faults sink.old) (λ fail. CountsWrite fail (Si.faults sink.old) (Si.faults sink.new)) }
+{
+    match open(alloc, script) {
+        Ok(opened) => play_opened::<S, Si, Brand>(alloc, sink, &opened, Blank::new(1)),
+        Err(NotOpened::Refused(why)) => match write_refused(alloc, sink, why) {
+            Ok(()) => Ok(None),
+            Err(fail) => Err(fail),
+        },
+        Err(NotOpened::Memory) => Err(KeepFail::Memory),
+    }
+}
+
+// Plays the lines of an opened script. Nobody asks for the count of its steps.
+fn play_opened<S: Servers, Si: Sink, L: Ledger>(
+    alloc: Global,
+    sink: &mut Si,
+    opened: &Opened,
+    blank: Blank,
+) -> Result<Option<Report>, KeepFail>
+    requires name { blank.name ≡ L.name }
+    requires parts { blank.parts ≡ L.parts }
+    requires some { 0 < L.parts }
+    requires few { opened.now.next + length opened.now.lines.now < 2 ^ 30 }
+    requires bounds { IsOpening opened.now.opening }
+    ensures run { IfOk result (λ r. MatchOption r
+        (RefusedRun (script.Opened opened.now.opening opened.now.next (lines_of opened.now.lines.now)) (Si.held sink.old) (Si.held sink.new))
+        (WholeRun (script.Opened opened.now.opening opened.now.next (lines_of opened.now.lines.now)) (Si.held sink.old) (Si.held sink.new))) }
+    ensures part { OnErr result (Appends (Si.held sink.old) (Si.held sink.new) [] ⊎ PartOfRun (script.Opened opened.now.opening opened.now.next (lines_of opened.now.lines.now)) (Si.held sink.old) (Si.held sink.new)) }
+    ensures cause { MatchResult result (λ _. Si.faults sink.new ≡ Si.faults sink.old) (λ fail. CountsWrite fail (Si.faults sink.old) (Si.faults sink.new)) }
+{
+    let mut steps: Steps<L> = Steps::new(blank);
+    let opening = opened.opening;
+    let Ok(mut servers) = S::start(alloc, opening.servers, opening.agents) else {
+        return Err(KeepFail::Memory);
+    };
+    match play(
+        alloc,
+        sink,
+        &mut servers,
+        &mut steps,
+        opening.seed,
+        opened.next,
+        opened.lines,
+    ) {
+        Ok(played) => finish(alloc, sink, servers, played),
+        Err(fail) => Err(fail),
+    }
+}
+
+// Writes the last line of what was played, and reports it if no line was refused.
+fn finish<S: Servers, Si: Sink>(
+    alloc: Global,
+    sink: &mut Si,
+    servers: S,
+    played: Played,
+) -> Result<Option<Report>, KeepFail>
+    ensures text { OnOk result (Appends (Si.held sink.old) (Si.held sink.new) (last_text (ending_of played.refused) (S.state servers))) }
+    ensures part { OnErr result (WritesPart (Si.held sink.old) (Si.held sink.new) (last_text (ending_of played.refused) (S.state servers))) }
+    ensures reports { IfOk result (λ r. IfSome r (IsReportOf (S.state servers) played.events)) }
+    ensures refused { IfOk result (λ r. MatchOption r ((why : Refused) × (played.refused ≡ Some why)) (λ _. played.refused ≡ None)) }
+    ensures cause { MatchResult result (λ _. Si.faults sink.new ≡ Si.faults sink.old) (λ fail. CountsWrite fail (Si.faults sink.old) (Si.faults sink.new)) }
+{
+    match played.refused {
+        Some(why) => match write_refused(alloc, sink, why) {
+            Ok(()) => Ok(None),
+            Err(fail) => Err(fail),
+        },
+        None => match report(alloc, sink, servers, played.events) {
+            Ok(report) => Ok(Some(report)),
+            Err(fail) => Err(fail),
+        },
+    }
+}
+
+// Writes the line of a refused line.
+#[tactic(auto, using(crate::proofs::Written::part_none))]
+fn write_refused<Si: Sink>(alloc: Global, sink: &mut Si, why: Refused) -> Result<(), KeepFail>
+    ensures text { OnOk result (Appends (Si.held sink.old) (Si.held sink.new) (refused_text_of why.line (reason_text why.reason))) }
+    ensures part { OnErr result (WritesPart (Si.held sink.old) (Si.held sink.new) (refused_text_of why.line (reason_text why.reason))) }
+    ensures cause { MatchResult result (λ _. Si.faults sink.new ≡ Si.faults sink.old) (λ fail. CountsWrite fail (Si.faults sink.old) (Si.faults sink.new)) }
+{
+    match refused_text(alloc, why) {
+        Ok(text) => write_all(sink, text.as_slice()),
+        Err(Memory) => Err(KeepFail::Memory),
+    }
+}
+
+// Writes the last line of a whole run, and reports the run.
+#[tactic(auto, using(crate::proofs::Written::part_none))]
+fn report<S: Servers, Si: Sink>(
+    alloc: Global,
+    sink: &mut Si,
+    servers: S,
+    events: u64,
+) -> Result<Report, KeepFail>
+    ensures text { OnOk result (Appends (Si.held sink.old) (Si.held sink.new) (last_text Whole (S.state servers))) }
+    ensures part { OnErr result (WritesPart (Si.held sink.old) (Si.held sink.new) (last_text Whole (S.state servers))) }
+    ensures report { IfOk result (IsReportOf (S.state servers) events) }
+    ensures cause { MatchResult result (λ _. Si.faults sink.new ≡ Si.faults sink.old) (λ fail. CountsWrite fail (Si.faults sink.old) (Si.faults sink.new)) }
+{
+    let Ok((report, text)) = close(alloc, servers, events) else {
+        return Err(KeepFail::Memory);
+    };
+    match write_all(sink, text.as_slice()) {
+        Ok(()) => Ok(report),
+        Err(fail) => Err(fail),
+    }
+}
+
+// The report of a whole run, and its last line.
+fn close<S: Servers>(alloc: Global, servers: S, events: u64) -> Result<(Report, Bytes), Memory>
+    ensures report { IfOk result (λ c. IsReportOf (S.state servers) events c.0) }
+    ensures text { IfOk result (λ c. c.1 ≡ last_text Whole (S.state servers)) }
+{
+    let unanswered = servers.unanswered(alloc)?;
+    let applied = applied_by_all(alloc, &servers)?;
+    let length = servers.agreed().len() as u64;
+    let text = end_text(alloc, length, unanswered.as_slice())?;
+    let requests = servers.asked();
+    let History { agreed, marks } = servers.into_history(alloc)?;
+    let report = Report {
+        events,
+        requests,
+        agreed,
+        applied,
+        unanswered,
+        marks,
+    };
+    Ok((report, text))
+}
+
+// How many entries of the agreed log each server has applied, the first one first.
+fn applied_by_all<S: Servers>(alloc: Global, servers: &S) -> Result<List<u64>, Memory>
+    ensures { IfOk result (λ lengths. lengths ≡ applied_lengths (S.state servers.now)) }
+{
+    let mut lengths = List::new(alloc);
+    let mut done = 0;
+    while done < servers.servers() {
+        done += 1;
+        lengths.push(servers.applied(done))?;
+    }
+    Ok(lengths)
+}
