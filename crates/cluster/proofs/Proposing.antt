@@ -1,0 +1,251 @@
+-- A write that was just noted is proposed: it is held at its place, or refused by what the proposal answered.
+use Rattle.std.proofs.Common.{◌≡◌, ◌≢◌, ◌⊎◌, inl, inr, ℕ, suc, ◌+◌, ◌-◌, ◌≤◌, max, Bool, true, false, cond, not, length, List, [], ◌∷◌, ◌++◌, Result, Ok, Err, refl, sym, ap, ◌∙◌, subst, arith}
+use Rattle.std.specs.Prelude.{OnOk, OnErr, ◌&&◌, ◌<◌}
+use Rattle.std.specs.List.{AllByRecursion as Each}
+use Rattle.std.proofs.lemmas.List.{length-append}
+use Rattle.cat_model.specs.declared.command.Command.{Command}
+use Rattle.cat_model.specs.declared.command.Command.TheVariants.{KvSet}
+use Rattle.cat_model.specs.declared.command.Entry.{Entry}
+use Rattle.cat_model.specs.declared.memory.Memory as memory
+use Rattle.cat_model.specs.declared.request.Asked.{Asked}
+use Rattle.cat_model.specs.declared.request.Asked.TheVariants.{Good}
+use Rattle.cat_model.specs.declared.request.Draw.{Draw}
+use Rattle.cat_model.specs.declared.request.Request.TheVariants.{Write as Writes}
+use Rattle.cat_model.specs.declared.reply.Role.TheVariants.{Leader}
+use Rattle.cat_model.specs.declared.reply.Kind.TheVariants.{Refused}
+use Rattle.cat_model.specs.declared.reply.Refusal.{Refusal}
+use Rattle.cat_model.specs.declared.reply.Refusal.TheVariants as refusal
+use Rattle.cat_model.specs.LogLimits.{command_bytes, is_noop, log_bytes}
+use Rattle.raft_model.specs.declared.message.Place.{Place}
+use Rattle.raft_model.specs.Log.{Log}
+use Rattle.raft_model.specs.Node.{Node, last}
+use Rattle.raft_model.specs.Rules.{Propose, has_room, proposal}
+use Rattle.raft_model.specs.Step.{NodeStep, LogFails, Outcome}
+use Rattle.raft_model.specs.World.{World, Acts as NodeActs, IsServer}
+use Rattle.raft_node.specs.declared.fault.ProposeFault.{ProposeFault}
+use Rattle.raft_node.specs.declared.fault.ProposeFault.TheVariants as fault
+use Rattle.raft_world.specs.Steps.{IsProposed, KeepsAgreement, Proposes}
+use Rattle.cluster_model.specs.Events.{IsPut, IsTakenAsked}
+use Rattle.cluster_rules.specs.Cluster.{AtPlace, Cluster, Pending, Proposed, Server, node_of, runs_leading}
+use Rattle.cluster_rules.specs.Replies.{Question, Says, entered}
+use Rattle.cluster_rules.specs.Requests.{Handles, full, holding, is_ready, locks, log_with, moved, proposes, refused, stops}
+use Rattle.cluster_rules.proofs.Boundary.{acts_greatest, acts_server, leader_there, leading_tells}
+use Rattle.cluster_rules.proofs.Tools.{is_node}
+use Rattle.cluster_turns.specs.Turns.{HandlesNewest, IsCome, newest, numbered}
+use Rattle.cluster_servers.specs.Servers.{Servers}
+use Rattle.open_requests.specs.Requests.{Requests, answered_with, cluster_of, holding_with, numbered_with, used}
+use Rattle.cluster.specs.declared.asking.Write.{Write}
+use Rattle.cluster.specs.declared.moving.Seen.{Seen}
+use Rattle.cluster.specs.Asking.{EndsWrite, HoldsWrite, IsCopied, RefusesWrite}
+use Rattle.cluster.specs.Moving.{IsMarked, MarksStep, seen_of}
+use Rattle.cluster.specs.Standing.{Stands}
+use Rattle.cluster.proofs.Acts.{nodes_kept}
+use Rattle.cluster.proofs.Handled.{Comes, below_next, hold_stands, holds_as, numbered_cluster, numbered_stands, refusal_stands, refuses_as}
+use Rattle.cluster.proofs.Marking.{cluster_marked, stands_proposed, with_room}
+
+-- of a set
+put_entered : (q : Question) (command : Command) → IsPut command → entered q command ≡ command
+unfolding entered
+put_entered q (KvSet key flags value) p = refl
+put_entered q other p = absurd p
+
+put_locks : (command : Command) → IsPut command → locks command ≡ false
+put_locks (KvSet key flags value) p = refl
+put_locks other p = absurd p
+
+put_counts : (command : Command) → IsPut command → is_noop command ≡ false
+put_counts (KvSet key flags value) p = refl
+put_counts other p = absurd p
+
+entry_bytes : (b : Bool) (k : ℕ) → b ≡ false → (cond b 0 k) + 0 ≡ k
+entry_bytes true k e = absurd cc
+entry_bytes false k e = omega arith
+
+bytes_more : (log : Log) (e : Entry) → is_noop e.command ≡ false → log_bytes (log ++ e ∷ []) ≡ log_bytes log + command_bytes e.command
+bytes_more [] e n = let one = entry_bytes (is_noop e.command) (command_bytes e.command) n in omega (arith, one)
+bytes_more (x ∷ log) e n = let more = bytes_more log e n in omega (arith, more)
+
+-- marks change nothing else
+marked_held : (b : Bool) (i count : ℕ) (old new : Requests) → IsMarked b i count old new → new.held ≡ old.held
+marked_held true i count old new m = ap (λ (r : Requests). r.held) m
+marked_held false i count old new m = ap (λ (r : Requests). r.held) m
+
+marked_asked : (b : Bool) (i count : ℕ) (old new : Requests) → IsMarked b i count old new → new.asked ≡ old.asked
+marked_asked true i count old new m = ap (λ (r : Requests). r.asked) m
+marked_asked false i count old new m = ap (λ (r : Requests). r.asked) m
+
+-- what is known of a write that is proposed
+pub record IsProposing (w : World) (servers : List Server) (r : Requests) (i : ℕ) (write : Write) (command : Command) : Type 0 where
+  pub at : Comes w servers r (cluster_of w servers r) write.question.agent write.asked write.question.draw
+  pub copied : IsCopied (cluster_of w servers r) i write.question.agent write.asked write.question.draw command write
+  pub asked : write.asked ≡ Good (Writes command)
+  pub put : IsPut command
+  pub taken : IsTakenAsked write.asked
+  pub leads : runs_leading w i ≡ true
+  pub ready : is_ready (cluster_of w servers r) i ≡ true
+
+module _ (w w' : World) (servers : List Server) (r r' : Requests) (i : ℕ) (write : Write) (command : Command) (is : IsProposing w servers r i write command) (keeps : KeepsAgreement w w') where
+  agent : ℕ
+  agent = write.question.agent
+
+  abbrev r₁ : Requests
+  r₁ = used (numbered_with write.question.agent write.asked write.question.draw (record r { room = 4 }))
+
+  abbrev c₁ : Cluster
+  c₁ = numbered write.question.agent write.asked write.question.draw (cluster_of w servers r)
+
+  abbrev q : Question
+  q = newest write.question.agent write.asked write.question.draw c₁
+
+  next : r.asked + 1 ≡ suc r.asked
+  next = omega arith
+
+  question_is : write.question ≡ q
+  question_is = is.copied.question ∙ ap (λ k. record { number = k; agent = write.question.agent; asked = write.asked; draw = write.question.draw }) next
+
+  number_is : write.question.number ≡ q.number
+  number_is = ap (λ (x : Question). x.number) question_is
+
+  command_is : entered q command ≡ command
+  command_is = put_entered q command is.put
+
+  entry_is : write.entry ≡ proposal (node_of w i) q.number (entered q command)
+  entry_is =
+      is.copied.entry ∙ ap (λ k. record { term = (node_of w i).term; number = k; command = command }) next
+      ∙ ap (λ x. record { term = (node_of w i).term; number = q.number; command = x }) (sym command_is)
+
+  -- the step is marked
+  module _ (a : NodeActs w i (Propose write.question.number command) w') (before now : Seen) (mid : Requests) (was : before ≡ seen_of w i) (seen : now ≡ seen_of w' i) (marked : MarksStep before now i r₁ mid) where
+    marks : MarksStep (seen_of w i) (seen_of w' i) i r₁ mid
+    marks = subst (λ (s : Seen). MarksStep s (seen_of w' i) i r₁ mid) was (subst (λ (s : Seen). MarksStep before s i r₁ mid) seen marked)
+
+    stands₁ : Stands w servers r₁
+    stands₁ = numbered_stands w servers r (cluster_of w servers r) write.question.agent write.asked write.question.draw is.at
+
+    moved_cluster : cluster_of w' servers mid ≡ moved i w' c₁
+    moved_cluster =
+        cluster_marked (not (node_of w i).halted && (node_of w' i).halted) i w w' servers r₁ mid stands₁ keeps marks
+        ∙ ap (moved i w') (numbered_cluster w servers r (cluster_of w servers r) write.question.agent write.asked write.question.draw is.at)
+
+    low : w'.greatest ≤ r₁.asked
+    low = omega (arith, acts_greatest w i (Propose write.question.number command) w' a, is.at.stands.proposed, ap (λ (x : Question). x.number) is.copied.question)
+
+    moved_stands : Stands w' servers mid
+    moved_stands = stands_proposed (not (node_of w i).halted && (node_of w' i).halted) i w w' servers r₁ mid stands₁ keeps (nodes_kept w i (Propose write.question.number command) w' a) low marks
+
+    acts_now : NodeActs w i (Propose q.number (entered q command)) w'
+    acts_now = subst (λ (x : Command). NodeActs w i (Propose q.number x) w') (sym command_is) (subst (λ k. NodeActs w i (Propose k command) w') number_is a)
+
+    same_node : node_of w i ≡ a.old
+    same_node = is_node w i a.old a.server
+
+    room_is : (b : Bool) → has_room a.old write.question.number command ≡ b → has_room (node_of w i) q.number (entered q command) ≡ b
+    room_is b e =
+        ap (λ (n : Node). has_room n q.number (entered q command)) same_node
+        ∙ ap (has_room a.old q.number) command_is ∙ ap (λ k. has_room a.old k command) (sym number_is) ∙ e
+
+    -- it is held
+    held_so : (place : Place) → place ≡ record { index = suc (last a.old); term = a.old.term } → has_room a.old write.question.number command ≡ true → a.new.halted ≡ false
+        → r' ≡ used (holding_with write.question i (AtPlace place.index place.term) (Proposed place.index write.entry) mid)
+        → HandlesNewest i write.question.agent write.asked write.question.draw (cluster_of w servers r) (cluster_of w' servers r') × Stands w' servers r'
+    held_so place here room up e =
+        let at : place ≡ record { index = suc (length (node_of w i).log); term = (node_of w i).term } = here ∙ ap (λ (n : Node). record { index = suc (length n.log); term = n.term }) (sym same_node) in
+        let done = holds_as w' servers mid r' write.question i (AtPlace place.index place.term) (Proposed place.index write.entry) (moved i w' c₁) moved_cluster e in (
+          proposes command w' is.asked (put_locks command is.put) (inr is.ready) (room_is true room) acts_now (ap (λ (n : Node). n.halted) (acts_server w i (Propose write.question.number command) w' a) ∙ up)
+              (done ∙ ap (λ (x : Question). holding x i (AtPlace place.index place.term) (Proposed place.index write.entry) (moved i w' c₁)) question_is
+              ∙ ap (λ (x : Entry). holding q i (AtPlace place.index place.term) (Proposed place.index x) (moved i w' c₁)) entry_is
+              ∙ ap (λ (p : Place). holding q i (AtPlace p.index p.term) (Proposed p.index (proposal (node_of w i) q.number (entered q command))) (moved i w' c₁)) at),
+          hold_stands w' servers mid r' write.question i (AtPlace place.index place.term) (Proposed place.index write.entry) moved_stands below given asked_taken tt e,
+        )
+      where
+        held_same : mid.held ≡ r.held
+        held_same = marked_held (not (node_of w i).halted && (node_of w' i).halted) i (length w'.agreed - length w.agreed) r₁ mid marks
+
+        below : Each (λ (h : Pending). h.question.number < write.question.number) mid.held
+        below = subst (Each (λ (h : Pending). h.question.number < write.question.number)) (sym held_same) (below_next w servers r write.question.number is.at.stands (ap (λ (x : Question). x.number) is.copied.question))
+
+        given : write.question.number ≤ mid.asked
+        given = omega (arith, ap (λ (x : Question). x.number) is.copied.question, marked_asked (not (node_of w i).halted && (node_of w' i).halted) i (length w'.agreed - length w.agreed) r₁ mid marks)
+
+        asked_taken : IsTakenAsked write.question.asked
+        asked_taken = subst IsTakenAsked (sym (ap (λ (x : Question). x.asked) is.copied.question)) is.taken
+
+    -- it is refused
+    refused_so : (why : Refusal) → r' ≡ used (answered_with write.question.number (Refused why) false 0 (Says why) mid) → (cluster_of w' servers r' ≡ refused q why (moved i w' c₁)) × Stands w' servers r'
+    refused_so why e = (refuses_as w' servers mid r' q why (moved i w' c₁) write.question.number (sym number_is) moved_cluster e, refusal_stands w' servers mid r' write.question.number why moved_stands e)
+
+    full_so : has_room a.old write.question.number command ≡ false → r' ≡ used (answered_with write.question.number (Refused (refusal.LogFull write.entries write.bytes)) false 0 (Says (refusal.LogFull write.entries write.bytes)) mid)
+        → HandlesNewest i write.question.agent write.asked write.question.draw (cluster_of w servers r) (cluster_of w' servers r') × Stands w' servers r'
+    full_so room e =
+        let log = (node_of w i).log in
+        let entries : write.entries ≡ length (log_with (node_of w i) q command) = is.copied.entries ∙ sym (length-append log (proposal (node_of w i) q.number (entered q command) ∷ [])) in
+        let counts : is_noop (entered q command) ≡ false = ap is_noop command_is ∙ put_counts command is.put in
+        let bytes : write.bytes ≡ log_bytes (log_with (node_of w i) q command) =
+        is.copied.bytes ∙ ap (λ x. log_bytes log + command_bytes x) (sym command_is) ∙ sym (bytes_more log (proposal (node_of w i) q.number (entered q command)) counts) in
+        let done = refused_so (refusal.LogFull write.entries write.bytes) e in (
+          full command w' is.asked (put_locks command is.put) (inr is.ready) (room_is false room) acts_now
+              (done.0 ∙ ap (λ k. refused q (refusal.LogFull k write.bytes) (moved i w' c₁)) entries ∙ ap (λ k. refused q (refusal.LogFull (length (log_with (node_of w i) q command)) k) (moved i w' c₁)) bytes),
+          done.1,
+        )
+
+    stops_so : has_room a.old write.question.number command ≡ true → a.outcome ≡ LogFails → r' ≡ used (answered_with write.question.number (Refused (refusal.Halted i)) false 0 (Says (refusal.Halted i)) mid)
+        → HandlesNewest i write.question.agent write.asked write.question.draw (cluster_of w servers r) (cluster_of w' servers r') × Stands w' servers r'
+    stops_so room fails e =
+        let step : NodeStep LogFails a.old (Propose write.question.number command) a.new a.sent = subst (λ (o : Outcome). NodeStep o a.old (Propose write.question.number command) a.new a.sent) fails a.step in
+        let down : (node_of w' i).halted ≡ true = ap (λ (n : Node). n.halted) (acts_server w i (Propose write.question.number command) w' a ∙ step.4) in
+        let done = refused_so (refusal.Halted i) e in
+        (stops command w' is.asked (put_locks command is.put) (inr is.ready) (room_is true room) acts_now down done.0, done.1)
+
+  -- what comes of it
+  abbrev Ended : Result Unit memory.Memory → Type 0
+  Ended result =
+      OnOk result (HandlesNewest i write.question.agent write.asked write.question.draw (cluster_of w servers r) (cluster_of w' servers r'))
+      × OnErr result (cluster_of w' servers r' ≡ cluster_of w servers r) × Stands w' servers r'
+
+  ended : (before now : Seen) (proposed : Result Place ProposeFault) (result : Result Unit memory.Memory) (p : Requests) → p ≡ record r { room = 4 } → before ≡ seen_of w i → now ≡ seen_of w' i
+      → Proposes w i write.question.number command w' proposed → EndsWrite write before now i proposed result (record r { room = 4 }) r' → Ended result
+  ended before now (Ok place) (Ok u) p e was seen made ends =
+      let done = held_so made.acts before now ends.0 was seen ends.1 place made.is made.may.2 made.runs ends.2 in (done.0, tt, done.1)
+  ended before now (Ok place) (Err u) p e was seen made ends = absurd ends
+  ended before now (Err fault.Full) (Ok u) p e was seen made ends =
+      let a = made.0.0.0 in
+      let done = full_so a before now ends.0 was seen ends.1 (made.1 a.old a.server).2 ends.2 in (done.0, tt, done.1)
+  ended before now (Err fault.Full) (Err u) p e was seen made ends = absurd ends
+  ended before now (Err fault.Halted) (Ok u) p e was seen (inl made) ends = absurd (let down = made.1 (node_of w i) (leader_there w i is.leads) in let up = (leading_tells w i is.leads).0 in cc (down, up))
+  ended before now (Err fault.Halted) (Ok u) p e was seen (inr made) ends =
+      let done = stops_so made.0 before now ends.0 was seen ends.1 made.2.2 made.1 ends.2 in (done.0, tt, done.1)
+  ended before now (Err fault.Halted) (Err u) p e was seen made ends = absurd ends
+  ended before now (Err fault.NotLeader) (Ok u) p e was seen made ends = absurd ends
+  ended before now (Err fault.NotLeader) (Err u) p e was seen made ends = absurd ((made.1 (node_of w i) (leader_there w i is.leads)).1 (leading_tells w i is.leads).1)
+  ended before now (Err fault.Memory) (Ok u) p e was seen made ends = absurd ends
+  ended before now (Err fault.Memory) (Err u) p e was seen made ends =
+      let here = with_room w servers r (record r { room = 4 }) 4 is.at.stands refl in (
+        tt,
+        subst (λ (v : World). cluster_of v servers r' ≡ cluster_of w servers r) (sym made.0) (ap (cluster_of w servers) ends ∙ here.1),
+        subst (λ (v : World). Stands v servers r') (sym made.0) (subst (Stands w servers) (sym ends) here.0),
+      )
+
+-- the same for a cluster that is seen so
+pub done_write : (s s' : Servers) (r p r' : Requests) (i : ℕ) (write : Write) (command : Command) (c : Cluster) (before now : Seen) (number : ℕ) (proposed : Result Place ProposeFault) (result : Result Unit memory.Memory) →
+    Stands s.world s.servers r → cluster_of s.world s.servers r ≡ c → IsCome write.question.agent write.asked write.question.draw c.past → IsCopied c i write.question.agent write.asked write.question.draw command write
+    → write.asked ≡ Good (Writes command) → IsPut command → IsTakenAsked write.asked → runs_leading c.world i ≡ true → is_ready c i ≡ true
+    → p ≡ record r { room = 4 } → number ≡ write.question.number → before ≡ seen_of s.world i → now ≡ seen_of s'.world i
+    → Proposes s.world i number command s'.world proposed → KeepsAgreement s.world s'.world → s'.servers ≡ s.servers → EndsWrite write before now i proposed result p r'
+    → OnOk result (HandlesNewest i write.question.agent write.asked write.question.draw c (cluster_of s'.world s'.servers r'))
+    × OnErr result (cluster_of s'.world s'.servers r' ≡ c) × Stands s'.world s'.servers r'
+done_write s s' r p r' i write command c before now number proposed result stands view come copied asked put taken leads ready prepared n was seen made keeps same ends =
+    let Goal : Cluster → List Server → Type 0 = λ d ss.
+    OnOk result (HandlesNewest i write.question.agent write.asked write.question.draw d (cluster_of s'.world ss r')) × OnErr result (cluster_of s'.world ss r' ≡ d) × Stands s'.world ss r' in
+    let is : IsProposing s.world s.servers r i write command = record {
+      at = record { stands = stands; view = refl; come = subst (λ (d : Cluster). IsCome write.question.agent write.asked write.question.draw d.past) (sym view) come };
+      copied = subst (λ (d : Cluster). IsCopied d i write.question.agent write.asked write.question.draw command write) (sym view) copied;
+      asked = asked;
+      put = put;
+      taken = taken;
+      leads = subst (λ (d : Cluster). runs_leading d.world i ≡ true) (sym view) leads;
+      ready = subst (λ (d : Cluster). is_ready d i ≡ true) (sym view) ready;
+    } in
+    subst (λ (ss : List Server). Goal c ss) (sym same) (subst (λ (d : Cluster). Goal d s.servers) view
+    (ended s.world s'.world s.servers r r' i write command is keeps before now proposed result p prepared was seen
+    (subst (λ k. Proposes s.world i k command s'.world proposed) n made)
+    (subst (λ (o : Requests). EndsWrite write before now i proposed result o r') prepared ends)))

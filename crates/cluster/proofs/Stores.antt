@@ -1,0 +1,54 @@
+-- Stores in memory that hold nothing.
+use Rattle.std.proofs.Common.{◌≡◌, ◌⊎◌, inl, inr, ℕ, zero, suc, ◌+◌, ◌<◌, ◌≤◌, All, length, map, replicate, List, [], ◌∷◌, ◌++◌, Some, None, refl, sym, ap, ◌∙◌, subst, arith}
+use Rattle.std.proofs.lemmas.List.{length-map, replicate_more}
+use Rattle.std.specs.Option.{ForSome}
+use Rattle.cat_outside.specs.KeepersInMemory.{FaultyKeeper}
+use Rattle.raft_model.specs.Node.{Store}
+use Rattle.raft_model.specs.World.{World, AreEmpty, Begins}
+use Rattle.raft_node.specs.Nodes.{KeepsLimits}
+use Rattle.raft_node.specs.Steps.{stored}
+use Rattle.cluster_rules.specs.Cluster.{Cluster, started}
+use Rattle.cluster_rules.specs.Reached.{AreUnarmed}
+use Rattle.script_runs.specs.Holds.{IsFirstStart}
+use Rattle.cluster.specs.Beginning.{HasBegun, MayBegin}
+use Rattle.cluster.specs.Playing.{empty_store}
+
+-- the stores as the rules see them
+abbrev pub seen : FaultyKeeper → Store
+seen k = stored (Some k.kept) k.armed k.faults
+
+pub one_more : (count : ℕ) (stores : List FaultyKeeper) → stores ≡ replicate count empty_store → stores ++ empty_store ∷ [] ≡ replicate (count + 1) empty_store
+one_more count stores e = ap (λ (s : List FaultyKeeper). s ++ empty_store ∷ []) e ∙ replicate_more count empty_store
+
+are_empty : (count : ℕ) → AreEmpty (map seen (replicate count empty_store))
+are_empty zero = tt
+are_empty (suc count) = (refl, are_empty count)
+
+are_unarmed : (count : ℕ) → AreUnarmed (map seen (replicate count empty_store))
+are_unarmed zero = tt
+are_unarmed (suc count) = (refl, are_unarmed count)
+
+replicated : (count : ℕ) → length (replicate count empty_store) ≡ count
+replicated zero = refl
+replicated (suc count) = ap suc (replicated count)
+
+pub may_begin : (count : ℕ) (stores : List FaultyKeeper) → stores ≡ replicate count empty_store → MayBegin (map seen stores)
+may_begin count stores e = subst (λ (s : List FaultyKeeper). MayBegin (map seen s)) (sym e) (inl (are_empty count))
+
+pub is_few : (count : ℕ) (stores : List FaultyKeeper) → stores ≡ replicate count empty_store → length stores ≡ count
+is_few count stores e = ap length e ∙ replicated count
+
+pub first_start : (count agents : ℕ) (stores : List FaultyKeeper) (c : Cluster) → 0 < count → count ≤ 7 → agents ≤ 64 → stores ≡ replicate count empty_store → HasBegun (map seen stores) agents c → IsFirstStart c
+first_start count agents stores c some most few e begun =
+    let size : length (map seen stores) ≡ count = length-map stores seen ∙ is_few count stores e in
+    record {
+      stores = map seen stores;
+      world = begun.0;
+      agents = agents;
+      some = (omega (arith, size), omega (arith, size));
+      few = few;
+      unarmed = subst (λ (s : List FaultyKeeper). AreUnarmed (map seen s)) (sym e) (are_unarmed count);
+      empty = subst (λ (s : List FaultyKeeper). AreEmpty (map seen s)) (sym e) (are_empty count);
+      begins = begun.1;
+      is = begun.2;
+    }

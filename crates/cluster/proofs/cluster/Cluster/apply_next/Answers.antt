@@ -1,0 +1,10 @@
+use Rattle.std.proofs.Common.{ap, sym, ◌∙◌, true}
+use Rattle.cluster_rules.specs.Cluster.{Cluster}
+use Rattle.cluster.specs.Working.{calm_next}
+use Rattle.cluster.proofs.Kept.{apply_call}
+use Rattle.cluster.proofs.cluster.Cluster.apply_next.Goals as goal
+
+pub invariant_of-self : goal.invariant_of-self
+invariant_of-self g c =
+    apply_call c.self.inside.servers c.apply.new.self c.self.inside.requests c.args.server c.apply.result c.self.invariant
+    (sym (c.takes_next.ensures c.if-not-takes_next.false) ∙ ap (λ (d : Cluster). calm_next d c.args.server) (sym c.self.view_is)) c.apply.ensures.ok c.apply.ensures.err

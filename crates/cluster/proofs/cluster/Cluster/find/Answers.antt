@@ -1,0 +1,41 @@
+use Rattle.std.proofs.Common.{None, Some, ap}
+use Rattle.std.specs.Option.{option_copied}
+use Rattle.cluster.specs.Looking.{is_early}
+use Rattle.cluster.proofs.Finding.{early_behind, early_found, found_held, found_in, held_each, next_found, some_early}
+use Rattle.cluster.proofs.cluster.Cluster.find.Goals as goal
+
+pub early_due-requires-clause-taken : goal.early_due-requires-clause-taken
+early_due-requires-clause-taken g c =
+    let each = held_each c.self.inside.servers.world c.self.inside.servers.servers c.self.inside.requests c.args.self.now c.self.invariant c.self.view_is in
+    let found = found_in c.self.inside.servers.world c.self.inside.servers.servers c.self.inside.requests c.args.self.now c.args.server c.held.result.now (option_copied c.first_early.result) (Some c.in-Some.held.now) c.self.view_is c.held.ensures c.first_early.ensures (ap option_copied c.in-Some.is) in
+    (found_held (is_early c.args.self.now c.args.server) c.args.self.now.asked c.args.self.now.held c.in-Some.held.now each found).held.taken
+
+pub early_due-requires-clause-no_round : goal.early_due-requires-clause-no_round
+early_due-requires-clause-no_round g c =
+    let each = held_each c.self.inside.servers.world c.self.inside.servers.servers c.self.inside.requests c.args.self.now c.self.invariant c.self.view_is in
+    let found = found_in c.self.inside.servers.world c.self.inside.servers.servers c.self.inside.requests c.args.self.now c.args.server c.held.result.now (option_copied c.first_early.result) (Some c.in-Some.held.now) c.self.view_is c.held.ensures c.first_early.ensures (ap option_copied c.in-Some.is) in
+    (found_held (is_early c.args.self.now c.args.server) c.args.self.now.asked c.args.self.now.held c.in-Some.held.now each found).held.no_round
+
+pub early_due-requires-clause-early : goal.early_due-requires-clause-early
+early_due-requires-clause-early g c =
+    let each = held_each c.self.inside.servers.world c.self.inside.servers.servers c.self.inside.requests c.args.self.now c.self.invariant c.self.view_is in
+    let found = found_in c.self.inside.servers.world c.self.inside.servers.servers c.self.inside.requests c.args.self.now c.args.server c.held.result.now (option_copied c.first_early.result) (Some c.in-Some.held.now) c.self.view_is c.held.ensures c.first_early.ensures (ap option_copied c.in-Some.is) in
+    some_early c.args.self.now c.args.server c.args.self.now.asked c.in-Some.held.now each found
+
+pub returns-in-Ok-clause-found : goal.returns-in-Ok-clause-found
+returns-in-Ok-clause-found g c =
+    let each = held_each c.self.inside.servers.world c.self.inside.servers.servers c.self.inside.requests c.args.self.now c.self.invariant c.self.view_is in
+    let found = found_in c.self.inside.servers.world c.self.inside.servers.servers c.self.inside.requests c.args.self.now c.args.server c.held.result.now (option_copied c.first_early.result) (Some c.in-Some.held.now) c.self.view_is c.held.ensures c.first_early.ensures (ap option_copied c.in-Some.is) in
+    early_found c.args.self.now c.args.server c.args.self.now.asked c.in-Some.held.now (Some c.in-Ok.work) each found c.in-Ok.ensures
+
+pub returns-in-Err-clause-behind : goal.returns-in-Err-clause-behind
+returns-in-Err-clause-behind g c =
+    let each = held_each c.self.inside.servers.world c.self.inside.servers.servers c.self.inside.requests c.args.self.now c.self.invariant c.self.view_is in
+    let found = found_in c.self.inside.servers.world c.self.inside.servers.servers c.self.inside.requests c.args.self.now c.args.server c.held.result.now (option_copied c.first_early.result) (Some c.in-Some.held.now) c.self.view_is c.held.ensures c.first_early.ensures (ap option_copied c.in-Some.is) in
+    early_behind c.args.self.now c.args.server c.args.self.now.asked c.in-Some.held.now each found
+
+pub returns-in-None-clause-found : goal.returns-in-None-clause-found
+returns-in-None-clause-found g c =
+    let each = held_each c.self.inside.servers.world c.self.inside.servers.servers c.self.inside.requests c.args.self.now c.self.invariant c.self.view_is in
+    let found = found_in c.self.inside.servers.world c.self.inside.servers.servers c.self.inside.requests c.args.self.now c.args.server c.held.result.now (option_copied c.first_early.result) None c.self.view_is c.held.ensures c.first_early.ensures (ap option_copied c.in-None.is) in
+    next_found c.args.self.now c.args.server c.args.self.now.asked c.next_due.result each found c.next_due.ensures

@@ -1,0 +1,55 @@
+-- What becomes of a request that a server handles, in the terms of the requests' own parts.
+use Rattle.std.specs.Prelude.{◌≡◌, ℕ, ◌+◌, false, length, Result, Ok, Err}
+use Rattle.cat_model.specs.declared.command.Command.{Command}
+use Rattle.cat_model.specs.declared.memory.Memory.{Memory}
+use Rattle.cat_model.specs.declared.request.Asked.{Asked}
+use Rattle.cat_model.specs.declared.request.Asked.TheVariants.{Good}
+use Rattle.cat_model.specs.declared.request.Request.TheVariants.{Read}
+use Rattle.cat_model.specs.declared.request.Draw.{Draw}
+use Rattle.cat_model.specs.declared.reply.Kind.TheVariants.{Refused}
+use Rattle.cat_model.specs.declared.reply.Refusal.{Refusal}
+use Rattle.cat_model.specs.declared.reply.Refusal.TheVariants as refusal
+use Rattle.cat_model.specs.LogLimits.{command_bytes, log_bytes}
+use Rattle.raft_model.specs.declared.message.Place.{Place}
+use Rattle.raft_node.specs.declared.fault.ProposeFault.{ProposeFault}
+use Rattle.raft_node.specs.declared.fault.ProposeFault.TheVariants as fault
+use Rattle.cluster_rules.specs.Replies.{Says}
+use Rattle.cluster_rules.specs.Cluster.{Cluster, AtPlace, Proposed, node_of}
+use Rattle.open_requests.specs.Requests.{Requests, answered_with, holding_with, numbered_with, used}
+use Rattle.cluster.specs.declared.asking.Write.{Write}
+use Rattle.cluster.specs.declared.moving.Seen.{Seen}
+use Rattle.cluster.specs.Moving.{MarksStep}
+
+-- the copies of a write of this command, and what the log of server i would have with it
+pub record IsCopied (c : Cluster) (i agent : ℕ) (asked : Asked) (draw : Draw) (command : Command) (write : Write) : Type 0 where
+  pub asked_is : write.asked ≡ asked
+  pub question : write.question ≡ record { number = c.asked + 1; agent = agent; asked = asked; draw = draw }
+  pub entry : write.entry ≡ record { term = (node_of c.world i).term; number = c.asked + 1; command = command }
+  pub entries : write.entries ≡ length (node_of c.world i).log + 1
+  pub bytes : write.bytes ≡ log_bytes (node_of c.world i).log + command_bytes command
+
+-- the request is a read whose wait this holds of
+abbrev pub ForRead : Asked → (ℕ → Type 0) → Type 0
+ForRead (Good (Read query mode least wait raw)) P = P wait
+ForRead other P = ⊥
+
+-- A write takes its number, the step of server i is marked, and the write is refused.
+abbrev pub RefusesWrite : Write → Seen → Seen → ℕ → Refusal → Requests → Requests → Type 0
+RefusesWrite write before now i why old new =
+    (mid : Requests) × MarksStep before now i (used (numbered_with write.question.agent write.asked write.question.draw old)) mid
+    × (new ≡ used (answered_with write.question.number (Refused why) false 0 (Says why) mid))
+
+-- It takes its number, the step is marked, and the write is held until its place is applied.
+abbrev pub HoldsWrite : Write → Seen → Seen → ℕ → Place → Requests → Requests → Type 0
+HoldsWrite write before now i place old new =
+    (mid : Requests) × MarksStep before now i (used (numbered_with write.question.agent write.asked write.question.draw old)) mid
+    × (new ≡ used (holding_with write.question i (AtPlace place.index place.term) (Proposed place.index write.entry) mid))
+
+-- what becomes of a write whose proposal answers this
+abbrev pub EndsWrite : Write → Seen → Seen → ℕ → Result Place ProposeFault → Result Unit Memory → Requests → Requests → Type 0
+EndsWrite write before now i (Ok place) (Ok _) old new = HoldsWrite write before now i place old new
+EndsWrite write before now i (Err fault.Full) (Ok _) old new = RefusesWrite write before now i (refusal.LogFull write.entries write.bytes) old new
+EndsWrite write before now i (Err fault.Halted) (Ok _) old new = RefusesWrite write before now i (refusal.Halted i) old new
+EndsWrite write before now i (Err fault.NotLeader) (Err _) old new = new ≡ old
+EndsWrite write before now i (Err fault.Memory) (Err _) old new = new ≡ old
+EndsWrite write before now i proposed result old new = ⊥

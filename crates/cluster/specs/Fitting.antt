@@ -1,0 +1,9 @@
+-- Whether a clock can go on.
+use Rattle.std.specs.Prelude.{ℕ, Option}
+use Rattle.cluster_model.specs.declared.misfit.Misfit.{Misfit}
+use Rattle.cluster_rules.specs.Cluster.{Cluster}
+use Rattle.script_runs.specs.Lines.{clock_misfit, server_misfit}
+
+-- the server is not there, or its clock would pass its end
+abbrev pub time_misfit : Cluster → ℕ → ℕ → Option Misfit
+time_misfit c server ms = clock_misfit c server ms (server_misfit c server)

@@ -1,0 +1,10 @@
+pub mod Asking
+pub mod Beginning
+pub mod Fitting
+pub mod Going
+pub mod Looking
+pub mod Moving
+pub mod Playing
+pub mod Standing
+pub mod Taking
+pub mod Working

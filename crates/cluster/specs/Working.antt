@@ -1,0 +1,39 @@
+-- What the program's work means in the rules.
+use Rattle.std.specs.Prelude.{◌≡◌, ℕ, ◌+◌, Bool, false, length, Option, Some, None}
+use Rattle.cat_model.specs.declared.command.Entry.{Entry}
+use Rattle.raft_model.specs.Log.{entry_at}
+use Rattle.cluster_rules.specs.Replies.{Closed, shown}
+use Rattle.cluster_rules.specs.Cluster.{Cluster, applied_of, node_of}
+use Rattle.cluster_rules.specs.Due as rules
+use Rattle.cluster_rules.specs.Due.{due, put_out, without}
+use Rattle.cluster_rules.specs.Step.{is_calm}
+use Rattle.open_requests.specs.Contents.{content_of}
+use Rattle.cluster.specs.declared.work.Work.{Work}
+use Rattle.cluster.specs.declared.work.Work.TheVariants.{Answer, Close, Apply}
+
+-- it is this work of the rules at server i
+abbrev pub IsWork : Cluster → ℕ → Work → rules.Work → Type 0
+IsWork c i (Answer number kind content) (rules.Replies q kind') =
+    (number ≡ q.number) × (kind ≡ kind') × (content_of content ≡ shown q kind' (applied_of c i))
+IsWork c i (Close number event) (rules.Closes number' event') = (number ≡ number') × (event ≡ event')
+IsWork c i Apply rules.Applies = Unit {0}
+IsWork c i work other = ⊥
+
+-- what the program found is what the rules find
+abbrev pub IsFound : Cluster → ℕ → Option rules.Work → Option Work → Type 0
+IsFound c i None None = Unit {0}
+IsFound c i (Some w) (Some work) = IsWork c i work w
+IsFound c i found other = ⊥
+
+-- a held request was closed, since its server restarted in this event
+abbrev pub closed : ℕ → ℕ → Cluster → Cluster
+closed number event c = record c { held = without number c.held; fresh = put_out (Closed number event) c.fresh }
+
+-- the entry, if there is one, is of a calm command
+abbrev pub is_calm_entry : Option Entry → Bool
+is_calm_entry None = false
+is_calm_entry (Some e) = is_calm e.command
+
+-- the next entry that server i may apply is of a calm command
+abbrev pub calm_next : Cluster → ℕ → Bool
+calm_next c i = is_calm_entry (entry_at (length (applied_of c i) + 1) (node_of c.world i).log)

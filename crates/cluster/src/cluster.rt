@@ -1,0 +1,59 @@
+//! The cluster.
+
+ghost use Rattle.std.specs.Prelude.{◌≡◌, length};
+
+use cat_model::Entry;
+use cat_outside::Keeper;
+use cluster_servers::Servers;
+use open_requests::Requests;
+use std::marker::Model;
+
+/// A cluster of servers, numbered from 1, and the requests that its agents were asked, numbered from 1 in the order in
+/// which they came.
+#[derive(Drop)]
+pub struct Cluster<K: Keeper> {
+    pub(crate) servers: Servers<K>,
+    pub(crate) requests: Requests,
+}
+
+impl<K: Keeper> Model for Cluster<K> {
+    ghost use Rattle.cluster_rules.specs.Cluster as rules;
+    ghost use Rattle.open_requests.specs.Requests.{cluster_of};
+    ghost use Rattle.cluster.specs.Standing.{Stands};
+
+    ghost Value = { rules.Cluster };
+
+    ghost view = { λ c. cluster_of c.servers.world c.servers.servers c.requests };
+
+    ghost invariant = { λ c. Stands c.servers.world c.servers.servers c.requests };
+}
+
+impl<K: Keeper> Cluster<K> {
+    /// How many servers there are.
+    pub fn count(&self) -> u32
+        ensures { result ≡ length self.now.servers }
+    {
+        self.servers.count()
+    }
+
+    /// How many agents there are.
+    pub fn agents(&self) -> u32
+        ensures { result ≡ self.now.agents }
+    {
+        self.requests.agents()
+    }
+
+    /// How many requests were asked.
+    pub fn asked(&self) -> u64
+        ensures { result ≡ self.now.asked }
+    {
+        self.requests.asked()
+    }
+
+    /// The longest list that any server has committed so far.
+    pub fn agreed(&self) -> &[Entry]
+        ensures { result.now ≡ self.now.world.agreed }
+    {
+        self.servers.agreed()
+    }
+}

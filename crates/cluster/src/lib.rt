@@ -1,0 +1,28 @@
+//! The cluster of several servers: what they are asked, and what each event makes of them.
+#![tactic(auto)]
+
+mod acting;
+#[cfg(test)]
+mod acting_tests;
+mod asking;
+mod cluster;
+mod contact;
+mod early;
+mod fitting;
+mod handling;
+mod looking;
+mod memory;
+mod moving;
+mod noting;
+mod parts;
+mod playing;
+mod refusing;
+mod starting;
+mod taking;
+mod travelling;
+mod turning;
+mod way;
+mod work;
+mod working;
+
+pub use cluster::Cluster;

@@ -1,0 +1,58 @@
+//! What is taken from a cluster: its outs, and at last all that has happened.
+
+ghost use Rattle.std.specs.Prelude.{◌≡◌, ◌≤◌, ◌<◌, IfOk, length, map, reverse};
+ghost use Rattle.cluster_rules.specs.Cluster.{applied_of};
+ghost use Rattle.cluster_rules.specs.Reached.{IsServerNumber};
+ghost use Rattle.cluster.specs.Taking.{TakesFirst};
+
+use crate::cluster::Cluster;
+use cat_model::{Entry, List, Memory};
+use cat_outside::Keeper;
+use open_requests::Out;
+use script_player::History;
+use std::alloc::Global;
+
+impl<K: Keeper> Cluster<K> {
+    /// Takes the first out that waits, and marks that a request's was taken.
+    pub fn next_out(&mut self) -> Option<Out>
+        ensures { TakesFirst self.old self.new result }
+    {
+        self.requests.next_out()
+    }
+
+    /// How many entries of the agreed log a server has applied.
+    #[tactic(auto, using(crate::proofs::Numbers::is_number))]
+    pub fn applied(&self, server: u32) -> u64
+        requires { IsServerNumber self.now server }
+        ensures { result ≡ length (applied_of self.now server) }
+    {
+        self.servers.applied(server)
+    }
+
+    /// The numbers of the requests that are held, in ascending order.
+    pub fn unanswered(&self, alloc: Global) -> Result<List<u64>, Memory>
+        ensures { IfOk result (λ numbers. numbers ≡ map (λ h. h.question.number) self.now.held) }
+    {
+        self.requests.unanswered(alloc)
+    }
+}
+
+// A copy of these entries.
+fn copied(alloc: Global, entries: &[Entry]) -> Result<List<Entry>, Memory>
+    ensures { IfOk result (λ copy. copy ≡ entries.now) }
+{
+    let copy = Vec::from_clones(alloc, entries)?;
+    Ok(List::from(copy))
+}
+
+impl<K: Keeper + Drop> Cluster<K> {
+    /// The agreed log, and what has happened, of a cluster that is done with.
+    pub fn into_history(self, alloc: Global) -> Result<History, Memory>
+        ensures agreed { IfOk result (λ h. h.agreed ≡ self.world.agreed) }
+        ensures marks { IfOk result (λ h. h.marks ≡ reverse self.past) }
+    {
+        let agreed = copied(alloc, self.servers.agreed())?;
+        let marks = self.requests.into_marks(alloc, agreed.as_slice())?;
+        Ok(History { agreed, marks })
+    }
+}

@@ -1,0 +1,34 @@
+//! One turn of a server's making up.
+
+ghost use Rattle.std.specs.Prelude.{◌≡◌, ◌≢◌, ◌<◌, None, true, IfOk, OnErr};
+ghost use Rattle.cluster_rules.specs.Due.{due};
+ghost use Rattle.cluster_rules.specs.Left.{left};
+ghost use Rattle.cluster_rules.specs.Reached.{IsServerNumber};
+ghost use Rattle.cluster_turns.specs.Turns.{Turned};
+
+use crate::cluster::Cluster;
+use cat_model::Memory;
+use cat_outside::Keeper;
+use std::alloc::Global;
+
+impl<K: Keeper> Cluster<K> {
+    /// Does what is due first at a server, and says whether there was something. It lacks memory only where there is.
+    pub(crate) fn turn(&mut self, alloc: Global, server: u32) -> Result<bool, Memory>
+        requires { IsServerNumber self.old server }
+        ensures turned { IfOk result (λ was. Turned server was self.old self.new) }
+        ensures left { IfOk result (λ was. was ≡ true → left server self.new < left server self.old) }
+        ensures same { OnErr result (self.new ≡ self.old) }
+        ensures behind { OnErr result (due server self.old ≢ None) }
+    {
+        // That less is left follows from what holds between the parts.
+        let _ = &self.servers;
+        match self.find(alloc, server) {
+            Ok(Some(work)) => match self.perform(alloc, server, work) {
+                Ok(()) => Ok(true),
+                Err(Memory) => Err(Memory),
+            },
+            Ok(None) => Ok(false),
+            Err(Memory) => Err(Memory),
+        }
+    }
+}

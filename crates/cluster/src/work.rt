@@ -1,0 +1,20 @@
+use cat_model::Kind;
+use open_requests::Content;
+
+/// What is due at a server.
+#[derive(Drop)]
+pub(crate) enum Work {
+    /// A held request is answered, and its reply shows this.
+    Answer {
+        number: u64,
+        kind: Kind,
+        content: Content,
+    },
+    /// A held request is closed, since its server restarted in the event with this number.
+    Close {
+        number: u64,
+        event: u64,
+    },
+    /// The next position is applied.
+    Apply,
+}

@@ -1,0 +1,103 @@
+//! Doing what is due at a server.
+
+ghost use Rattle.std.specs.Prelude.{◌≡◌, OnErr, OnOk, Some, true};
+ghost use Rattle.cluster_rules.specs.Cluster.{applied_of, contact_of, knows};
+ghost use Rattle.cluster_rules.specs.Due as rules;
+ghost use Rattle.cluster_rules.specs.Due.{answered, applies, did, due, next_work};
+ghost use Rattle.cluster_rules.specs.Reached.{IsServerNumber};
+ghost use Rattle.cluster_rules.specs.Replies.{Question, shown};
+ghost use Rattle.open_requests.specs.Contents.{content_of};
+ghost use Rattle.cluster.specs.Working.{IsWork, calm_next, closed};
+ghost use Rattle.cluster_rules.specs.Step.{is_calm};
+
+use crate::cluster::Cluster;
+use crate::work::Work;
+use cat_model::{Command, Kind, Memory};
+use cat_outside::Keeper;
+use open_requests::Content;
+use std::alloc::Global;
+
+// No later tick of a leading server has anything to propose because of such a command.
+fn is_calm(command: &Command) -> bool
+    ensures { result ≡ is_calm command.now }
+{
+    matches!(
+        command,
+        Command::Noop | Command::Register { .. } | Command::KvSet { .. } | Command::KvCas { .. }
+    )
+}
+
+impl<K: Keeper> Cluster<K> {
+    // Answers a held request.
+    fn answer(
+        &mut self,
+        server: u32,
+        number: u64,
+        kind: Kind,
+        content: Content,
+    ) -> Result<(), Memory>
+        requires { IsServerNumber self.old server }
+        ensures done { OnOk result ((q : Question) → number ≡ q.number → content_of content ≡ shown q kind (applied_of self.old server)
+            → self.new ≡ answered q kind (knows self.old.world server kind) (contact_of self.old.world server kind) (applied_of self.old server) self.old) }
+        ensures same { OnErr result (self.new ≡ self.old) }
+    {
+        let known = self.knows_leader(server, &kind);
+        let contact = self.last_contact(server, &kind);
+        self.requests.answer(number, kind, known, contact, content)
+    }
+
+    // Closes a held request.
+    fn close(&mut self, number: u64, event: u64) -> Result<(), Memory>
+        ensures done { OnOk result (self.new ≡ closed number event self.old) }
+        ensures same { OnErr result (self.new ≡ self.old) }
+    {
+        self.requests.close(number, event)
+    }
+
+    // The entry at the server's next position is one that this program takes.
+    #[tactic(auto, using(crate::proofs::Numbers::is_number))]
+    fn takes_next(&self, server: u32) -> bool
+        requires { IsServerNumber self.now server }
+        ensures { result ≡ true → calm_next self.now server ≡ true }
+    {
+        let Some(next) = self.servers.applied(server).checked_add(1) else {
+            return false;
+        };
+        match self.servers.node(server).entry(next) {
+            Some(entry) => is_calm(&entry.command),
+            None => false,
+        }
+    }
+
+    // Applies the next position.
+    fn apply_next(&mut self, alloc: Global, server: u32) -> Result<(), Memory>
+        requires server { IsServerNumber self.old server }
+        requires next { next_work self.old server ≡ Some rules.Applies }
+        ensures done { OnOk result (self.new ≡ applies server self.old) }
+        ensures same { OnErr result (self.new ≡ self.old) }
+    {
+        if !self.takes_next(server) {
+            return Err(Memory);
+        }
+        self.servers.apply(alloc, server)
+    }
+
+    /// Does what is due first at a server. It answers Memory also where that is to apply an entry that is not taken so
+    /// far: such a one can only come out of a durable store.
+    pub(crate) fn perform(&mut self, alloc: Global, server: u32, work: Work) -> Result<(), Memory>
+        requires server { IsServerNumber self.old server }
+        requires due { (w : rules.Work) × (due server self.old ≡ Some w) × IsWork self.old server work w }
+        ensures done { OnOk result ((w : rules.Work) → due server self.old ≡ Some w → self.new ≡ did server w self.old) }
+        ensures same { OnErr result (self.new ≡ self.old) }
+    {
+        match work {
+            Work::Answer {
+                number,
+                kind,
+                content,
+            } => self.answer(server, number, kind, content),
+            Work::Close { number, event } => self.close(number, event),
+            Work::Apply => self.apply_next(alloc, server),
+        }
+    }
+}
