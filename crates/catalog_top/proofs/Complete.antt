@@ -2,10 +2,10 @@
 use Rattle.std.proofs.Common.{◌≡◌, ◌⊎◌, ℕ, ◌≤◌, Bool, true, false, nat_lt, nat_eq, ◌||◌, cond, List, [], ◌∷◌, ◌++◌, length, length-append, Option, None, Some, ap, ◌∙◌, append-nil, inl, inr, subst, arith}
 use Rattle.std.proofs.lemmas.Bool.Decides.{nat_tests}
 use Rattle.std.specs.Io.KnownBytes.{Consumes, IsAtEnd}
-use Rattle.catalog_top.specs.Line.{lines_of, onto_line}
-use Rattle.catalog_top.specs.Script.{script_of}
+use Rattle.script_player.specs.Line.{lines_of, onto_line}
+use Rattle.script_player.specs.Script.{script_of}
 use Rattle.catalog_top.specs.Limits.{is_too_long}
-use Rattle.catalog_top.specs.Run.{RefusesLine, PassesLimit}
+use Rattle.catalog_top.specs.Run.{NeverRefuses, RefusesLine, PassesLimit}
 use Rattle.catalog_top.specs.Stops.{IsEnded}
 
 onto_line-more : (b : ℕ) (ls ms : List (List ℕ)) → length ls ≤ length ms → length (onto_line b ls) ≤ length (onto_line b ms)
@@ -43,12 +43,10 @@ taken-all None bytes taken took end = absurd took
 taken-all (Some rest) bytes taken took end = took ∙ ap (λ r. taken ++ r) end ∙ append-nil taken
 
 not_refused : (left' : Option (List ℕ)) (ends ends' : ℕ) (held held' : Option (List ℕ)) (bytes : List ℕ) →
-    RefusesLine (Some bytes) left' ends ends' held held' → (script_of bytes).refused ≡ None → ⊥
-not_refused left' ends ends' held held' bytes refuses whole =
+    RefusesLine (Some bytes) left' ends ends' held held' → NeverRefuses (script_of bytes) → ⊥
+not_refused left' ends ends' held held' bytes refuses never =
     let same = taken-all left' bytes refuses.took.bytes refuses.took.consumed refuses.took.at_end in
-    let none : (script_of refuses.took.bytes).refused ≡ None = subst (λ (b : List ℕ). (script_of b).refused ≡ None) same whole in
-    let first = refuses.first in
-    cc
+    subst (λ (b : List ℕ). NeverRefuses (script_of b)) same never refuses.run.line refuses.run.why refuses.run.text refuses.run.writes
 
 not_past : (left' : Option (List ℕ)) (held held' : Option (List ℕ)) (bytes : List ℕ) →
     PassesLimit (Some bytes) left' held held' → is_too_long bytes ≡ false → ⊥
@@ -58,7 +56,7 @@ not_past left' held held' bytes passes short =
 
 pub complete_from : (left left' : Option (List ℕ)) (ends ends' : ℕ) (held held' : Option (List ℕ)) (status : ℕ) (form : Type 0) →
     IsEnded status → (status ≡ 2 → (form → ⊥)) → (status ≡ 3 → RefusesLine left left' ends ends' held held') → (status ≡ 7 → PassesLimit left left' held held') →
-    (bytes : List ℕ) → form → left ≡ Some bytes → is_too_long bytes ≡ false → (script_of bytes).refused ≡ None → (status ≡ 0) ⊎ (status ≡ 8)
+    (bytes : List ℕ) → form → left ≡ Some bytes → is_too_long bytes ≡ false → NeverRefuses (script_of bytes) → (status ≡ 0) ⊎ (status ≡ 8)
 complete_from left left' ends ends' held held' status form (inl zero) usage refused limit bytes is_form known short whole = inl zero
 complete_from left left' ends ends' held held' status form (inr (inl two)) usage refused limit bytes is_form known short whole = absurd (usage two is_form)
 complete_from left left' ends ends' held held' status form (inr (inr (inl three))) usage refused limit bytes is_form known short whole =

@@ -1,9 +1,6 @@
-pub mod Line
-pub mod Script
 pub mod Text
 pub mod Limits
 pub mod Input
-pub mod Stage
 pub mod Run
 pub mod Status
 pub mod Stops

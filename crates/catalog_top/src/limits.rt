@@ -1,8 +1,8 @@
 ghost use Rattle.std.specs.Prelude.{◌≡◌, ◌+◌, min, length};
-ghost use Rattle.catalog_top.specs.Line.{lines_of};
+ghost use Rattle.script_player.specs.Line.{lines_of};
 ghost use Rattle.catalog_top.specs.Limits.{is_too_long as is_too_long_of};
 
-use crate::line::split_at_byte;
+use script_player::split_at_byte;
 
 /// The most bytes of a script.
 pub const MAX_BYTES: usize = 16_777_216;

@@ -1,4 +1,0 @@
-use Rattle.cluster_core.proofs.body.id_text.Goals as goal
-
-pub returns : goal.returns
-returns c = rw (c.encode_lower-text.ensures.text, c.hyphenated.ensures, c.from_u128.ensures) at c.from_str.ensures.ok
