@@ -4,10 +4,10 @@ ghost use Rattle.std.specs.Prelude.{◌≡◌, IfOk};
 ghost use Rattle.std.specs.Option.{option_copied};
 ghost use Rattle.cat_model.specs.Kv.{put_kv, write_kv, kv_set, kv_cas, kv_lock, kv_unlock, kv_delete, kv_delete_tree, kv_delete_cas, holder, locks, index_fits};
 
-use crate::lists::{around, copied, kept};
 use crate::tables::find_key;
 use crate::texts::{begins, compare, is_same_option};
 use cat_model::{Bytes, KvRow, List, Memory, Text};
+use lists::{around, copied, kept};
 use std::alloc::Global;
 
 /// What is written of a key at a position of the log.

@@ -6,7 +6,6 @@ pub mod act;
 pub mod alike;
 mod commands;
 mod kv;
-pub mod lists;
 mod plain;
 mod queries;
 mod register;

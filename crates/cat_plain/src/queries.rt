@@ -8,10 +8,10 @@ ghost use Rattle.cat_model.specs.Catalog.{query_at};
 ghost use Rattle.cat_model.specs.Tables.{without};
 ghost use Rattle.cat_model.specs.Machine.{create_of, session_known, other_has_name, set_query, refusal_of};
 
-use crate::lists::kept;
 use crate::tables::{Tables, find_query, find_session, place_query};
 use crate::texts::{is_blank, is_same};
 use cat_model::{Applied, List, Memory, QueryRow, Refuse};
+use lists::kept;
 use std::alloc::Global;
 
 fn is_known(tables: &Tables, session: Option<u128>) -> bool

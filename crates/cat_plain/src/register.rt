@@ -6,7 +6,6 @@ ghost use Rattle.cat_model.specs.Keys.{same_text};
 ghost use Rattle.cat_model.specs.Machine.{put_node, put_service, put_given, put_check, put_checks, last_of_each, has_service, register, deregister, deregister_service, deregister_check, deregister_node};
 
 use crate::alike::{are_alike_checks, are_alike_nodes, are_alike_services};
-use crate::lists::{copied, copy_of, kept};
 use crate::tables::{
     Tables, find_check, find_node, find_service, place_check, place_node, place_service,
 };
@@ -14,6 +13,7 @@ use crate::texts::{is_blank, is_same};
 use cat_model::{
     Applied, CheckRow, List, Memory, NewCheck, NewService, NodeRow, Refuse, ServiceRow, Text,
 };
+use lists::{copied, copy_of, kept};
 use std::alloc::Global;
 
 fn set_node(

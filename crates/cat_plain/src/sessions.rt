@@ -6,12 +6,12 @@ ghost use Rattle.std.specs.List.{filter_map};
 ghost use Rattle.std.specs.Option.{option_copied};
 ghost use Rattle.cat_model.specs.Machine.{check_refusal, checks_refusal, create_session, broken, names, ends, freed_row, freed_key, ended_holder, end_sessions, refusal_of, or_else};
 
-use crate::lists::{chosen, copy_of, kept};
 use crate::tables::{Tables, find_check, find_node, find_session, place_session};
 use crate::texts::is_same_status;
 use cat_model::{
     Applied, Behavior, CheckRow, Command, KvRow, List, Memory, Refuse, SessionRow, Status, Text,
 };
+use lists::{chosen, copy_of, kept};
 use std::alloc::Global;
 
 /// The first of these checks of the node that is missing or critical.

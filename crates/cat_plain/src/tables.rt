@@ -7,11 +7,11 @@ ghost use Rattle.cat_model.specs.Keys.{text_cmp, pair_cmp};
 ghost use Rattle.cat_model.specs.Tables.{put};
 ghost use Rattle.std.specs.Ordering.{nat_cmp};
 
-use crate::lists::{around, copied, kept};
 use crate::texts::{compare, compare_pairs};
 use cat_model::{
     Applied, CheckRow, KvRow, List, Memory, NodeRow, QueryRow, ServiceRow, SessionRow, Text,
 };
+use lists::{around, copied, kept};
 use std::alloc::Global;
 use std::marker::Model;
 

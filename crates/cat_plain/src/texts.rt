@@ -4,8 +4,8 @@ ghost use Rattle.std.specs.Prelude.{◌≡◌};
 ghost use Rattle.cat_model.specs.Keys.{text_cmp, pair_cmp, same_text, same_texts, has_prefix, same_option, is_empty};
 ghost use Rattle.cat_model.specs.Same.{same_bool, same_status, same_behavior};
 
-use crate::lists::all_same;
 use cat_model::{Behavior, Status, Text, Texts};
+use lists::all_same;
 use std::cmp::Ordering;
 
 pub fn compare(a: &Text, b: &Text) -> Ordering

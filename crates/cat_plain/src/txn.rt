@@ -7,10 +7,10 @@ ghost use Rattle.cat_model.specs.Kv.{giving, giving_nothing, result_of, row_with
 ghost use Rattle.cat_plain.specs.Txns.{run_of};
 
 use crate::kv::{self, Writing};
-use crate::lists::{copied, copy_of, joined, kept, made};
 use crate::tables::{find_key, find_session};
 use crate::texts::{begins, is_same_option};
 use cat_model::{Bytes, KvRow, List, Memory, SessionRow, Text, TxnOp, TxnResult, Verb};
+use lists::{copied, copy_of, joined, kept, made};
 use std::alloc::Global;
 
 /// The rows that an operation leaves with its results, or none where it fails.

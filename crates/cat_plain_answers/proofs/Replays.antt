@@ -1,7 +1,7 @@
 -- A log that is applied again, command by command.
 use Rattle.std.proofs.Common.{◌≡◌, ℕ, ◌+◌, ◌<◌, Bool, List, [], ◌∷◌, ◌++◌, refl, sym, ◌∙◌, ap, cond, length, take, get_or, arith}
 use Rattle.std.proofs.lemmas.List.{length-take-le}
-use Rattle.cat_plain.proofs.Items.{next_item}
+use Rattle.lists.proofs.Items.{next_item}
 use Rattle.cat_model.specs.Catalog.{Catalog, empty_catalog}
 use Rattle.cat_model.specs.Machine.{apply, at_past, catalog_at}
 use Rattle.cat_model.specs.Indexes.{touches, past_index, index_of}

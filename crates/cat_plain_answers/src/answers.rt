@@ -12,9 +12,9 @@ use crate::views::{
     all_instances, checks_in_state, checks_of_node, checks_of_service, tagged, tagged_and_passing,
 };
 use cat_model::{Answer, KvRow, List, Memory, NodeRow, Query, QueryRow, SessionRow, Text};
-use cat_plain::lists::{copied, copy_of, kept};
 use cat_plain::tables::{Tables, find_node};
 use cat_plain::texts::is_same;
+use lists::{copied, copy_of, kept};
 use std::alloc::Global;
 
 fn rows_if_any(rows: List<KvRow>) -> Answer

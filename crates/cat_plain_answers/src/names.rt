@@ -5,8 +5,8 @@ ghost use Rattle.cat_model.specs.Keys.{same_text};
 ghost use Rattle.cat_model.specs.Queries.{with_name, all_names, all_tags, names_and_tags, cut_after, cut_key};
 
 use cat_model::{KvRow, List, Memory, NameTags, ServiceRow, Text, Texts};
-use cat_plain::lists::{around, copied, copy_of, joined, kept, made};
 use cat_plain::texts::{compare, is_blank, is_same};
+use lists::{around, copied, copy_of, joined, kept, made};
 use std::alloc::Global;
 
 /// The names with this one among them.

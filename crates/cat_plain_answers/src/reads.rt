@@ -7,9 +7,9 @@ ghost use Rattle.cat_model.specs.Keys.{same_text, has_prefix};
 ghost use Rattle.cat_model.specs.Queries.{is_of, instance_rows, service_rows, reads};
 
 use cat_model::{CheckRow, KvRow, List, Memory, Query, ServiceRow, Text};
-use cat_plain::lists::{copied, kept};
 use cat_plain::tables::Tables;
 use cat_plain::texts::{begins, is_blank, is_same};
+use lists::{copied, kept};
 use std::alloc::Global;
 
 /// Whether the check counts for an instance of one of these services: it is its own, or its node's.

@@ -8,9 +8,9 @@ ghost use Rattle.std.specs.Cmp.Lexicographic.{pointwise};
 
 use cat_model::{CheckRow, KvRow, NodeRow, QueryRow, ServiceRow, SessionRow};
 use cat_plain::alike::{are_alike_checks, are_alike_nodes, are_alike_services};
-use cat_plain::lists::all_same;
 use cat_plain::tables::Tables;
 use cat_plain::texts::{are_same, is_same, is_same_behavior, is_same_flag, is_same_option};
+use lists::all_same;
 
 #[tactic(auto, unfolding(cat_model::specs::Same::same_node))]
 fn is_same_node(a: &NodeRow, b: &NodeRow) -> bool

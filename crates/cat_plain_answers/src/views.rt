@@ -9,9 +9,9 @@ ghost use Rattle.cat_model.specs.Queries.{is_of, name_of, check_view, instance_o
 use cat_model::{
     Answer, CheckRow, CheckView, Instance, List, Memory, NodeRow, ServiceRow, Status, Text, Texts,
 };
-use cat_plain::lists::{chosen, copy_of, kept, made};
 use cat_plain::tables::{Tables, find_node, find_service};
 use cat_plain::texts::{is_blank, is_same, is_same_status};
+use lists::{chosen, copy_of, kept, made};
 use std::alloc::Global;
 
 fn name_or_blank(alloc: Global, service: Option<&ServiceRow>) -> Result<Text, Memory>

@@ -1,7 +1,7 @@
 -- Clocks of delays and TTLs, item by item.
 use Rattle.std.proofs.Common.{◌≡◌, ◌∙◌, ℕ, Bool, ◌+◌, ◌<◌, ◌++◌, List, [], ◌∷◌, refl, sym, ap, arith, cond, eqb, max, map, reverse, length, take, get_or}
 use Rattle.std.proofs.lemmas.List.{reverse-append, length-reverse, map-append, length-map, length-take-le}
-use Rattle.cat_plain.proofs.Items.{next_item}
+use Rattle.lists.proofs.Items.{next_item}
 use Rattle.cat_plain.proofs.Steps.{next_tables}
 use Rattle.cat_model.specs.Keys.{same_text}
 use Rattle.cat_model.specs.Catalog.{Catalog, empty_catalog}

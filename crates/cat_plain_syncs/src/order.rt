@@ -4,8 +4,8 @@ ghost use Rattle.std.specs.Prelude.{◌≡◌, IfOk};
 ghost use Rattle.cat_model.specs.Syncs.{services_in_order, checks_in_order};
 
 use cat_model::{CheckRow, List, Memory, ServiceRow};
-use cat_plain::lists::copy_of;
 use cat_plain::tables::{place_check, place_service};
+use lists::copy_of;
 use std::alloc::Global;
 
 #[tactic(auto, using(crate::proofs::Onto::services_last, crate::proofs::Onto::services_onto_none))]

@@ -15,8 +15,8 @@ use crate::order::{checks_in_order, services_in_order};
 use cat_model::{
     CheckRow, Command, List, Local, Memory, NewCheck, NewService, NodeRow, Remote, ServiceRow, Text,
 };
-use cat_plain::lists::{joined, kept, made};
 use cat_plain::tables::find_check;
+use lists::{joined, kept, made};
 use std::alloc::Global;
 
 fn new_service(s: &ServiceRow) -> Result<NewService, Memory>

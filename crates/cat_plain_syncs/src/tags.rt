@@ -4,8 +4,8 @@ ghost use Rattle.std.specs.Prelude.{◌≡◌, IfOk, map};
 ghost use Rattle.cat_model.specs.Syncs.{merged_service};
 
 use cat_model::{List, Memory, ServiceRow};
-use cat_plain::lists::{copy_of, made};
 use cat_plain::tables::find_service;
+use lists::{copy_of, made};
 use std::alloc::Global;
 
 /// The service with the catalog's tags, where it allows that and the catalog has it.

@@ -5,11 +5,11 @@ use cat_model::{
     CheckRow, Command, Draw, List, Local, Memory, NodeRow, Remote, ServiceRow, Status, Text,
 };
 use cat_plain::Plain;
-use cat_plain::lists::copied;
 use cat_plain_answers::index;
 use cat_plain_syncs::{
     SessionStart, TimedCommand, delay_until, identifier, merge_tags, plan, ttl_end, ttl_start,
 };
+use lists::copied;
 use std::alloc::Global;
 use std::test::Fail;
 

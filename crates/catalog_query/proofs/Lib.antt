@@ -1,4 +1,3 @@
-pub mod Items
 pub mod Filters
 pub mod Gathering
 pub mod OneKey

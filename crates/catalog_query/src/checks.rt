@@ -6,10 +6,10 @@ ghost use Rattle.cat_model.specs.Keys.{same_text, is_empty};
 ghost use Rattle.cat_model.specs.Queries.{name_of, check_view, has_status, service_named, check_views};
 ghost use Rattle.catalog_table.specs.Rows.{catalog_of};
 
-use crate::lists::{copy_of, made};
 use crate::texts::{is_blank, is_same};
 use cat_model::{Answer, CheckRow, CheckView, List, Memory, ServiceRow, Status, Text};
 use catalog_table::CatalogTable;
+use lists::{copy_of, made};
 use std::alloc::Global;
 
 fn name_or_blank(alloc: Global, service: Option<&ServiceRow>) -> Result<Text, Memory>

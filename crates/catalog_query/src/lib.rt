@@ -8,7 +8,6 @@ mod indexes;
 mod instances;
 mod keys;
 pub mod laws;
-mod lists;
 mod names;
 mod nodes;
 mod reads;

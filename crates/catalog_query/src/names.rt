@@ -6,9 +6,9 @@ ghost use Rattle.cat_model.specs.Tables.{Ascends};
 ghost use Rattle.cat_model.specs.Queries.{with_name, all_names, all_tags, names_and_tags};
 ghost use Rattle.catalog_query.specs.Places.{rank};
 
-use crate::lists::{copy_of, gathered, kept, made};
 use crate::texts::is_same;
 use cat_model::{List, Memory, NameTags, ServiceRow, Text, Texts};
+use lists::{copy_of, gathered, kept, made};
 use std::alloc::Global;
 
 /// How many of the names are smaller.

@@ -5,10 +5,10 @@ ghost use Rattle.std.specs.Option.{option_copied};
 ghost use Rattle.cat_model.specs.Keys.{same_text};
 ghost use Rattle.cat_model.specs.Catalog.{node_at};
 
-use crate::lists::copy_of;
 use crate::texts::is_same;
 use cat_model::{Answer, List, Memory, NodeRow, ServiceRow, Text};
 use catalog_table::CatalogTable;
+use lists::copy_of;
 use std::alloc::Global;
 
 fn copy_if_there(row: Option<&NodeRow>) -> Result<Option<NodeRow>, Memory>

@@ -4,5 +4,7 @@
 mod keys;
 mod registering;
 mod store;
+mod taken;
 
 pub use store::Store;
+pub use taken::is_taken;

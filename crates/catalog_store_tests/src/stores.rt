@@ -1,34 +1,13 @@
 //! A store, and what is read from it.
 
-ghost use Rattle.std.specs.Prelude.{◌≡◌, true};
-ghost use Rattle.catalog_store.specs.Steps.{is_taken};
-
 use cat_model::{Answer, Applied, Chan, Command, Fired, List, Memory, Query, Steps};
 use catalog_query::{View, chans, evaluate};
-use catalog_store::Store;
+use catalog_store::{Store, is_taken};
 use std::alloc::Global;
 use std::sync::ledger::Ledger;
 
 /// The most commands that a store takes.
 const MOST: u64 = 262_144;
-
-/// Whether a store takes the command.
-fn is_taken(command: &Command) -> bool
-    ensures { result ≡ is_taken command.now }
-{
-    matches!(
-        command,
-        Command::Noop
-            | Command::Register { .. }
-            | Command::Deregister { .. }
-            | Command::KvSet { .. }
-            | Command::KvCas { .. }
-            | Command::KvDelete { .. }
-            | Command::KvDeleteCas { .. }
-            | Command::KvDeleteTree { .. }
-            | Command::Reap
-    )
-}
 
 /// Applies the command. None is given where the store does not take it.
 pub(crate) fn apply(

@@ -1,4 +1,3 @@
-pub mod Items
 pub mod Checks
 pub mod Parts
 pub mod ServiceReads

@@ -8,7 +8,6 @@ mod changed;
 mod deregister;
 mod fault;
 pub mod laws;
-mod lists;
 mod names;
 mod part;
 mod register;

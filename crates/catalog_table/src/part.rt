@@ -9,9 +9,9 @@ ghost use Rattle.cat_model.specs.Queries.{is_of, service_rows};
 ghost use Rattle.catalog_table.specs.Rows.{catalog_of};
 ghost use Rattle.catalog_table.specs.Changes.{reads_differ};
 
-use crate::lists::{all_same, kept};
 use crate::same::{is_same, is_same_check, is_same_node, is_same_service};
 use cat_model::{CheckRow, List, Memory, NodeRow, ServiceRow, Text};
+use lists::{all_same, kept};
 use std::alloc::Global;
 use std::marker::Model;
 

@@ -8,12 +8,12 @@ ghost use Rattle.catalog_table.specs.Rows.{Rows, no_rows, catalog_of, InOrder, o
 ghost use Rattle.catalog_table.specs.Changes.{is_named, Tells};
 ghost use Rattle.catalog_table.specs.Steps.{IsRegister, IsNotDone, IsUndone, step_of, put_rows, take_service, take_check, take_node};
 
-use crate::lists::kept;
 use crate::names::{differing, names_of};
 use crate::part::{Part, are_same_checks, are_same_nodes, are_same_services};
 use crate::same::{is_same, is_same_status, is_text};
 use crate::{Changed, RegisterFault};
 use cat_model::{CheckRow, List, Memory, NodeRow, ServiceRow, Status, Text, Texts};
+use lists::kept;
 use row_table::{ByNode, ByPair, Row, RowTable};
 use std::alloc::Global;
 use std::marker::Model;

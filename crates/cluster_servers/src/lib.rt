@@ -5,7 +5,6 @@ mod messages;
 mod servers;
 mod starting;
 mod steps;
-mod taken;
 mod terms;
 #[cfg(test)]
 mod tests;

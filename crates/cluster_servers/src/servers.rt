@@ -9,9 +9,9 @@ ghost use Rattle.cluster_rules.specs.Cluster.{clock_of, node_of, server_of};
 ghost use Rattle.raft_world.specs.Steps.{IsNumber};
 ghost use Rattle.cluster_servers.specs.Servers.{HasNext, applies_next};
 
-use crate::taken::is_taken;
 use cat_model::{Answer, Entry, Memory, Query, Steps};
 use cat_outside::Keeper;
+use catalog_store::is_taken;
 use raft_node::Node;
 use raft_world::World;
 use replica::Replica;

@@ -3,7 +3,6 @@
 
 mod filters;
 mod instances;
-mod lists;
 #[cfg(test)]
 mod tests;
 mod texts;

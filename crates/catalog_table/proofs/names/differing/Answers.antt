@@ -1,6 +1,6 @@
 use Rattle.std.proofs.Common.{◌∙◌, ◌++◌, [], ◌∷◌, sym, ap, cond, filter, take, append-nil}
 use Rattle.catalog_table.specs.Changes.{reads_differ}
-use Rattle.catalog_table.proofs.Items.{next_kept}
+use Rattle.lists.proofs.Items.{next_kept}
 use Rattle.catalog_table.proofs.names.differing.Goals as goal
 use Rattle.catalog_table.proofs.names.differing.Goals.{then-branch+in_ok-new+in_ok-push, else-branch}
 
