@@ -20,7 +20,7 @@ use Rattle.cat_model.specs.Machine.{act, apply, catalog_at, reply_to}
 use Rattle.cat_model.specs.Queries.{answer}
 use Rattle.cat_model.proofs.IndexLaw.{index_within}
 use Rattle.raft_model.specs.World.{World}
-use Rattle.cluster_model.specs.Events.{IsPut, IsTakenAsked}
+use Rattle.script_runs.specs.Taken.{IsPut, IsTakenAsked}
 use Rattle.cluster_rules.specs.Replies.{Question, Tells, entered, shown, shown_write, shown_read}
 use Rattle.cluster_rules.specs.Cluster.{Cluster, Pending, Server, Stand, AtPlace, InRound, ForIndex, Ended, applied_of, clock_of, node_of}
 use Rattle.cluster_rules.specs.Due as rules

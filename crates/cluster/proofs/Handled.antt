@@ -14,7 +14,7 @@ use Rattle.cat_model.specs.declared.reply.Refusal.{Refusal}
 use Rattle.cat_model.specs.declared.reply.Refusal.TheVariants as refusal
 use Rattle.raft_model.specs.Log.{last_term}
 use Rattle.raft_model.specs.World.{World}
-use Rattle.cluster_model.specs.Events.{IsTakenAsked}
+use Rattle.script_runs.specs.Taken.{IsTakenAsked}
 use Rattle.cluster_rules.specs.Cluster.{Cluster, ForIndex, Looked, Pending, Server, Stand, Start, applied_of, clock_of, node_of}
 use Rattle.cluster_rules.specs.Lasting.{is_stale}
 use Rattle.cluster_rules.specs.Replies.{Question, Says, shown}

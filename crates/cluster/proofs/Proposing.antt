@@ -25,7 +25,7 @@ use Rattle.raft_model.specs.World.{World, Acts as NodeActs, IsServer}
 use Rattle.raft_node.specs.declared.fault.ProposeFault.{ProposeFault}
 use Rattle.raft_node.specs.declared.fault.ProposeFault.TheVariants as fault
 use Rattle.raft_world.specs.Steps.{IsProposed, KeepsAgreement, Proposes}
-use Rattle.cluster_model.specs.Events.{IsPut, IsTakenAsked}
+use Rattle.script_runs.specs.Taken.{IsPut, IsTakenAsked}
 use Rattle.cluster_rules.specs.Cluster.{AtPlace, Cluster, Pending, Proposed, Server, node_of, runs_leading}
 use Rattle.cluster_rules.specs.Replies.{Question, Says, entered}
 use Rattle.cluster_rules.specs.Requests.{Handles, full, holding, is_ready, locks, log_with, moved, proposes, refused, stops}

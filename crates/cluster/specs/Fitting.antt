@@ -1,6 +1,6 @@
 -- Whether a clock can go on.
 use Rattle.std.specs.Prelude.{ℕ, Option}
-use Rattle.cluster_model.specs.declared.misfit.Misfit.{Misfit}
+use Rattle.script_runs.specs.declared.misfit.Misfit.{Misfit}
 use Rattle.cluster_rules.specs.Cluster.{Cluster}
 use Rattle.script_runs.specs.Lines.{clock_misfit, server_misfit}
 

@@ -3,7 +3,7 @@ use Rattle.std.specs.Prelude.{◌≡◌, ℕ, ◌<◌, ◌≤◌, true, List, le
 use Rattle.std.specs.List.{AllByRecursion as Each, list_all}
 use Rattle.cat_model.specs.Log.{commands_of}
 use Rattle.raft_model.specs.World.{World, IsReached}
-use Rattle.cluster_model.specs.Events.{IsTakenAsked}
+use Rattle.script_runs.specs.Taken.{IsTakenAsked}
 use Rattle.cluster_rules.specs.Cluster.{Stand, AtPlace, InRound, ForIndex, Ended, Pending, Server}
 use Rattle.cluster_rules.specs.Sound.{Ascends}
 use Rattle.cluster_rules.specs.Step.{is_calm}

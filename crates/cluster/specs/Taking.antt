@@ -1,11 +1,22 @@
 -- What the taking of an out does.
-use Rattle.std.specs.Prelude.{◌≡◌, List, [], ◌∷◌, Option, None, Some}
-use Rattle.cluster_rules.specs.Replies.{Out, number_of}
+use Rattle.std.specs.Prelude.{◌≡◌, ℕ, List, ◌∷◌, ◌++◌}
+use Rattle.cluster_rules.specs.Replies.{Out, Replied, Closed, number_of}
 use Rattle.cluster_rules.specs.Cluster.{Cluster}
+use Rattle.open_requests.specs.declared.collected.Collected.{Collected}
+use Rattle.open_requests.specs.declared.collected.Collected.TheVariants as collected
+use Rattle.open_requests.specs.Taking.{HasNoOut, IsNotHeld, Waits}
 use Rattle.script_runs.specs.Plays.{taken}
 
--- The first out is taken, and its taking is marked. Where there is none, nothing changes.
-abbrev pub TakesFirst : Cluster → Cluster → Option Out → Type 0
-TakesFirst c c' None = (c.tray ≡ []) × (c' ≡ c)
-TakesFirst c c' (Some out) =
-    (rest : List Out) × (c.tray ≡ out ∷ rest) × (c' ≡ record c { tray = rest; past = taken (number_of out) c.past })
+-- This out was taken out of the tray, and a request's taking is marked.
+pub record Takes (out : Out) (c c' : Cluster) : Type 0 where
+  pub before : List Out
+  pub after : List Out
+  pub there : c.tray ≡ before ++ out ∷ after
+  pub is : c' ≡ record c { tray = before ++ after; past = taken (number_of out) c.past }
+
+-- What is collected of a request: its out that was there, else what it waits for while it is held, else nothing.
+abbrev pub Collects : ℕ → Collected → Cluster → Cluster → Type 0
+Collects number (collected.Ready reply) c c' = Takes (Replied reply) c c' × (reply.number ≡ number)
+Collects number (collected.Closed event) c c' = Takes (Closed number event) c c'
+Collects number (collected.NotYet wanted) c c' = (c' ≡ c) × HasNoOut number c.tray × Waits number wanted c.held
+Collects number collected.Gone c c' = (c' ≡ c) × HasNoOut number c.tray × IsNotHeld number c.held

@@ -8,7 +8,7 @@ ghost use Rattle.cluster_rules.specs.Reached.{IsServerNumber};
 use crate::cluster::Cluster;
 use cat_model::Event;
 use cat_outside::Keeper;
-use cluster_model::Misfit;
+use script_runs::Misfit;
 
 // The most milliseconds of a clock.
 const MOST_MS: u64 = 9_007_199_254_740_992;

@@ -4,7 +4,7 @@ ghost use Rattle.std.specs.Prelude.{◌≡◌, ◌<◌, ◌+◌, ◌-◌, ◌^�
 ghost use Rattle.cat_model.specs.LogLimits.{command_bytes as bytes_of_command};
 ghost use Rattle.cat_model.specs.declared.request.Asked.TheVariants.{Good};
 ghost use Rattle.cat_model.specs.declared.request.Request.TheVariants.{Write as Writes};
-ghost use Rattle.cluster_model.specs.Events.{IsPut, IsTakenAsked};
+ghost use Rattle.script_runs.specs.Taken.{IsPut, IsTakenAsked};
 ghost use Rattle.cluster_rules.specs.Cluster.{runs_leading};
 ghost use Rattle.cluster_rules.specs.Due.{due};
 ghost use Rattle.cluster_rules.specs.Reached.{IsServerNumber};

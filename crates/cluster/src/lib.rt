@@ -18,6 +18,9 @@ mod parts;
 mod playing;
 mod refusing;
 mod starting;
+mod stepping;
+#[cfg(test)]
+mod stepping_tests;
 mod taking;
 mod travelling;
 mod turning;

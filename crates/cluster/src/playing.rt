@@ -1,14 +1,12 @@
 //! Scripts are played on clusters over stores in memory.
 
 use crate::cluster::Cluster;
-use cat_model::{Entry, Event, List, Memory, Steps};
+use cat_model::{Entry, Event, List, Memory};
 use cat_outside::MemKeeper;
-use cluster_model::Misfit;
-use cluster_turns::{make, settle};
 use open_requests::Out;
 use script_player::{History, Servers};
+use script_runs::Misfit;
 use std::alloc::Global;
-use std::sync::ledger::Ledger;
 
 impl Servers for Cluster<MemKeeper> {
     ghost state = { λ c. c };
@@ -21,22 +19,12 @@ impl Servers for Cluster<MemKeeper> {
         self.fits(event)
     }
 
-    fn step<L: Ledger>(
-        &mut self,
-        alloc: Global,
-        event: Event,
-        _steps: &mut Steps<L>,
-    ) -> Result<(), Memory> {
-        make(self, alloc, &event)
+    fn step(&mut self, alloc: Global, event: Event) -> Result<(), Memory> {
+        self.step(alloc, &event)
     }
 
-    fn settle<L: Ledger>(
-        &mut self,
-        alloc: Global,
-        most: u32,
-        _steps: &mut Steps<L>,
-    ) -> Result<u32, Memory> {
-        settle(self, alloc, most)
+    fn settle(&mut self, alloc: Global, most: u32) -> Result<u32, Memory> {
+        self.settle(alloc, most)
     }
 
     fn next_out(&mut self) -> Option<Out> {

@@ -3,12 +3,13 @@
 ghost use Rattle.std.specs.Prelude.{◌≡◌, ◌≤◌, ◌<◌, IfOk, length, map, reverse};
 ghost use Rattle.cluster_rules.specs.Cluster.{applied_of};
 ghost use Rattle.cluster_rules.specs.Reached.{IsServerNumber};
-ghost use Rattle.cluster.specs.Taking.{TakesFirst};
+ghost use Rattle.script_player.specs.Servers.{TakesFirst};
+ghost use Rattle.cluster.specs.Taking.{Collects};
 
 use crate::cluster::Cluster;
 use cat_model::{Entry, List, Memory};
 use cat_outside::Keeper;
-use open_requests::Out;
+use open_requests::{Collected, Out};
 use script_player::History;
 use std::alloc::Global;
 
@@ -18,6 +19,14 @@ impl<K: Keeper> Cluster<K> {
         ensures { TakesFirst self.old self.new result }
     {
         self.requests.next_out()
+    }
+
+    /// Takes a request's reply or closing, or says what the request waits for. There is neither where it was taken
+    /// before or never asked.
+    pub fn collect(&mut self, number: u64) -> Collected
+        ensures { Collects number result self.old self.new }
+    {
+        self.requests.collect(number)
     }
 
     /// How many entries of the agreed log a server has applied.

@@ -1,7 +1,7 @@
 //! Where a request goes.
 
 ghost use Rattle.std.specs.Prelude.{◌≡◌, ◌<◌, ◌≤◌, ◌+◌, IfOk, None, Some, false, true, length, ℕ};
-ghost use Rattle.cluster_model.specs.Events.{IsTakenAsked};
+ghost use Rattle.script_runs.specs.Taken.{IsTakenAsked};
 ghost use Rattle.cluster_rules.specs.Cluster.{no_node, node_of, runs_leading};
 ghost use Rattle.cluster_rules.specs.Reached.{IsAgentNumber, IsServerNumber};
 ghost use Rattle.cluster_rules.specs.Requests.{Goes, asked_server, to_leader, way_of as rules_way};

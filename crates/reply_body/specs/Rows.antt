@@ -14,7 +14,7 @@ use Rattle.cat_model.specs.declared.row.Behavior.TheVariants as behavior
 use Rattle.cat_model.specs.declared.query.CheckView.{CheckView}
 use Rattle.cat_model.specs.declared.query.NameTags.{NameTags}
 use Rattle.cat_model.specs.declared.query.Instance.{Instance}
-use Rattle.cluster_model.specs.Bodies.{id_text}
+use Rattle.reply_body.specs.Bodies.{id_text}
 
 unfoldable pub names_data : List (List ℕ) → Data
 names_data names = array (items_of (map string names))

@@ -12,9 +12,15 @@ use Rattle.cat_model.specs.declared.command.Command.{Command}
 use Rattle.cat_model.specs.declared.command.Command.TheVariants.{SessionCreate, QuerySet, QueryDelete}
 use Rattle.cat_model.specs.declared.command.Verb.{Verb}
 use Rattle.cat_model.specs.declared.command.Verb.TheVariants as verb
+use Rattle.cat_model.specs.declared.reply.Form.TheVariants.{Json}
 use Rattle.cat_model.specs.declared.row.KvRow.{KvRow}
-use Rattle.cluster_model.specs.Bodies.{json, plain, id_text, row_data, shown_applied}
-use Rattle.cluster_model.specs.declared.shown.Shown.{Shown}
+use Rattle.reply_body.specs.Bodies.{json, plain, id_text, row_data}
+use Rattle.reply_body.specs.declared.shown.Shown.{Shown}
+
+-- whether a write was done
+abbrev pub shown_bool : Bool → Shown
+shown_bool true = record { status = 200; body = codes "true"; form = Json }
+shown_bool false = record { status = 200; body = codes "false"; form = Json }
 
 -- a new session or prepared query is shown by its identifier
 unfoldable pub id_data : ℕ → Data
@@ -26,7 +32,7 @@ shown_done (SessionCreate id name node checks behavior delay_ms ttl_ms) = json 2
 shown_done (QuerySet id true name session service only_passing tags dns_ttl_ms) = json 200 (id_data id)
 shown_done (QuerySet id false name session service only_passing tags dns_ttl_ms) = plain 200 []
 shown_done (QueryDelete id) = plain 200 []
-shown_done other = shown_applied Yes
+shown_done other = shown_bool true
 
 -- a refusal of the catalog
 abbrev pub shown_refuse : Refuse → Shown
@@ -79,8 +85,8 @@ failure_data op v = object
 
 abbrev pub shown_write : Command → Applied → Shown
 shown_write command Done = shown_done command
-shown_write command Yes = shown_applied Yes
-shown_write command No = shown_applied No
+shown_write command Yes = shown_bool true
+shown_write command No = shown_bool false
 shown_write command (Results results) = json 200 (results_data results)
 shown_write command (RolledBack op v) = json 409 (failure_data op v)
 shown_write command (Refused why) = shown_refuse why

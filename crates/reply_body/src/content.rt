@@ -1,31 +1,15 @@
 ghost use Rattle.std.specs.Prelude.{◌≡◌, IfOk};
-ghost use Rattle.reply_body.specs.Contents.{content_of, shown_content};
+ghost use Rattle.open_requests.specs.Contents.{content_of};
+ghost use Rattle.reply_body.specs.Contents.{shown_content};
 
+use crate::json::plain;
 use crate::reads::read_body;
 use crate::refusals::refusal_body;
+use crate::shown::Shown;
 use crate::writes::write_body;
-use cat_model::{Answer, Applied, Command, Memory, Query, Refusal};
-use cluster_model::Shown;
+use cat_model::Memory;
+use open_requests::Content;
 use std::alloc::Global;
-
-/// What a reply shows.
-#[derive(Debug, Drop)]
-pub enum Content {
-    /// The answer to a read. `raw` asks for the bytes of a key's value in place of its row.
-    Shows {
-        query: Query,
-        raw: bool,
-        answer: Answer,
-    },
-    /// The catalog's answer to a write, with the command as it was entered into the log.
-    Tells {
-        command: Command,
-        applied: Applied,
-    },
-    Says {
-        why: Refusal,
-    },
-}
 
 /// The status, body and form of what a reply shows.
 pub fn body(alloc: Global, content: &Content) -> Result<Shown, Memory>
@@ -34,6 +18,7 @@ pub fn body(alloc: Global, content: &Content) -> Result<Shown, Memory>
     match content {
         Content::Shows { query, raw, answer } => read_body(alloc, query, *raw, answer),
         Content::Tells { command, applied } => write_body(alloc, command, applied),
-        Content::Says { why } => refusal_body(alloc, why),
+        Content::Says(why) => refusal_body(alloc, why),
+        Content::Blank => plain(alloc, 500, ""),
     }
 }

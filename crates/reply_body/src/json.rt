@@ -5,10 +5,10 @@ ghost use Rattle.std.specs.Fn.{FnReturnsAt};
 ghost use Rattle.serde_json.specs.Data.{Data, array};
 ghost use Rattle.serde_json.specs.View.{view, items_of};
 ghost use Rattle.serde_json.specs.Written.{compact_text, has_float};
-ghost use Rattle.cluster_model.specs.Bodies as spec;
+ghost use Rattle.reply_body.specs.Bodies as spec;
 
+use crate::shown::Shown;
 use cat_model::{Bytes, Form, Memory};
-use cluster_model::Shown;
 use serde_json::Value;
 use std::alloc::{AllocError, Global};
 use uuid::Uuid;

@@ -9,9 +9,8 @@ mod reads;
 mod refusals;
 mod rows;
 mod sessions;
+mod shown;
 mod writes;
 
-pub use content::{Content, body};
-pub use reads::read_body;
-pub use refusals::refusal_body;
-pub use writes::write_body;
+pub use content::body;
+pub use shown::Shown;

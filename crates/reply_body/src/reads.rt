@@ -1,7 +1,7 @@
 //! What the answers to reads show.
 
 ghost use Rattle.std.specs.Prelude.{◌≡◌, IfOk};
-ghost use Rattle.cluster_model.specs.Bodies as spec;
+ghost use Rattle.reply_body.specs.Bodies as spec;
 ghost use Rattle.reply_body.specs.Rows.{node_data, check_data, session_data, query_data, instance_data, health_data, services_data, node_view_data};
 ghost use Rattle.reply_body.specs.Reads.{listed, shown_key, shown_tree, shown_listing, shown_instances, shown_other, shown_read};
 
@@ -10,10 +10,10 @@ use crate::json::{plain, written};
 use crate::named::{node_view_json, services_json};
 use crate::rows::{names_shown, rows_shown, value_shown};
 use crate::sessions::{queries_json, sessions_json};
+use crate::shown::Shown;
 use cat_model::{
     Answer, CheckView, Memory, NameTags, NodeRow, Query, QueryRow, ServiceRow, SessionRow, Text,
 };
-use cluster_model::Shown;
 use std::alloc::Global;
 
 fn key_shown(alloc: Global, raw: bool, answer: &Answer) -> Result<Shown, Memory>
@@ -143,7 +143,12 @@ fn other_shown(alloc: Global, answer: &Answer) -> Result<Shown, Memory>
 }
 
 /// What the answer to a read shows. `raw` asks for the bytes of a key's value in place of its row.
-pub fn read_body(alloc: Global, query: &Query, raw: bool, answer: &Answer) -> Result<Shown, Memory>
+pub(crate) fn read_body(
+    alloc: Global,
+    query: &Query,
+    raw: bool,
+    answer: &Answer,
+) -> Result<Shown, Memory>
     ensures { IfOk result (λ shown. shown ≡ shown_read query.now raw answer.now) }
 {
     match query {

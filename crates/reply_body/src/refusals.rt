@@ -1,23 +1,24 @@
 //! What refusals show.
 
 ghost use Rattle.std.specs.Prelude.{◌≡◌, ◌++◌, IfOk, codes};
-ghost use Rattle.cluster_model.specs.Bodies as spec;
+ghost use Rattle.reply_body.specs.Bodies.{plain as plain_text};
+ghost use Rattle.reply_body.specs.Refusals.{shown_refusal};
 
 use crate::json::plain;
+use crate::shown::Shown;
 use cat_model::{Memory, Refusal};
-use cluster_model::Shown;
 use std::alloc::Global;
 
 fn invalid(alloc: Global, field: &str) -> Result<Shown, Memory>
-    ensures { IfOk result (λ shown. shown ≡ spec.plain 400 (codes "Invalid " ++ field.now)) }
+    ensures { IfOk result (λ shown. shown ≡ plain_text 400 (codes "Invalid " ++ field.now)) }
 {
     let text = format!(in alloc; "Invalid {field}")?;
     plain(alloc, 400, text.as_str())
 }
 
 /// A refusal in plain text.
-pub fn refusal_body(alloc: Global, why: &Refusal) -> Result<Shown, Memory>
-    ensures { IfOk result (λ shown. shown ≡ spec.shown_refusal why.now) }
+pub(crate) fn refusal_body(alloc: Global, why: &Refusal) -> Result<Shown, Memory>
+    ensures { IfOk result (λ shown. shown ≡ shown_refusal why.now) }
 {
     match why {
         Refusal::Invalid { field } => invalid(alloc, field.as_str()),

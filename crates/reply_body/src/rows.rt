@@ -3,14 +3,14 @@
 ghost use Rattle.std.specs.Prelude.{◌≡◌, IfOk};
 ghost use Rattle.serde_json.specs.Data.{string};
 ghost use Rattle.serde_json.specs.View.{view};
-ghost use Rattle.cluster_model.specs.Bodies as spec;
+ghost use Rattle.reply_body.specs.Bodies as spec;
 ghost use Rattle.reply_body.specs.Rows.{names_data};
 ghost use Rattle.reply_body.specs.Reads.{shown_rows, shown_value, shown_names};
 
 use crate::json::{id_text, listed, plain, written};
+use crate::shown::Shown;
 use base64::engine::general_purpose::STANDARD;
 use cat_model::{Bytes, Form, KvRow, Memory, Text};
-use cluster_model::Shown;
 use serde_json::{Value, json};
 use std::alloc::{AllocError, Global};
 
@@ -26,7 +26,7 @@ fn value_json(alloc: Global, value: &[u8]) -> Result<Value, AllocError>
 }
 
 /// A row with this in place of its value.
-#[tactic(auto, unfolding(cluster_model::specs::Bodies::row_data))]
+#[tactic(auto, unfolding(crate::specs::Bodies::row_data))]
 pub(crate) fn row_json(alloc: Global, row: &KvRow) -> Result<Value, AllocError>
     ensures { IfOk result (λ json. view json ≡ spec.row_data row.now) }
 {
@@ -55,7 +55,7 @@ pub(crate) fn row_json(alloc: Global, row: &KvRow) -> Result<Value, AllocError>
     }
 }
 
-#[tactic(auto, unfolding(cluster_model::specs::Bodies::rows_data))]
+#[tactic(auto, unfolding(crate::specs::Bodies::rows_data))]
 fn rows_json(alloc: Global, rows: &[KvRow]) -> Result<Value, AllocError>
     ensures { IfOk result (λ json. view json ≡ spec.rows_data rows.now) }
 {

@@ -1,20 +1,19 @@
 //! What the catalog's answers to writes show.
 
-ghost use Rattle.std.specs.Prelude.{◌≡◌, ◌++◌, IfOk, codes};
+ghost use Rattle.std.specs.Prelude.{◌≡◌, ◌++◌, IfOk, codes, false, true};
 ghost use Rattle.serde_json.specs.View.{view};
-ghost use Rattle.cat_model.specs.declared.applied.Applied.TheVariants.{Yes, No};
-ghost use Rattle.cluster_model.specs.Bodies as spec;
-ghost use Rattle.reply_body.specs.Writes.{id_data, shown_row, result_data, results_data, failure_data, shown_done, shown_refuse, shown_write, verb_text};
+ghost use Rattle.reply_body.specs.Bodies as spec;
+ghost use Rattle.reply_body.specs.Writes.{id_data, shown_bool, shown_row, result_data, results_data, failure_data, shown_done, shown_refuse, shown_write, verb_text};
 
 use crate::json::{id_text, listed, plain, written};
 use crate::rows::row_json;
+use crate::shown::Shown;
 use cat_model::{Applied, Bytes, Command, Form, KvRow, List, Memory, Refuse, TxnResult, Verb};
-use cluster_model::Shown;
 use serde_json::{Value, json};
 use std::alloc::{AllocError, Global};
 
 fn yes(alloc: Global) -> Result<Shown, Memory>
-    ensures { IfOk result (λ shown. shown ≡ spec.shown_applied Yes) }
+    ensures { IfOk result (λ shown. shown ≡ shown_bool true) }
 {
     Ok(Shown {
         status: 200,
@@ -24,7 +23,7 @@ fn yes(alloc: Global) -> Result<Shown, Memory>
 }
 
 fn no(alloc: Global) -> Result<Shown, Memory>
-    ensures { IfOk result (λ shown. shown ≡ spec.shown_applied No) }
+    ensures { IfOk result (λ shown. shown ≡ shown_bool false) }
 {
     Ok(Shown {
         status: 200,
@@ -160,7 +159,11 @@ fn results_shown(alloc: Global, results: &List<TxnResult>) -> Result<Shown, Memo
 }
 
 /// What the catalog's answer to the command shows.
-pub fn write_body(alloc: Global, command: &Command, applied: &Applied) -> Result<Shown, Memory>
+pub(crate) fn write_body(
+    alloc: Global,
+    command: &Command,
+    applied: &Applied,
+) -> Result<Shown, Memory>
     ensures { IfOk result (λ shown. shown ≡ shown_write command.now applied.now) }
 {
     match applied {

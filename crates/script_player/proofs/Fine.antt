@@ -6,9 +6,9 @@ use Rattle.cat_model.specs.declared.request.Asked.TheVariants.{Good}
 use Rattle.cat_model.specs.declared.request.Event.{Event}
 use Rattle.cat_model.specs.declared.request.Event.TheVariants as event
 use Rattle.cat_model.specs.declared.request.Request.{Request}
-use Rattle.cluster_model.specs.declared.misfit.Misfit.{Misfit}
-use Rattle.cluster_model.specs.declared.misfit.Misfit.TheVariants.{NoServer, NoAgent, NoMessage, Clock}
-use Rattle.cluster_model.specs.Events.{IsTaken}
+use Rattle.script_runs.specs.declared.misfit.Misfit.{Misfit}
+use Rattle.script_runs.specs.declared.misfit.Misfit.TheVariants.{NoServer, NoAgent, NoMessage, Clock}
+use Rattle.script_runs.specs.Taken.{IsTaken}
 use Rattle.cluster_rules.specs.Cluster.{Cluster}
 use Rattle.script_lang.specs.Answers.{◌>>=◌}
 use Rattle.script_lang.specs.declared.bad_line.BadLine.{BadLine}

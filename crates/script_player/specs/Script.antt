@@ -1,7 +1,7 @@
 -- A script: the line that opens its cluster, and what each later line says.
 use Rattle.std.specs.Prelude.{ℕ, ◌+◌, if◌then◌else◌, List, [], ◌∷◌, Result, Ok, Err, codes}
-use Rattle.cluster_model.specs.declared.misfit.Misfit.{Misfit}
-use Rattle.cluster_model.specs.declared.misfit.Misfit.TheVariants.{NoServer, NoAgent, NoMessage, Clock}
+use Rattle.script_runs.specs.declared.misfit.Misfit.{Misfit}
+use Rattle.script_runs.specs.declared.misfit.Misfit.TheVariants.{NoServer, NoAgent, NoMessage, Clock}
 use Rattle.script_lang.specs.declared.bad_line.BadLine.{BadLine}
 use Rattle.script_lang.specs.declared.bad_line.BadLine.TheVariants as bad
 use Rattle.script_lang.specs.declared.line.Line.{Line}

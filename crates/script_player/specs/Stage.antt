@@ -5,7 +5,7 @@ use Rattle.cat_outside.specs.Causes.{Rose}
 use Rattle.cat_outside.specs.declared.faults.KeepFail.{KeepFail}
 use Rattle.cat_outside.specs.declared.faults.KeepFail.TheVariants as keep_fail
 use Rattle.cat_model.specs.declared.request.Event.{Event}
-use Rattle.cluster_model.specs.declared.misfit.Misfit.{Misfit}
+use Rattle.script_runs.specs.declared.misfit.Misfit.{Misfit}
 use Rattle.cluster_rules.specs.Replies.{Out}
 use Rattle.cluster_rules.specs.Cluster.{Cluster}
 use Rattle.cluster_rules.specs.Step.{ClusterStep}

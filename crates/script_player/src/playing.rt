@@ -17,11 +17,9 @@ use crate::report::Report;
 use crate::servers::{History, Servers};
 use crate::stage::{Played, play};
 use crate::text::{end_text, refused_text};
-use cat_model::{Bytes, List, Memory, Steps};
+use cat_model::{Bytes, List, Memory};
 use cat_outside::{KeepFail, Sink};
 use std::alloc::Global;
-use std::marker::Brand;
-use std::sync::ledger::{Blank, Ledger};
 
 /// Plays the script on servers of the type `S` that are started as its first line says, writes what its lines give and
 /// then a last line, and reports the run. There is no report where a line is refused: then the last line says which one,
@@ -37,7 +35,7 @@ pub fn play_script<S: Servers, Si: Sink>(
     ensures cause { MatchResult result (λ _. Si.faults sink.new ≡ Si.faults sink.old) (λ fail. CountsWrite fail (Si.faults sink.old) (Si.faults sink.new)) }
 {
     match open(alloc, script) {
-        Ok(opened) => play_opened::<S, Si, Brand>(alloc, sink, &opened, Blank::new(1)),
+        Ok(opened) => play_opened::<S, Si>(alloc, sink, &opened),
         Err(NotOpened::Refused(why)) => match write_refused(alloc, sink, why) {
             Ok(()) => Ok(None),
             Err(fail) => Err(fail),
@@ -46,16 +44,12 @@ pub fn play_script<S: Servers, Si: Sink>(
     }
 }
 
-// Plays the lines of an opened script. Nobody asks for the count of its steps.
-fn play_opened<S: Servers, Si: Sink, L: Ledger>(
+// Plays the lines of an opened script.
+fn play_opened<S: Servers, Si: Sink>(
     alloc: Global,
     sink: &mut Si,
     opened: &Opened,
-    blank: Blank,
 ) -> Result<Option<Report>, KeepFail>
-    requires name { blank.name ≡ L.name }
-    requires parts { blank.parts ≡ L.parts }
-    requires some { 0 < L.parts }
     requires few { opened.now.next + length opened.now.lines.now < 2 ^ 30 }
     requires bounds { IsOpening opened.now.opening }
     ensures run { IfOk result (λ r. MatchOption r
@@ -64,7 +58,6 @@ fn play_opened<S: Servers, Si: Sink, L: Ledger>(
     ensures part { OnErr result (Appends (Si.held sink.old) (Si.held sink.new) [] ⊎ PartOfRun (script.Opened opened.now.opening opened.now.next (lines_of opened.now.lines.now)) (Si.held sink.old) (Si.held sink.new)) }
     ensures cause { MatchResult result (λ _. Si.faults sink.new ≡ Si.faults sink.old) (λ fail. CountsWrite fail (Si.faults sink.old) (Si.faults sink.new)) }
 {
-    let mut steps: Steps<L> = Steps::new(blank);
     let opening = opened.opening;
     let Ok(mut servers) = S::start(alloc, opening.servers, opening.agents) else {
         return Err(KeepFail::Memory);
@@ -73,7 +66,6 @@ fn play_opened<S: Servers, Si: Sink, L: Ledger>(
         alloc,
         sink,
         &mut servers,
-        &mut steps,
         opening.seed,
         opened.next,
         opened.lines,

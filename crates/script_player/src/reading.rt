@@ -6,8 +6,8 @@ ghost use Rattle.script_player.specs.Stage.{IsFine, IsWorded, IsRead};
 
 use crate::servers::Servers;
 use cat_model::{Event, Memory};
-use cluster_model::Misfit;
 use script_lang::{BadLine, Line, opens_cluster, read_line};
+use script_runs::Misfit;
 use std::alloc::Global;
 
 /// What a line after the opening says: nothing, an event, a settling of at most so many messages, or why it is refused.

@@ -5,11 +5,10 @@ ghost use Rattle.script_runs.specs.Lines.{misfit};
 ghost use Rattle.script_runs.specs.Holds.{IsFirstStart};
 ghost use Rattle.script_player.specs.Servers.{IsPlayed, SettlesTo, TakesFirst, held_numbers};
 
-use cat_model::{Entry, Event, List, Mark, Memory, Steps};
-use cluster_model::Misfit;
+use cat_model::{Entry, Event, List, Mark, Memory};
 use open_requests::Out;
+use script_runs::Misfit;
 use std::alloc::Global;
-use std::sync::ledger::Ledger;
 
 /// What servers leave.
 #[derive(Debug, Drop)]
@@ -38,23 +37,13 @@ pub trait Servers: Drop {
         ensures { MatchResult result (λ _. misfit (state self.now) event.now ≡ None) (λ why. misfit (state self.now) event.now ≡ Some why) };
 
     /// Makes the event, whole. What it gives waits to be taken.
-    fn step<L: Ledger>(
-        &mut self,
-        alloc: Global,
-        event: Event,
-        steps: &mut Steps<L>,
-    ) -> Result<(), Memory>
+    fn step(&mut self, alloc: Global, event: Event) -> Result<(), Memory>
         requires fits { misfit (state self.old) event ≡ None }
         requires built { IsPlayed event }
         ensures { OnOk result (ClusterStep (state self.old) event (state self.new) true) };
 
     /// Delivers messages and then loses them, the lowest first: so many, or until none is left. Says how many.
-    fn settle<L: Ledger>(
-        &mut self,
-        alloc: Global,
-        most: u32,
-        steps: &mut Steps<L>,
-    ) -> Result<u32, Memory>
+    fn settle(&mut self, alloc: Global, most: u32) -> Result<u32, Memory>
         ensures { IfOk result (SettlesTo most (state self.old) (state self.new)) };
 
     /// Takes the first out that waits, and marks that a request's was taken.

@@ -16,12 +16,11 @@ use crate::reading::{Says, said_by};
 use crate::refused::Refused;
 use crate::servers::Servers;
 use crate::text::line_of_out;
-use cat_model::{Bytes, Event, Memory, Steps};
+use cat_model::{Bytes, Event, Memory};
 use cat_outside::{KeepFail, Sink};
 use open_requests::Out;
 use script_lang::BadLine;
 use std::alloc::Global;
-use std::sync::ledger::Ledger;
 
 /// What a line did: so many events, or it is refused.
 #[derive(Clone, Copy, Debug)]
@@ -38,11 +37,10 @@ pub struct Played {
 }
 
 /// Plays the lines after the opening, the first of them with the number `first`.
-pub fn play<S: Servers, Si: Sink, L: Ledger>(
+pub fn play<S: Servers, Si: Sink>(
     alloc: Global,
     sink: &mut Si,
     servers: &mut S,
-    steps: &mut Steps<L>,
     seed: u64,
     first: u64,
     lines: &[u8],
@@ -57,7 +55,7 @@ pub fn play<S: Servers, Si: Sink, L: Ledger>(
     let mut events: u64 = 0;
     while !rest.is_empty() {
         let (line, after) = split_at_byte(rest, b'\n');
-        match play_line(alloc, sink, servers, steps, seed, line) {
+        match play_line(alloc, sink, servers, seed, line) {
             Ok(Turn::Made(made)) => events += made,
             Ok(Turn::Refused(reason)) => {
                 return Ok(Played {
@@ -80,11 +78,10 @@ pub fn play<S: Servers, Si: Sink, L: Ledger>(
 }
 
 // Plays one line.
-fn play_line<S: Servers, Si: Sink, L: Ledger>(
+fn play_line<S: Servers, Si: Sink>(
     alloc: Global,
     sink: &mut Si,
     servers: &mut S,
-    steps: &mut Steps<L>,
     seed: u64,
     line: &[u8],
 ) -> Result<Turn, KeepFail>
@@ -95,11 +92,11 @@ fn play_line<S: Servers, Si: Sink, L: Ledger>(
 {
     match said_by(alloc, servers, seed, line) {
         Ok(Says::Nothing) => Ok(Turn::Made(0)),
-        Ok(Says::Makes(event)) => match make(alloc, sink, servers, steps, event) {
+        Ok(Says::Makes(event)) => match make(alloc, sink, servers, event) {
             Ok(()) => Ok(Turn::Made(1)),
             Err(fail) => Err(fail),
         },
-        Ok(Says::Settles(most)) => match settle(alloc, sink, servers, steps, most) {
+        Ok(Says::Settles(most)) => match settle(alloc, sink, servers, most) {
             Ok(pairs) => Ok(Turn::Made(2 * u64::from(pairs))),
             Err(fail) => Err(fail),
         },
@@ -110,11 +107,10 @@ fn play_line<S: Servers, Si: Sink, L: Ledger>(
 
 // Makes the event, and writes what it gives.
 #[tactic(auto, using(crate::proofs::Turning::none_first))]
-fn make<S: Servers, Si: Sink, L: Ledger>(
+fn make<S: Servers, Si: Sink>(
     alloc: Global,
     sink: &mut Si,
     servers: &mut S,
-    steps: &mut Steps<L>,
     event: Event,
 ) -> Result<(), KeepFail>
     requires fits { misfit (S.state servers.old) event ≡ None }
@@ -123,25 +119,24 @@ fn make<S: Servers, Si: Sink, L: Ledger>(
     ensures part { OnErr result (WritesFirst (λ outs. (c : Cluster) × MakesTo (S.state servers.old) event c outs) (Si.held sink.old) (Si.held sink.new)) }
     ensures cause { MatchResult result (λ _. Si.faults sink.new ≡ Si.faults sink.old) (λ fail. CountsWrite fail (Si.faults sink.old) (Si.faults sink.new)) }
 {
-    match servers.step(alloc, event, steps) {
+    match servers.step(alloc, event) {
         Ok(()) => write_outs(alloc, sink, servers),
         Err(Memory) => Err(KeepFail::Memory),
     }
 }
 
 // Settles, and writes what it gives. Says how many messages were delivered.
-fn settle<S: Servers, Si: Sink, L: Ledger>(
+fn settle<S: Servers, Si: Sink>(
     alloc: Global,
     sink: &mut Si,
     servers: &mut S,
-    steps: &mut Steps<L>,
     most: u32,
 ) -> Result<u32, KeepFail>
     ensures made { IfOk result (λ pairs. WritesAll (SettlesAll (S.state servers.old) most pairs (S.state servers.new)) (Si.held sink.old) (Si.held sink.new)) }
     ensures part { OnErr result (WritesFirst (λ outs. (pairs : ℕ) × (c : Cluster) × SettlesAll (S.state servers.old) most pairs c outs) (Si.held sink.old) (Si.held sink.new)) }
     ensures cause { MatchResult result (λ _. Si.faults sink.new ≡ Si.faults sink.old) (λ fail. CountsWrite fail (Si.faults sink.old) (Si.faults sink.new)) }
 {
-    match servers.settle(alloc, most, steps) {
+    match servers.settle(alloc, most) {
         Ok(pairs) => match write_outs(alloc, sink, servers) {
             Ok(()) => Ok(pairs),
             Err(fail) => Err(fail),

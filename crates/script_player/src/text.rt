@@ -1,38 +1,20 @@
 ghost use Rattle.std.specs.Prelude.{◌≡◌, IfOk};
 ghost use Rattle.script_lang.specs.Text.{out_text, reason_text, end_text as end_text_of};
-ghost use Rattle.open_requests.specs.Contents.{content_of, out_of};
-ghost use Rattle.reply_body.specs.Contents.{shown_content};
+ghost use Rattle.open_requests.specs.Contents.{out_of};
 ghost use Rattle.script_player.specs.Text as spec;
 
 use crate::refused::Refused;
-use cat_model::{Bytes, Form, Memory, Out, Reply};
-use cluster_model::Shown;
-use open_requests::{Content, Given};
-use reply_body::{read_body, refusal_body, write_body};
+use cat_model::{Bytes, Memory, Out, Reply};
+use open_requests::Given;
+use reply_body::{Shown, body};
 use script_lang::{print_end, print_out, print_refused};
 use std::alloc::Global;
-
-// The status, body and form of what a reply shows.
-fn shown_by(alloc: Global, content: &Content) -> Result<Shown, Memory>
-    ensures { IfOk result (λ shown. shown ≡ shown_content (content_of content.now)) }
-{
-    match content {
-        Content::Shows { query, raw, answer } => read_body(alloc, query, *raw, answer),
-        Content::Tells { command, applied } => write_body(alloc, command, applied),
-        Content::Says(why) => refusal_body(alloc, why),
-        Content::Blank => Ok(Shown {
-            status: 500,
-            body: Bytes::new(alloc, b"")?,
-            form: Form::Plain,
-        }),
-    }
-}
 
 // The reply with the status, body and form of its content.
 fn given_reply(alloc: Global, reply: &open_requests::Reply) -> Result<Reply, Memory>
     ensures { IfOk result (λ r. r ≡ spec.given_reply reply.now) }
 {
-    let Shown { status, body, form } = shown_by(alloc, reply.content())?;
+    let Shown { status, body, form } = body(alloc, reply.content())?;
     Ok(Reply {
         number: reply.number(),
         status,

@@ -5,8 +5,8 @@ use Rattle.cat_model.specs.declared.request.Event.{Event}
 use Rattle.cat_model.specs.declared.request.Event.TheVariants as event
 use Rattle.raft_model.specs.World.{Packet, numbered}
 use Rattle.raft_model.proofs.Tests.{at_bool, and_tells, le_tells, lt_tells}
-use Rattle.cluster_model.specs.declared.misfit.Misfit.{Misfit}
-use Rattle.cluster_model.specs.declared.misfit.Misfit.TheVariants.{NoServer, NoAgent, NoMessage, Clock}
+use Rattle.script_runs.specs.declared.misfit.Misfit.{Misfit}
+use Rattle.script_runs.specs.declared.misfit.Misfit.TheVariants.{NoServer, NoAgent, NoMessage, Clock}
 use Rattle.cluster_rules.specs.Cluster.{Cluster, clock_of}
 use Rattle.cluster_rules.specs.Reached.{Fits, IsAgentNumber, IsServerNumber, IsUnderWay}
 use Rattle.script_runs.specs.Lines.{agent_misfit, clock_misfit, message_misfit, misfit, server_misfit}

@@ -1,3 +1,4 @@
+pub mod Taken
 pub mod Lines
 pub mod Plays
 pub mod Holds

@@ -3,8 +3,8 @@ use Rattle.std.specs.Prelude.{ℕ, ◌+◌, ◌^◌, nat_le, nat_lt, ◌&&◌, i
 use Rattle.cat_model.specs.declared.request.Event.{Event}
 use Rattle.cat_model.specs.declared.request.Event.TheVariants as event
 use Rattle.raft_model.specs.World.{numbered}
-use Rattle.cluster_model.specs.declared.misfit.Misfit.{Misfit}
-use Rattle.cluster_model.specs.declared.misfit.Misfit.TheVariants.{NoServer, NoAgent, NoMessage, Clock}
+use Rattle.script_runs.specs.declared.misfit.Misfit.{Misfit}
+use Rattle.script_runs.specs.declared.misfit.Misfit.TheVariants.{NoServer, NoAgent, NoMessage, Clock}
 use Rattle.cluster_rules.specs.Cluster.{Cluster, clock_of}
 
 -- What a line says: nothing, an event, at most so many deliveries each followed by the message's loss, or that it is

@@ -3,7 +3,7 @@ use Rattle.std.specs.Prelude.{◌≡◌, ◌⊎◌, ◌≤◌, ℕ, suc, true, L
 use Rattle.cat_model.specs.declared.request.Event.{Event}
 use Rattle.cat_model.specs.declared.reply.Mark.{Mark}
 use Rattle.cat_model.specs.declared.reply.Mark.TheVariants as mark
-use Rattle.cluster_model.specs.declared.misfit.Misfit.{Misfit}
+use Rattle.script_runs.specs.declared.misfit.Misfit.{Misfit}
 use Rattle.cluster_rules.specs.Replies.{Out, number_of}
 use Rattle.cluster_rules.specs.Cluster.{Cluster}
 use Rattle.cluster_rules.specs.Step.{ClusterStep}

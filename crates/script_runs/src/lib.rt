@@ -2,3 +2,6 @@
 #![tactic(auto)]
 
 pub mod laws;
+mod misfit;
+
+pub use misfit::Misfit;

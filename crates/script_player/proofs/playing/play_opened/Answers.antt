@@ -11,6 +11,6 @@ returns-in-Ok-play-clause-part g c =
     run_broke c.finish.result c.args.opened.now.opening _ _ _ _ _ _ _ _ c.in-Ok-play.played.refused c.in-Ok.ensures.first c.in-Ok.ensures.servers c.in-Ok.ensures.agents
     c.in-Ok-play.ensures.plays c.finish.ensures.part
 
-pub returns-clause-part : goal.returns-clause-part
-returns-clause-part g c =
+pub returns-in-Err-clause-part : goal.returns-in-Err-clause-part
+returns-in-Err-clause-part g c =
     play_broke c.args.opened.now.opening _ _ _ _ _ c.in-Ok.ensures.first c.in-Ok.ensures.servers c.in-Ok.ensures.agents c.in-Err.ensures.part

@@ -1,5 +1,0 @@
-use Rattle.script_runs.proofs.Fitting.{event_fits}
-use Rattle.cluster.proofs.playing.ClusterMemKeeperServers.step.Goals as goal
-
-pub make-requires-clause-fits : goal.make-requires-clause-fits
-make-requires-clause-fits g c = event_fits c.args.self.now c.args.event c.requires.fits
