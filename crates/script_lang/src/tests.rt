@@ -102,9 +102,10 @@ fn printed_lines(rt: HostRuntime) -> Result<(), Fail> {
     };
     print_out(rt.alloc(), &synced, &mut text)?;
     print_refused(rt.alloc(), 3, BadLine::NoSuchServer, &mut text)?;
+    print_refused(rt.alloc(), 4, BadLine::ClockTooFar, &mut text)?;
     print_end(rt.alloc(), 2, &[5, 6], &mut text)?;
     let want =
-        "#3 404 1 a\\\\\\x00\n#4 closed\nsync 1 no leader\nline 3: no such server\nend log 2 open 2 5 6\n";
+        "#3 404 1 a\\\\\\x00\n#4 closed\nsync 1 no leader\nline 3: no such server\nline 4: clock too far\nend log 2 open 2 5 6\n";
     assert_eq!(rt; text.as_slice(), want.as_bytes());
     Ok(())
 }
