@@ -8,7 +8,7 @@ use Rattle.cat_model.specs.declared.request.Request.TheVariants.{Write}
 use Rattle.cat_model.specs.declared.request.Asked.{Asked}
 use Rattle.cat_model.specs.declared.request.Asked.TheVariants.{Good}
 use Rattle.cat_model.specs.declared.reply.Kind.{Kind}
-use Rattle.cat_model.specs.declared.reply.Kind.TheVariants.{Acked, At, Refused}
+use Rattle.cat_model.specs.declared.reply.Kind.TheVariants.{Acked, At, Seen, Refused}
 use Rattle.cat_model.specs.declared.reply.Mark.TheVariants as mark
 use Rattle.cat_model.specs.declared.reply.Refusal.TheVariants as refusal
 use Rattle.raft_model.specs.World.{World, Reaches}
@@ -60,3 +60,6 @@ found_none c s k l = s.none_lost k ∙ ap one_if (beyond k c.asked l)
   where
     beyond : (k n : ℕ) → n < k → (nat_lt 0 k && nat_le k n) ≡ false
     beyond k n l = grind (arith, nat_tests)
+
+pub run_fresh : (c : Cluster) → Sound c → (number prefix : ℕ) (known : Bool) (contact : ℕ) → IsAmong (mark.Answered number (Seen Consistent prefix) known contact) c.past → entries_before number c.past ≤ prefix
+run_fresh c s number prefix known contact m = (told c s number (Seen Consistent prefix) known contact m).fresh

@@ -51,6 +51,7 @@ due_not n c i a w e = due_cases c i (WorkIsNot n) (λ (h : Pending). h.question.
       answers = λ _ _ _ _ _ _ _ _ _ _. other;
       refuses = λ _ _ _ _ _ _ _ _ _ _ _. other;
       sees = λ _ _ _ _ _ _ _ _ _ _ _. l;
+      runs = λ _ _ _ _ _ _ _. other;
       turns = λ _ _ _ _ _ _. l;
     }
       where
@@ -105,8 +106,10 @@ goes_leading w a i (Good (Read query Default least wait raw)) e st = leads_at w 
 goes_leading w a i (Good (Read query Consistent least wait raw)) e st = leads_at w a i e
 goes_leading w a i (Good (Read query Stale least wait raw)) e st = absurd (cc st)
 goes_leading w a i (Good (Write command)) e st = leads_at w a i e
-goes_leading w a i (Good (Execute name limit mode)) e st = absurd (no_way _ e)
-goes_leading w a i (Good (Renew id)) e st = absurd (no_way _ e)
+goes_leading w a i (Good (Execute name limit Default)) e st = leads_at w a i e
+goes_leading w a i (Good (Execute name limit Consistent)) e st = leads_at w a i e
+goes_leading w a i (Good (Execute name limit Stale)) e st = absurd (cc st)
+goes_leading w a i (Good (Renew id)) e st = leads_at w a i e
 goes_leading w a i (Good (Agent op)) e st = absurd (no_way _ e)
 goes_leading w a i (Bad why) e st = absurd (no_goes why i e)
 
@@ -114,8 +117,8 @@ goes_leading w a i (Bad why) e st = absurd (no_goes why i e)
 pub unready_refused : (w : World) (a i : ℕ) (asked : Asked) (term applied : ℕ) → way w a asked ≡ Some (Goes i) → is_stale_read asked ≡ false → applied < term → IsRefused asked (refusal.NotReady term applied)
 unready_refused w a i (Good (Read query mode least wait raw)) term applied e st l = (st, l)
 unready_refused w a i (Good (Write command)) term applied e st l = l
-unready_refused w a i (Good (Execute name limit mode)) term applied e st l = absurd (no_way _ e)
-unready_refused w a i (Good (Renew id)) term applied e st l = absurd (no_way _ e)
+unready_refused w a i (Good (Execute name limit mode)) term applied e st l = (st, l)
+unready_refused w a i (Good (Renew id)) term applied e st l = (refl, l)
 unready_refused w a i (Good (Agent op)) term applied e st l = absurd (no_way _ e)
 unready_refused w a i (Bad why) term applied e st l = absurd (no_goes why i e)
 
@@ -160,6 +163,14 @@ now_refused w r a q (Good (Write command)) why e = at_once w r a false why (IsRi
   none = λ st b d. ((d, tt), λ _ _ _. tt);
   held = λ st b l d f. ((d, f), λ _ _ _. tt);
 }) e
-now_refused w r a q (Good (Execute name limit mode)) why e = absurd (no_way _ e)
-now_refused w r a q (Good (Renew id)) why e = absurd (no_way _ e)
+now_refused w r a q (Good (Execute name limit mode)) why e = at_once w r a (is_stale mode) why (IsRightRefusal q (Good (Execute name limit mode))) (record {
+  halted = λ b. (tt, λ _ _ _. tt);
+  none = λ st b d. ((st, d, tt), λ _ _ _. tt);
+  held = λ st b l d f. ((st, d, f), λ _ _ _. tt);
+}) e
+now_refused w r a q (Good (Renew id)) why e = at_once w r a false why (IsRightRefusal q (Good (Renew id))) (record {
+  halted = λ b. (tt, λ _ _ _. tt);
+  none = λ st b d. ((st, d, tt), λ _ _ _. tt);
+  held = λ st b l d f. ((st, d, f), λ _ _ _. tt);
+}) e
 now_refused w r a q (Good (Agent op)) why e = absurd (no_way _ e)

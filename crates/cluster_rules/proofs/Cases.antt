@@ -1,5 +1,5 @@
 -- All the ways in which something is due at a server, for any fact on works.
-use Rattle.std.proofs.Common.{◌≡◌, ℕ, ◌<◌, ◌≤◌, ◌⊎◌, inl, inr, Bool, true, false, cond, not, length, refl, subst, Option, Some, None}
+use Rattle.std.proofs.Common.{◌≡◌, ℕ, ◌<◌, ◌≤◌, ◌⊎◌, inl, inr, Bool, true, false, cond, not, List, length, refl, subst, Option, Some, None}
 use Rattle.std.specs.Prelude.{◌==◌, nat_lt, nat_le, ◌&&◌, ◌||◌}
 use Rattle.std.specs.List.{AllByRecursion as Each}
 use Rattle.cat_model.specs.declared.query.Query.{Query}
@@ -7,7 +7,7 @@ use Rattle.cat_model.specs.declared.request.Mode.{Mode}
 use Rattle.cat_model.specs.declared.request.Request.TheVariants.{Read, Execute, Write, Renew, Agent}
 use Rattle.cat_model.specs.declared.request.Asked.{Asked}
 use Rattle.cat_model.specs.declared.request.Asked.TheVariants.{Good, Bad}
-use Rattle.cat_model.specs.declared.reply.Kind.TheVariants.{At, Refused}
+use Rattle.cat_model.specs.declared.reply.Kind.TheVariants.{At, Seen, Refused}
 use Rattle.cat_model.specs.declared.reply.Refusal.TheVariants as refusal
 use Rattle.cat_model.specs.Indexes.{index_of}
 use Rattle.cat_model.specs.Log.{commands_of}
@@ -31,6 +31,8 @@ pub record Leaves (c : Cluster) (i : ℕ) (P : Work → Type 0) (h : Pending) : 
       index_of query (commands_of (applied_of c i)) ≤ least → clock_of c.world i < deadline → 4096 ≤ waiting i c.held → P (Replies h.question (Refused (refusal.TooMany (waiting i c.held))))
   pub sees : (deadline : ℕ) (seen : Option ℕ) (query : Query) (mode : Mode) (least wait : ℕ) (raw : Bool) → h.stand ≡ ForIndex deadline seen → h.question.asked ≡ Good (Read query mode least wait raw) →
       index_of query (commands_of (applied_of c i)) ≤ least → was_seen seen (length (applied_of c i)) ≡ false → P (Holds (record h { stand = ForIndex deadline (Some (length (applied_of c i))) }))
+  pub runs : (deadline : ℕ) (seen : Option ℕ) (name : List ℕ) (limit : ℕ) (mode : Mode) → h.stand ≡ ForIndex deadline seen → h.question.asked ≡ Good (Execute name limit mode) →
+      P (Replies h.question (Seen mode (length (applied_of c i))))
   pub turns : (round : Round) (deadline : ℕ) → h.stand ≡ InRound round deadline → (node_of c.world i).halted ≡ false → is_confirmed (node_of c.world i) round ≡ true → round.commit ≤ length (applied_of c i) → P (Holds (record h { stand = ForIndex deadline None }))
 
 pub some_work : (w v : Work) → Some w ≡ Some v → w ≡ v
@@ -75,7 +77,7 @@ module _ (c : Cluster) (i : ℕ) (P : Work → Type 0) where
       clock : ℕ
       clock = clock_of c.world i
   read_case h l deadline seen st (Good (Write command)) ask w = is_none w
-  read_case h l deadline seen st (Good (Execute name limit mode)) ask w = is_none w
+  read_case h l deadline seen st (Good (Execute name limit mode)) ask w = is_it _ w (l.runs deadline seen name limit mode st ask)
   read_case h l deadline seen st (Good (Renew id)) ask w = is_none w
   read_case h l deadline seen st (Good (Agent op)) ask w = is_none w
   read_case h l deadline seen st (Bad why) ask w = is_none w

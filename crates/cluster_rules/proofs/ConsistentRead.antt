@@ -1,13 +1,12 @@
 -- A consistent read at one server, computed step by step.
 use Rattle.std.proofs.Common.{arith, inr}
-use Rattle.std.specs.Prelude.{◌≢◌, [], None, refl, codes, false, true}
+use Rattle.std.specs.Prelude.{◌≢◌, [], None, refl, true}
 use Rattle.cat_model.specs.Tables.{put}
 use Rattle.cat_model.specs.Same.{same_kv}
 use Rattle.cat_model.specs.Catalog.{same_catalog}
 use Rattle.cat_model.specs.Machine.{broken, act, unless, end_sessions, apply, at_past}
 use Rattle.cat_model.specs.Queries.{reads, answer_from}
 use Rattle.cat_model.specs.Indexes.{some_vanishes, touches, past_index}
-use Rattle.cat_model.specs.declared.query.Query.TheVariants as query
 use Rattle.cat_model.specs.declared.request.Mode.TheVariants.{Consistent}
 use Rattle.cat_model.specs.declared.request.Event.TheVariants as event
 use Rattle.cat_model.specs.declared.reply.Kind.TheVariants.{At}
@@ -18,7 +17,7 @@ use Rattle.raft_model.specs.Runs.{fresh, given, saved, empty_store}
 use Rattle.raft_model.specs.Step.{Works as StoreWorks, Forgets}
 use Rattle.raft_model.specs.World.{World, Acts as NodeActs, nothing_kept}
 use Rattle.cluster_rules.specs.Replies.{Question, entered, shown}
-use Rattle.cluster_rules.specs.Cluster.{Pending, InRound, ForIndex, Probed, Cluster, started, node_of}
+use Rattle.cluster_rules.specs.Cluster.{Pending, InRound, ForIndex, Probed, Cluster, started, node_of, seated}
 use Rattle.cluster_rules.specs.Due.{Replies, Holds, Applies, did, none, work, next_one, early, late}
 use Rattle.cluster_rules.specs.Requests.{holding, moved, probes as probes_it}
 use Rattle.cluster_rules.specs.Step.{marked, shelved, takes, handles, act as acts, over, done as whole_step, ClusterStep}
@@ -30,7 +29,7 @@ led : World
 led = given (fresh 1) 1 Timeout
 
 one : Cluster
-one = moved 1 led (marked (event.Timeout 1) (started (fresh 1) 1))
+one = seated (fresh 1) 1 (moved 1 led (marked (event.Timeout 1) (started (fresh 1) 1)))
 
 two : Cluster
 two = shelved (did 1 Applies one)
@@ -91,7 +90,7 @@ first_step = whole_step 1 (marked (event.Timeout 1) (started (fresh 1) 1)) (did 
 second_step : ClusterStep two (event.Ask 1 sure_a drawn) (shelved four) true
 unfolding four looks three round asked_all reader two one led given fresh done does timed_out candidate leads probes did entered shown put same_kv same_catalog act unless broken end_sessions apply at_past reads touches some_vanishes past_index answer_from probe
 second_step = whole_step 1 (marked (event.Ask 1 sure_a drawn) two) four (none, refl)
-    (acts three four (handles 1 sure_a drawn refl refl refl (probes_it (query.Key (codes "a")) 0 0 false asked_all refl (inr refl) probe refl)) tt
+    (acts three four (handles 1 sure_a drawn refl refl refl (probes_it 0 asked_all refl (inr refl) probe refl)) tt
     (work (Holds looks) (late refl refl [] [] _ refl refl) (work (Replies reader (At Consistent 1 1 0 300000)) (early [] [] looks refl refl) none), refl) (over refl)) refl
 
 pub consistent_run : ConsistentRun

@@ -3,17 +3,17 @@ use Rattle.std.proofs.Common.{◌≡◌, ◌≢◌, ℕ, suc, ◌+◌, ◌≤◌
 use Rattle.std.specs.Prelude.{◌==◌, nat_lt, nat_le, ◌&&◌}
 use Rattle.std.specs.List.{AllByRecursion as Each}
 use Rattle.std.proofs.lemmas.Bool.Decides.{nat_tests}
-use Rattle.cat_model.specs.declared.reply.Kind.TheVariants.{Refused}
+use Rattle.cat_model.specs.declared.reply.Kind.{Kind}
 use Rattle.cat_model.specs.declared.reply.Mark.{Mark}
 use Rattle.cat_model.specs.declared.reply.Mark.TheVariants as mark
-use Rattle.cat_model.specs.declared.reply.Refusal.{Refusal}
 use Rattle.raft_model.specs.Log.{Log}
 use Rattle.raft_model.specs.World.{World}
 use Rattle.raft_model.proofs.Tests.{at_bool, eq_tells}
-use Rattle.cluster_rules.specs.Replies.{Question, Out, Replied, number_of, reply_of}
+use Rattle.cluster_rules.specs.Replies.{Question, Out, Replied, Synced, number_of, reply_of}
+use Rattle.cluster_rules.specs.Proposals.{synced}
 use Rattle.cluster_rules.specs.Cluster.{Stand, ForIndex, Ended, Pending, Start, Cluster, applied_of}
-use Rattle.cluster_rules.specs.Due.{Work, Replies, Holds, Closes, Applies, without, with_held, is_before, put_out, did, IsDue, Works, none, work}
-use Rattle.cluster_rules.specs.Requests.{entries_past, halts_past, joined, moved_with, holding, refused}
+use Rattle.cluster_rules.specs.Due.{Work, Replies, Holds, Closes, Applies, without, with_held, is_before, put_out, answered, did, IsDue, Works, none, work}
+use Rattle.cluster_rules.specs.Requests.{entries_past, halts_past, joined, moved_with, holding}
 use Rattle.cluster_rules.specs.Step.{events_in, ended, begun_anew}
 use Rattle.cluster_rules.specs.Sound.{IsAmong, one_if, is_of, held_times, out_times, taken_times, found, NoneLost}
 use Rattle.cluster_rules.proofs.Cases.{due_cases}
@@ -133,6 +133,7 @@ module _ (n : ℕ) (c : Cluster) (lost : NoneLost n c) where
         answers = λ _ _ _ _ _ _ _ _ _ _. gives h.question.number _ refl l;
         refuses = λ _ _ _ _ _ _ _ _ _ _ _. gives h.question.number _ refl l;
         sees = λ deadline _ _ _ _ _ _ _ _ _ _. λ k. keeps k (record h { stand = ForIndex deadline (Some (length (applied_of c i))) });
+        runs = λ _ _ _ _ _ _ _. gives h.question.number _ refl l;
         turns = λ _ deadline _ _ _ _. λ k. keeps k (record h { stand = ForIndex deadline None });
       })
       (λ _ k. refl) w d
@@ -165,6 +166,10 @@ restart_keeps failed i w' c k =
     let e = ended_times k i (events_in (moved_with failed i w' c).past) c.held in
     let m = moved_keeps failed i w' c k in
     omega (arith, e, m)
+
+-- the out of a sync is of no request
+pub synced_keeps : (a : ℕ) (count : Option ℕ) (c : Cluster) (k : ℕ) → found k (synced a count c) ≡ found k c
+synced_keeps a count c k = let p = put_times k (Synced a count) c.fresh in omega (arith, p)
 
 -- the next request is in its place
 next_place : (n k : ℕ) → one_if (nat_lt 0 k && nat_le k n) + one_if (suc n == k) ≡ one_if (nat_lt 0 k && nat_le k (suc n))
@@ -206,10 +211,10 @@ holding_places n c q i stand start e l k =
     let f = l k in
     omega (arith, a, m, f) ∙ next_place n k
 
--- or is refused
-pub refused_places : (n : ℕ) (c : Cluster) (q : Question) (why : Refusal) → q.number ≡ suc n → NoneLost n c → NoneLost (suc n) (refused q why c)
-refused_places n c q why e l k =
-    let p = put_times k (Replied (reply_of q (Refused why) false 0 [])) c.fresh in
+-- or is answered
+pub answered_places : (n : ℕ) (c : Cluster) (q : Question) (kind : Kind) (log : Log) → q.number ≡ suc n → NoneLost n c → NoneLost (suc n) (answered q kind false 0 log c)
+answered_places n c q kind log e l k =
+    let p = put_times k (Replied (reply_of q kind false 0 log)) c.fresh in
     let m = ap (λ z. one_if (z == k)) e in
     let f = l k in
     let w = at_bool (λ b. (q.number == k) ≡ b → held_times k (without q.number c.held) ≡ held_times k c.held) (q.number == k)

@@ -10,7 +10,7 @@ use Rattle.cat_model.specs.declared.request.Mode.TheVariants.{Consistent}
 use Rattle.cat_model.specs.declared.request.Request.TheVariants.{Read, Execute, Write, Renew, Agent}
 use Rattle.cat_model.specs.declared.request.Asked.{Asked}
 use Rattle.cat_model.specs.declared.request.Asked.TheVariants.{Good, Bad}
-use Rattle.cat_model.specs.declared.reply.Kind.TheVariants.{Acked, At, Refused}
+use Rattle.cat_model.specs.declared.reply.Kind.TheVariants.{Acked, At, Seen, Refused}
 use Rattle.cat_model.specs.declared.reply.Mark.{Mark}
 use Rattle.cat_model.specs.declared.reply.Mark.TheVariants as mark
 use Rattle.cat_model.specs.declared.reply.Refusal.{Refusal}
@@ -27,13 +27,13 @@ use Rattle.raft_model.proofs.Logs.{agree_term}
 use Rattle.raft_model.proofs.Tests.{at_bool, eq_tells}
 use Rattle.raft_model.proofs.Theorems.{grows_far}
 use Rattle.cluster_rules.specs.Replies.{Question, came, entered}
-use Rattle.cluster_rules.specs.Lasting.{IsWrite, IsRead, RefusesRead, RefusesWrite, IsRefused, HasLostRound, LastsFor, IsAnswerAt}
+use Rattle.cluster_rules.specs.Lasting.{IsWrite, IsRead, IsLook, IsSeen, RefusesLook, RefusesRead, RefusesWrite, IsRefused, HasLostRound, LastsFor, IsAnswerAt}
 use Rattle.cluster_rules.specs.Cluster.{Stand, AtPlace, InRound, ForIndex, Ended, Pending, Start, Proposed, Probed, Cluster, node_of, server_of, applied_of, clock_of}
 use Rattle.cluster_rules.specs.Due.{Work, landed, waiting, is_ended, did, IsDue, Works, none, work}
-use Rattle.cluster_rules.specs.Sound.{IsAmong, NeverEnters, asked_in, entries_before, IsFresh, StartIsSound, WasBelow, StandIsSound, PendingIsSound, LostFor, PastIsSound, ServerIsSound, IsSoundAtWork}
+use Rattle.cluster_rules.specs.Sound.{IsAmong, NeverEnters, asked_in, entries_before, IsFresh, StartIsSound, SeenBelow, StandIsSound, PendingIsSound, LostFor, PastIsSound, ServerIsSound, IsSoundAtWork}
 use Rattle.cluster_rules.proofs.Tools.{eq_tells_not, there_or_none, each_among}
 use Rattle.cluster_rules.proofs.Entries.{agree_entry}
-use Rattle.cluster_rules.proofs.Grows.{write_map, read_map}
+use Rattle.cluster_rules.proofs.Grows.{write_map, look_map}
 use Rattle.cluster_rules.proofs.Works.{IsRight, WorkIsRight, did_sound}
 use Rattle.cluster_rules.proofs.Cases.{Leaves, due_cases}
 
@@ -68,30 +68,42 @@ write_refused (Good (Renew id)) P why x r = absurd x
 write_refused (Good (Agent op)) P why x r = absurd x
 write_refused (Bad other) P why x r = absurd x
 
-pub read_refused : (asked : Asked) (P : Query → Mode → ℕ → Type 0) (why : Refusal) → IsRead asked P → ((query : Query) (mode : Mode) (least : ℕ) → P query mode least → RefusesRead mode why) → IsRefused asked why
-read_refused (Good (Read query mode least wait raw)) P why x r = r query mode least x
-read_refused (Good (Write command)) P why x r = absurd x
-read_refused (Good (Execute name limit mode)) P why x r = absurd x
-read_refused (Good (Renew id)) P why x r = absurd x
-read_refused (Good (Agent op)) P why x r = absurd x
-read_refused (Bad other) P why x r = absurd x
+look_is_read : (mode : Mode) (why : Refusal) → RefusesLook mode why → RefusesRead mode why
+look_is_read mode (refusal.TooMany waiting) x = absurd x
+look_is_read mode other x = x
 
-lost_read : (w : World) (starts : List Start) (q : Question) (asked : Asked) (P : Query → Mode → ℕ → Type 0) (old found server : ℕ) (round : Round) → IsRead asked P → IsAmong (Probed q.number server round) starts → round.term ≡ old → LostFor w starts q asked old found
-lost_read w starts q (Good (Read query mode least wait raw)) P old found server round x m e = (server, round, m, e)
-lost_read w starts q (Good (Write command)) P old found server round x m e = absurd x
-lost_read w starts q (Good (Execute name limit mode)) P old found server round x m e = absurd x
-lost_read w starts q (Good (Renew id)) P old found server round x m e = absurd x
-lost_read w starts q (Good (Agent op)) P old found server round x m e = absurd x
-lost_read w starts q (Bad why) P old found server round x m e = absurd x
+pub look_refused : (asked : Asked) (P : Mode → Type 0) (why : Refusal) → IsLook asked P → ((mode : Mode) → P mode → RefusesLook mode why) → IsRefused asked why
+look_refused (Good (Read query mode least wait raw)) P why x r = look_is_read mode why (r mode x)
+look_refused (Good (Execute name limit mode)) P why x r = r mode x
+look_refused (Good (Write command)) P why x r = absurd x
+look_refused (Good (Renew id)) P why x r = absurd x
+look_refused (Good (Agent op)) P why x r = absurd x
+look_refused (Bad other) P why x r = absurd x
 
--- the start of a read's round
-read_start : (asked : Asked) (mode : Mode) (Q : Type 0) → IsRead asked (λ query mode' least. (mode' ≡ mode) × Q) → Q
-read_start (Good (Read query mode' least wait raw)) mode Q x = x.1
-read_start (Good (Write command)) mode Q x = absurd x
-read_start (Good (Execute name limit mode')) mode Q x = absurd x
-read_start (Good (Renew id)) mode Q x = absurd x
-read_start (Good (Agent op)) mode Q x = absurd x
-read_start (Bad why) mode Q x = absurd x
+lost_look : (w : World) (starts : List Start) (q : Question) (asked : Asked) (P : Mode → Type 0) (old found server : ℕ) (round : Round) → IsLook asked P → IsAmong (Probed q.number server round) starts → round.term ≡ old → LostFor w starts q asked old found
+lost_look w starts q (Good (Read query mode least wait raw)) P old found server round x m e = (server, round, m, e)
+lost_look w starts q (Good (Execute name limit mode)) P old found server round x m e = (server, round, m, e)
+lost_look w starts q (Good (Write command)) P old found server round x m e = absurd x
+lost_look w starts q (Good (Renew id)) P old found server round x m e = absurd x
+lost_look w starts q (Good (Agent op)) P old found server round x m e = absurd x
+lost_look w starts q (Bad why) P old found server round x m e = absurd x
+
+-- what is known of a look in a mode
+look_start : (asked : Asked) (mode : Mode) (Q : Type 0) → IsLook asked (λ mode'. (mode' ≡ mode) × Q) → Q
+look_start (Good (Read query mode' least wait raw)) mode Q x = x.1
+look_start (Good (Execute name limit mode')) mode Q x = x.1
+look_start (Good (Write command)) mode Q x = absurd x
+look_start (Good (Renew id)) mode Q x = absurd x
+look_start (Good (Agent op)) mode Q x = absurd x
+look_start (Bad why) mode Q x = absurd x
+
+pub new_below : (asked : Asked) (applied : Log) → SeenBelow asked None applied
+new_below (Good (Read query mode least wait raw)) applied = tt
+new_below (Good (Execute name limit mode)) applied = tt
+new_below (Good (Write command)) applied = tt
+new_below (Good (Renew id)) applied = tt
+new_below (Good (Agent op)) applied = tt
+new_below (Bad why) applied = tt
 
 module _ (c : Cluster) (s : IsSoundAtWork c) (i : ℕ) where
   abbrev applied : Log
@@ -187,8 +199,8 @@ module _ (c : Cluster) (s : IsSoundAtWork c) (i : ℕ) where
       where
         by : (st : Stand) → h.stand ≡ st → is_ended st ≡ false → IsRefused h.question.asked (refusal.Halted i)
         by (AtPlace index term) e _ = write_refused h.question.asked _ _ (of_stand (AtPlace index term) e) tt
-        by (InRound round deadline) e _ = read_refused h.question.asked _ _ (of_stand (InRound round deadline) e) (λ query mode least p. tt)
-        by (ForIndex deadline seen) e _ = read_refused h.question.asked _ _ (of_stand (ForIndex deadline seen) e) (λ query mode least p. tt)
+        by (InRound round deadline) e _ = look_refused h.question.asked _ _ (of_stand (InRound round deadline) e) (λ mode p. tt)
+        by (ForIndex deadline seen) e _ = look_refused h.question.asked _ _ (of_stand (ForIndex deadline seen) e).0 (λ mode p. tt)
         by (Ended event) e n = absurd (cc n)
 
     rises_right : (round : Round) (deadline : ℕ) → h.stand ≡ InRound round deadline → round.term < (node_of c.world i).term → IsRight c (applied_of c i) h.question (Refused (refusal.Lost round.term (node_of c.world i).term))
@@ -196,16 +208,16 @@ module _ (c : Cluster) (s : IsSoundAtWork c) (i : ℕ) where
     rises_right round deadline e l = record {
       asked = x.asked;
       open_ = x.open_;
-      lasts = read_refused h.question.asked _ _ (of_stand (InRound round deadline) e) (λ query mode least p. subst (λ z. HasLostRound z round.term (node_of c.world i).term) (sym p.0) l);
+      lasts = look_refused h.question.asked _ _ (of_stand (InRound round deadline) e) (λ mode p. subst (λ z. HasLostRound z round.term (node_of c.world i).term) (sym p.0) l);
       fresh = tt;
-      rests = lost_read c.world c.starts h.question h.question.asked _ round.term (node_of c.world i).term i round (of_stand (InRound round deadline) e) (read_start h.question.asked Consistent _ (of_stand (InRound round deadline) e)) refl;
+      rests = lost_look c.world c.starts h.question h.question.asked _ round.term (node_of c.world i).term i round (of_stand (InRound round deadline) e) (look_start h.question.asked Consistent _ (of_stand (InRound round deadline) e)) refl;
     }
 
-    -- of a read, what its stand says
-    read_stand : (deadline : ℕ) (seen : Option ℕ) (query : Query) (mode : Mode) (least wait : ℕ) (raw : Bool) → h.stand ≡ ForIndex deadline seen → h.question.asked ≡ Good (Read query mode least wait raw) →
-        IsFresh mode h.question.number c.past c.starts (length (applied_of c i)) × WasBelow query least seen (applied_of c i)
-    read_stand deadline seen query mode least wait raw st ask =
-        subst (λ z. IsRead z (λ query mode least. IsFresh mode h.question.number c.past c.starts (length (applied_of c i)) × WasBelow query least seen (applied_of c i))) ask (of_stand (ForIndex deadline seen) st)
+    -- of a read or an execution, what its stand says
+    look_stand : (deadline : ℕ) (seen : Option ℕ) (asked : Asked) → h.stand ≡ ForIndex deadline seen → h.question.asked ≡ asked →
+        IsLook asked (λ mode. IsFresh mode h.question.number c.past c.starts (length (applied_of c i))) × SeenBelow asked seen (applied_of c i)
+    look_stand deadline seen asked st ask =
+        subst (λ z. IsLook z (λ mode. IsFresh mode h.question.number c.past c.starts (length (applied_of c i))) × SeenBelow z seen (applied_of c i)) ask (of_stand (ForIndex deadline seen) st)
 
     answers_right : (deadline : ℕ) (seen : Option ℕ) (query : Query) (mode : Mode) (least wait : ℕ) (raw : Bool) → h.stand ≡ ForIndex deadline seen → h.question.asked ≡ Good (Read query mode least wait raw) →
         (least < index_of query (commands_of (applied_of c i))) ⊎ (deadline ≤ clock_of c.world i) →
@@ -216,7 +228,7 @@ module _ (c : Cluster) (s : IsSoundAtWork c) (i : ℕ) where
       open_ = x.open_;
       lasts = subst (λ z. IsRead z (λ query' mode' least'. (mode ≡ mode') × IsAnswerAt query' least' (length (applied_of c i)) (index_of query (commands_of (applied_of c i))) (clock_of c.world i) deadline (applied_of c i))) (sym ask)
           (refl, record { within = omega arith; index_is = ap (λ z. index_of query (commands_of z)) (sym (take_all (length (applied_of c i)) (applied_of c i) (omega arith))); due = due });
-      fresh = (read_stand deadline seen query mode least wait raw st ask).0;
+      fresh = (look_stand deadline seen (Good (Read query mode least wait raw)) st ask).0;
       rests = tt;
     }
 
@@ -230,8 +242,19 @@ module _ (c : Cluster) (s : IsSoundAtWork c) (i : ℕ) where
       rests = tt;
     }
 
+    runs_right : (deadline : ℕ) (seen : Option ℕ) (name : List ℕ) (limit : ℕ) (mode : Mode) → h.stand ≡ ForIndex deadline seen → h.question.asked ≡ Good (Execute name limit mode) →
+        IsRight c (applied_of c i) h.question (Seen mode (length (applied_of c i)))
+    unfolding LastsFor
+    runs_right deadline seen name limit mode st ask = record {
+      asked = x.asked;
+      open_ = x.open_;
+      lasts = subst (λ z. IsSeen z mode × (length (applied_of c i) ≤ length (applied_of c i))) (sym ask) (refl, omega arith);
+      fresh = (look_stand deadline seen (Good (Execute name limit mode)) st ask).0;
+      rests = tt;
+    }
+
     -- another stand
-    waits_on : (deadline : ℕ) (seen : Option ℕ) → IsRead h.question.asked (λ query mode least. IsFresh mode h.question.number c.past c.starts (length (applied_of c i)) × WasBelow query least seen (applied_of c i)) → PendingIsSound c.servers c.past c.starts (record h { stand = ForIndex deadline seen })
+    waits_on : (deadline : ℕ) (seen : Option ℕ) → IsLook h.question.asked (λ mode. IsFresh mode h.question.number c.past c.starts (length (applied_of c i))) × SeenBelow h.question.asked seen (applied_of c i) → PendingIsSound c.servers c.past c.starts (record h { stand = ForIndex deadline seen })
     waits_on deadline seen y = record {
       asked = x.asked;
       open_ = x.open_;
@@ -242,12 +265,12 @@ module _ (c : Cluster) (s : IsSoundAtWork c) (i : ℕ) where
         index_of query (commands_of (applied_of c i)) ≤ least → PendingIsSound c.servers c.past c.starts (record h { stand = ForIndex deadline (Some (length (applied_of c i))) })
     sees_right deadline seen query mode least wait raw st ask below =
         waits_on deadline (Some (length (applied_of c i)))
-        (subst (λ z. IsRead z (λ query mode least. IsFresh mode h.question.number c.past c.starts (length (applied_of c i)) × WasBelow query least (Some (length (applied_of c i))) (applied_of c i))) (sym ask)
-        ((read_stand deadline seen query mode least wait raw st ask).0, (omega arith, subst (λ z. index_of query (commands_of z) ≤ least) (sym (take_all (length (applied_of c i)) (applied_of c i) (omega arith))) below)))
+        (subst (λ z. IsLook z (λ mode. IsFresh mode h.question.number c.past c.starts (length (applied_of c i))) × SeenBelow z (Some (length (applied_of c i))) (applied_of c i)) (sym ask)
+        ((look_stand deadline seen (Good (Read query mode least wait raw)) st ask).0, (omega arith, subst (λ z. index_of query (commands_of z) ≤ least) (sym (take_all (length (applied_of c i)) (applied_of c i) (omega arith))) below)))
 
     turns_right : (round : Round) (deadline : ℕ) → h.stand ≡ InRound round deadline → is_confirmed (node_of c.world i) round ≡ true → round.commit ≤ length (applied_of c i) → PendingIsSound c.servers c.past c.starts (record h { stand = ForIndex deadline None })
     turns_right round deadline st confirmed applies =
-        waits_on deadline None (read_map h.question.asked _ _ (λ query mode least p. (subst (λ z. IsFresh z h.question.number c.past c.starts (length (applied_of c i))) (sym p.0) (fresh p.1), tt)) (of_stand (InRound round deadline) st))
+        waits_on deadline None (look_map h.question.asked _ _ (λ mode p. subst (λ z. IsFresh z h.question.number c.past c.starts (length (applied_of c i))) (sym p.0) (fresh p.1)) (of_stand (InRound round deadline) st), new_below h.question.asked (applied_of c i))
       where
         -- the node is there, since it leads
         there : IsServer c.world i (node_of c.world i)
@@ -268,6 +291,7 @@ module _ (c : Cluster) (s : IsSoundAtWork c) (i : ℕ) where
       answers = answers_right;
       refuses = λ deadline query mode least wait raw st ask below early l. refuses_right query mode least wait raw ask l;
       sees = λ deadline seen query mode least wait raw st ask below u. sees_right deadline seen query mode least wait raw st ask below;
+      runs = runs_right;
       turns = λ round deadline st up confirmed l. turns_right round deadline st confirmed l;
     }
 

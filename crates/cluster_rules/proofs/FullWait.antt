@@ -1,6 +1,6 @@
 -- A read that waits to the end of its time, computed step by step.
 use Rattle.std.proofs.Common.{arith, inr}
-use Rattle.std.specs.Prelude.{ℕ, Option, ◌≢◌, ◌∷◌, [], None, Some, refl, codes, false, true}
+use Rattle.std.specs.Prelude.{ℕ, Option, ◌≢◌, ◌∷◌, [], None, Some, refl, true}
 use Rattle.cat_model.specs.Tables.{put}
 use Rattle.cat_model.specs.Same.{same_kv}
 use Rattle.cat_model.specs.Catalog.{same_catalog}
@@ -9,7 +9,6 @@ use Rattle.cat_model.specs.Machine.{broken, act, unless, end_sessions, apply, at
 use Rattle.cat_model.specs.Queries.{reads, answer_from}
 use Rattle.cat_model.specs.Indexes.{some_vanishes, touches, past_index}
 use Rattle.cat_model.specs.Spelling.{number_within}
-use Rattle.cat_model.specs.declared.query.Query.TheVariants as query
 use Rattle.cat_model.specs.declared.request.Mode.TheVariants.{Default}
 use Rattle.cat_model.specs.declared.request.Event.TheVariants as event
 use Rattle.cat_model.specs.declared.reply.Kind.TheVariants.{Acked, At}
@@ -19,10 +18,11 @@ use Rattle.raft_model.specs.Runs.{fresh, given, saved, empty_store}
 use Rattle.raft_model.specs.Step.{Works as StoreWorks, Forgets}
 use Rattle.raft_model.specs.World.{World, Acts as NodeActs, nothing_kept}
 use Rattle.cluster_rules.specs.Replies.{Question, entered, shown}
-use Rattle.cluster_rules.specs.Cluster.{Pending, AtPlace, ForIndex, Proposed, Looked, Cluster, started, node_of}
+use Rattle.cluster_rules.specs.Cluster.{Pending, AtPlace, ForIndex, Proposed, Looked, Cluster, started, node_of, seated}
 use Rattle.cluster_rules.specs.Due.{Replies, Holds, Applies, did, none, work, next_one, early}
 use Rattle.cluster_rules.specs.Requests.{holding, moved, proposes as proposes_it, reads as reads_it}
-use Rattle.cluster_rules.specs.Step.{marked, shelved, ticks, takes, handles, act as acts, over, done as whole_step, ClusterStep}
+use Rattle.cluster_rules.specs.Step.{marked, shelved, ticks, tends, takes, handles, act as acts, over, done as whole_step, ClusterStep}
+use Rattle.cluster_rules.specs.Proposals.{none_left, in_turn, with_ends, looked}
 use Rattle.cluster_rules.specs.Reached.{at_start, by_event}
 use Rattle.cluster_rules.specs.Runs.{drawn, wait_a, put_b, set_b, FullWaitRun}
 use Rattle.cluster_rules.proofs.PlainSteps.{plain_step}
@@ -31,7 +31,7 @@ led : World
 led = given (fresh 1) 1 Timeout
 
 one : Cluster
-one = moved 1 led (marked (event.Timeout 1) (started (fresh 1) 1))
+one = seated (fresh 1) 1 (moved 1 led (marked (event.Timeout 1) (started (fresh 1) 1)))
 
 two : Cluster
 two = shelved (did 1 Applies one)
@@ -64,7 +64,7 @@ later : World
 later = record wrote { clocks = 9999 ∷ [] }
 
 seven : Cluster
-seven = shelved (moved 1 later (marked (event.Tick 1 9999) (shelved six)))
+seven = shelved (looked 1 (with_ends 1 [] (moved 1 later (marked (event.Tick 1 9999) (shelved six)))))
 
 latest : World
 latest = record wrote { clocks = 10000 ∷ [] }
@@ -73,7 +73,7 @@ eight : Cluster
 eight = moved 1 latest (marked (event.Tick 1 1) seven)
 
 nine : Cluster
-nine = shelved (did 1 (Replies reader (At Default 2 1 10000 10000)) eight)
+nine = shelved (looked 1 (with_ends 1 [] (did 1 (Replies reader (At Default 2 1 10000 10000)) eight)))
 
 timeout : NodeActs (fresh 1) 1 Timeout led
 unfolding led given fresh
@@ -113,7 +113,7 @@ first_step = whole_step 1 (marked (event.Timeout 1) (started (fresh 1) 1)) (did 
 second_step : ClusterStep two (event.Ask 1 wait_a drawn) four true
 unfolding four three waits_at reader two one led given fresh done does timed_out candidate leads proposes did number_within entered shown put same_kv same_catalog write_kv kv_set act unless broken end_sessions apply at_past reads touches some_vanishes past_index answer_from
 second_step = whole_step 1 (marked (event.Ask 1 wait_a drawn) two) (did 1 (Holds (waits_at (Some 1))) three) (none, refl)
-    (acts three _ (handles 1 wait_a drawn refl refl refl (reads_it (query.Key (codes "a")) Default 1 10000 false refl (λ e. absurd (cc e)) (inr refl) refl)) tt
+    (acts three _ (handles 1 wait_a drawn refl refl refl (reads_it Default 10000 refl (λ e. absurd (cc e)) (inr refl) refl)) tt
     (work (Holds (waits_at (Some 1))) (early [] [] _ refl refl) none, refl) (over refl)) refl
 
 third_step : ClusterStep four (event.Ask 1 put_b drawn) (shelved six) true
@@ -124,14 +124,16 @@ third_step = whole_step 1 (marked (event.Ask 1 put_b drawn) four) six (none, ref
 
 fourth_step : ClusterStep (shelved six) (event.Tick 1 9999) seven true
 unfolding seven later six five wrote writer four three waits_at reader two one led given fresh done does timed_out candidate leads proposes did number_within entered shown put same_kv same_catalog write_kv kv_set act unless broken end_sessions apply at_past reads touches some_vanishes past_index answer_from
-fourth_step = whole_step 1 (marked (event.Tick 1 9999) (shelved six)) (moved 1 later (marked (event.Tick 1 9999) (shelved six))) (none, refl)
-    (acts _ _ (ticks 9999 later refl refl (inr refl) (node_of wrote 1, (omega arith, refl), refl) refl) tt (none, refl) (over refl)) refl
+fourth_step = whole_step 1 (marked (event.Tick 1 9999) (shelved six)) _ (none, refl)
+    (acts _ _ (ticks 9999 later refl refl (node_of wrote 1, (omega arith, refl), refl) refl) tt (none, refl)
+    (acts _ _ (tends 9999 true refl refl (in_turn 0 0 _ _ refl none_left none_left refl)) refl (none, refl) (over refl))) refl
 
 fifth_step : ClusterStep seven (event.Tick 1 1) nine true
 unfolding nine eight latest seven later six five wrote writer four three waits_at reader two one led given fresh done does timed_out candidate leads proposes did number_within entered shown put same_kv same_catalog write_kv kv_set act unless broken end_sessions apply at_past reads touches some_vanishes past_index answer_from
-fifth_step = whole_step 1 (marked (event.Tick 1 1) seven) (did 1 (Replies reader (At Default 2 1 10000 10000)) eight) (none, refl)
-    (acts eight _ (ticks 1 latest refl refl (inr refl) (node_of wrote 1, (omega arith, refl), refl) refl) tt
-    (work (Replies reader (At Default 2 1 10000 10000)) (early [] [] _ refl refl) none, refl) (over refl)) refl
+fifth_step = whole_step 1 (marked (event.Tick 1 1) seven) _ (none, refl)
+    (acts eight _ (ticks 1 latest refl refl (node_of wrote 1, (omega arith, refl), refl) refl) tt
+    (work (Replies reader (At Default 2 1 10000 10000)) (early [] [] _ refl refl) none, refl)
+    (acts _ _ (tends 1 true refl refl (in_turn 0 0 _ _ refl none_left none_left refl)) refl (none, refl) (over refl))) refl
 
 pub full_wait_run : FullWaitRun
 unfolding nine eight latest seven later six five wrote writer four three waits_at reader two one led given fresh done does timed_out candidate leads proposes did number_within entered shown put same_kv same_catalog write_kv kv_set act unless broken end_sessions apply at_past reads touches some_vanishes past_index answer_from

@@ -9,6 +9,8 @@ use Rattle.cat_model.specs.declared.request.Asked.{Asked}
 use Rattle.cat_model.specs.declared.request.Asked.TheVariants.{Good, Bad}
 use Rattle.cat_model.specs.declared.reply.Kind.{Kind}
 use Rattle.cat_model.specs.declared.reply.Kind.TheVariants.{Acked, At, Seen, Local, Delayed, Refused}
+use Rattle.cat_model.specs.Catalog.{session_at}
+use Rattle.cat_model.specs.Executions.{execution}
 use Rattle.cat_model.specs.Indexes.{index_of}
 use Rattle.cat_model.specs.Log.{commands_of}
 use Rattle.cat_model.specs.Machine.{catalog_at, reply_to}
@@ -18,8 +20,8 @@ use Rattle.raft_model.specs.Log.{Log, term_at}
 use Rattle.raft_model.specs.World.{World, Move, WorldStep, Reaches, here, next, IsReached}
 use Rattle.raft_model.proofs.Logs.{front_take, agree_term}
 use Rattle.raft_model.proofs.Theorems.{grows}
-use Rattle.cluster_rules.specs.Replies.{Question, entered, Shows, Tells, shown_write, shown_read, shown, reply_of, index_shown}
-use Rattle.cluster_rules.specs.Lasting.{IsWrite, IsRead, IsEntered, IsAnswerAt, LastsFor, Lasting}
+use Rattle.cluster_rules.specs.Replies.{Question, entered, Shows, Tells, Runs, Renews, id_in, shown_write, shown_read, shown_seen, shown, reply_of, index_shown}
+use Rattle.cluster_rules.specs.Lasting.{IsWrite, IsRead, IsLook, IsSeen, IsEntered, IsAnswerAt, LastsFor, Lasting}
 use Rattle.cluster_rules.specs.Sound.{NeverEnters, IsFreshRound}
 use Rattle.cluster_rules.proofs.Entries.{entry_within, agree_entry}
 
@@ -54,6 +56,14 @@ read_map (Good (Renew id)) P Q f x = x
 read_map (Good (Agent op)) P Q f x = x
 read_map (Bad why) P Q f x = x
 
+pub look_map : (asked : Asked) (P Q : Mode → Type 0) → ((m : Mode) → P m → Q m) → IsLook asked P → IsLook asked Q
+look_map (Good (Read query mode least wait raw)) P Q f x = f mode x
+look_map (Good (Execute name limit mode)) P Q f x = f mode x
+look_map (Good (Write command)) P Q f x = x
+look_map (Good (Renew id)) P Q f x = x
+look_map (Good (Agent op)) P Q f x = x
+look_map (Bad why) P Q f x = x
+
 pub front_length : (a a' : Log) → take (length a) a' ≡ a → length a ≤ length a'
 front_length a a' f = let k = ap length f in omega (arith, length-take (length a) a')
 
@@ -86,7 +96,7 @@ module _ (a a' : Log) (front : take (length a) a' ≡ a) where
   unfolding LastsFor
   lasts_grows q asked (Acked position) x = write_map asked _ _ (λ c e. entered_grows position q.number (entered q c) e) x
   lasts_grows q asked (At by prefix index clock deadline) x = read_map asked _ _ (λ query mode least e. (e.0, answer_grows query least prefix index clock deadline e.1)) x
-  lasts_grows q asked (Seen mode prefix) x = x
+  lasts_grows q asked (Seen mode prefix) x = (x.0, let l = x.1 in let k = front_length a a' front in omega arith)
   lasts_grows q asked (Local body) x = x
   lasts_grows q asked (Delayed key until now) x = x
   lasts_grows q asked (Refused why) x = x
@@ -111,11 +121,19 @@ module _ (a a' : Log) (front : take (length a) a' ≡ a) where
   read_same (Good (Agent op)) by prefix index clock deadline x = refl
   read_same (Bad why) by prefix index clock deadline x = refl
 
+  seen_same : (asked : Asked) (by : Mode) (prefix : ℕ) → IsSeen asked by → prefix ≤ length a → shown_seen asked prefix a' ≡ shown_seen asked prefix a
+  seen_same (Good (Execute name limit mode)) by prefix x l = ap (λ z. Runs (execution (catalog_at (commands_of z)) (id_in name) name limit)) (prefix_same prefix l)
+  seen_same (Good (Renew id)) by prefix x l = ap (λ z. Renews (session_at id (catalog_at (commands_of z)).sessions)) (prefix_same prefix l)
+  seen_same (Good (Read query mode least wait raw)) by prefix x l = refl
+  seen_same (Good (Write command)) by prefix x l = refl
+  seen_same (Good (Agent op)) by prefix x l = refl
+  seen_same (Bad why) by prefix x l = refl
+
   shown_same : (q : Question) (kind : Kind) → LastsFor q q.asked kind a → shown q kind a' ≡ shown q kind a
   unfolding LastsFor shown
   shown_same q (Acked position) x = write_same q q.asked position x
   shown_same q (At by prefix index clock deadline) x = read_same q.asked by prefix index clock deadline x
-  shown_same q (Seen mode prefix) x = refl
+  shown_same q (Seen mode prefix) x = seen_same q.asked mode prefix x.0 x.1
   shown_same q (Local body) x = refl
   shown_same q (Delayed key until now) x = refl
   shown_same q (Refused why) x = refl

@@ -1,6 +1,10 @@
 -- Each mark of a halt is of a failure that its server's durable store counted.
-use Rattle.std.proofs.Common.{◌≡◌, ◌≢◌, ℕ, suc, ◌+◌, ◌-◌, ◌^◌, ◌≤◌, ◌⊎◌, inl, inr, Bool, true, false, cond, not, min, List, [], ◌∷◌, refl, sym, ◌∙◌, ap, subst, arith}
+use Rattle.std.proofs.Common.{◌≡◌, ◌≢◌, ℕ, suc, ◌+◌, ◌-◌, ◌^◌, ◌≤◌, ◌⊎◌, inl, inr, Bool, true, false, cond, not, min, List, [], ◌∷◌, take, Option, Some, None, refl, sym, ◌∙◌, ap, subst, arith}
 use Rattle.std.specs.Prelude.{◌==◌, ◌&&◌}
+use Rattle.cat_model.specs.declared.command.Command.{Command}
+use Rattle.cat_model.specs.declared.request.AgentOp.{AgentOp}
+use Rattle.cat_model.specs.declared.request.Asked.TheVariants.{Good}
+use Rattle.cat_model.specs.declared.request.Request.TheVariants.{Agent as OfAgent}
 use Rattle.cat_model.specs.declared.request.Event.{Event}
 use Rattle.cat_model.specs.declared.request.Event.TheVariants as event
 use Rattle.cat_model.specs.declared.reply.Mark.{Mark}
@@ -13,11 +17,14 @@ use Rattle.raft_model.specs.Step.{Outcome, Works, VoteFails, LogFails, Forgets, 
 use Rattle.raft_model.specs.World.{World, Acts as NodeActs, WorldStep, Restarts}
 use Rattle.raft_model.proofs.Tests.{at_bool, eq_tells}
 use Rattle.cluster_rules.specs.Replies.{Question}
-use Rattle.cluster_rules.specs.Cluster.{Cluster, no_node, node_of}
+use Rattle.cluster_rules.specs.Cluster.{Cluster, no_node, node_of, clock_of, agent_of, with_office, took_office, seated}
+use Rattle.agent_rules.specs.Agents.{Agent, change}
+use Rattle.office_rules.specs.Offices.{office_from}
+use Rattle.cluster_rules.specs.Proposals.{Proposals, none_left, breaks, enters, refuses, over_rows, with_ends, looked, Tends, idles, in_turn, cut_off, told, agent_did, adopted, Syncs, finds_none, plans, breaks_off, cut_first, did_own}
 use Rattle.cluster_rules.specs.Due.{Work, Replies, Holds, Closes, Applies, did, Works as Made, none, work}
-use Rattle.cluster_rules.specs.Requests.{entries_past, halts_past, joined, moved_with, moved, halted_now, Handles, unready, full, proposes, stops, probes, reads}
-use Rattle.cluster_rules.specs.Step.{Acts, takes, ticks, arms as arms_it, restarts, handles, Does, over, act, cut, cut_between, Passes, loses, replies, noted, marked, ClusterStep, done as whole_step, passed, cut_early}
-use Rattle.cluster_rules.specs.Reached.{IsStart, Move, Reached, at_start, by_event, by_taking, by_handing, by_settling}
+use Rattle.cluster_rules.specs.Requests.{entries_past, halts_past, joined, moved_with, moved, halted_now, Handles, unready, full, proposes, stops, delays, probes, reads, renews}
+use Rattle.cluster_rules.specs.Step.{Acts, takes, ticks, arms as arms_it, restarts, handles, tends, syncs, Does, over, act, cut, cut_between, Passes, loses, replies, stays, leaderless, noted, marked, ClusterStep, done as whole_step, passed, cut_early}
+use Rattle.cluster_rules.specs.Reached.{IsStart, Move, Reached, at_start, by_event, by_taking, by_handing, by_settling, by_advancing}
 use Rattle.cluster_rules.specs.Sound.{halts_in}
 use Rattle.cluster_rules.proofs.Running.{done_up}
 use Rattle.cluster_rules.proofs.Tools.{both, not_tells_not, eq_tells_not, at_item, item_same, item_other, is_node, is_place}
@@ -129,12 +136,43 @@ handles_count c i q c' (unready st r e) f = subst Counted (sym e) f
 handles_count c i q c' (full command w' ask free go room b e) f = subst Counted (sym e) (moved_acts c i _ w' b f)
 handles_count c i q c' (proposes command w' ask free go room b up e) f = subst Counted (sym e) (moved_acts c i _ w' b f)
 handles_count c i q c' (stops command w' ask free go room b down e) f = subst Counted (sym e) (moved_acts c i _ w' b f)
-handles_count c i q c' (probes query least wait raw w' ask go b e) f = subst Counted (sym e) (moved_acts c i _ w' b f)
-handles_count c i q c' (reads query mode least wait raw ask d go e) f = subst Counted (sym e) f
+handles_count c i q c' (delays command key ask go d e) f = subst Counted (sym e) f
+handles_count c i q c' (renews id ask go e) f = subst Counted (sym e) f
+handles_count c i q c' (probes wait w' look go b e) f = subst Counted (sym e) (moved_acts c i _ w' b f)
+handles_count c i q c' (reads mode wait look d go e) f = subst Counted (sym e) f
+
+seated_counts : (w : World) (i : ℕ) (c : Cluster) → Counted c → Counted (seated w i c)
+seated_counts w i c f = at_bool (λ b. Counted (cond b (with_office i (office_from (clock_of c.world i)) c) c)) (took_office w c.world i) (λ _. f) (λ _. f)
+
+proposals_count : (i : ℕ) (commands : List Command) (c : Cluster) (n : ℕ) (c' : Cluster) (whole : Bool) → Proposals i commands c n c' whole → Counted c → Counted c'
+proposals_count i commands c n c' whole none_left f = f
+proposals_count i commands c n c' whole breaks f = f
+proposals_count i (command ∷ commands) c n c' whole (enters {n = m} w' lead room a up more) f = proposals_count i commands (moved i w' c) m c' whole more (moved_acts c i _ w' a f)
+proposals_count i (command ∷ commands) c n c' whole (refuses w' lead a why) f = moved_acts c i _ w' a f
+
+tends_count : (i : ℕ) (c c' : Cluster) (whole : Bool) → Tends i c c' whole → Counted c → Counted c'
+tends_count i c c' whole (idles lead e) f = subst Counted (sym e) f
+tends_count i c c' whole (in_turn n m c₁ c₂ lead p r e) f = subst Counted (sym e) (proposals_count i _ (looked i (with_ends i (take n (over_rows c i)) c₁)) m c₂ whole r (proposals_count i _ c n c₁ true p f))
+tends_count i c c' whole (cut_off n c₁ lead p e) f = subst Counted (sym e) (proposals_count i _ c n c₁ false p f)
+
+told_counts : (c : Cluster) (q : Question) (op : AgentOp) (g : Option Agent) → Counted c → Counted (told q op g c)
+told_counts c q op None f = f
+told_counts c q op (Some g) f = f
+
+agent_counts : (c : Cluster) (made : Event) → Counted c → Counted (agent_did made c)
+agent_counts c (event.AgentTick a ms) f = f
+agent_counts c (event.Ask a (Good (OfAgent op)) draw) f = told_counts c (record { number = c.asked; agent = a; asked = Good (OfAgent op); draw = draw }) op (change a op (agent_of c a)) f
+agent_counts c other f = f
+
+syncs_count : (i a : ℕ) (own : Bool) (c c' : Cluster) (whole : Bool) → Syncs i a own c c' whole → Counted c → Counted c'
+syncs_count i a own c c' whole (finds_none r e) f = subst Counted (sym e) f
+syncs_count i a own c c' whole (plans n c₁ r p e) f = subst Counted (sym e) (proposals_count i _ (adopted a i c) n c₁ true p f)
+syncs_count i a own c c' whole (breaks_off n some r p) f = proposals_count i _ (adopted a i c) n c' false p f
+syncs_count i a own c c' whole (cut_first mine r e) f = subst Counted (sym e) f
 
 cluster_acts : (n : ℕ) (c : Cluster) (i : ℕ) (made : Event) (c' : Cluster) → Acts n c i made c' → Counted c → Counted c'
-cluster_acts n c i made c' (takes input w' z is a e) f = subst Counted (sym e) (moved_acts c i input w' a f)
-cluster_acts n c i made c' (ticks ms w' z is calm (old, at, w) e) f = subst Counted (sym e)
+cluster_acts n c i made c' (takes input w' z is a e) f = subst Counted (sym e) (seated_counts c.world i (moved i w' c) (moved_acts c i input w' a f))
+cluster_acts n c i made c' (ticks ms w' z is (old, at, w) e) f = subst Counted (sym e)
     (moved_quiet c i w' (λ j. ap (λ (z : World). (node_of z j).halted) w) (λ j. ap (λ (z : World). (node_of z j).store.faults) w) f)
 cluster_acts n c i made c' (arms_it nth w' z is (old, at, w) e) f = subst Counted (sym e)
     (moved_quiet c i w'
@@ -142,6 +180,8 @@ cluster_acts n c i made c' (arms_it nth w' z is (old, at, w) e) f = subst Counte
     (λ j. ap (λ (z : World). (node_of z j).store.faults) w ∙ at_item (λ (n : Node). n.store.faults ≡ (node_of c.world j).store.faults) no_node c.world.nodes i (arms old nth) j (λ q. ap (λ (n : Node). n.store.faults) (sym (ap (node_of c.world) q ∙ is_node c.world i old at))) refl) f)
 cluster_acts n c i made c' (restarts w' z is st e) f = subst Counted (sym e) (restart_counts c i w' st f)
 cluster_acts n c i made c' (handles agent asked draw z is goes h) f = handles_count c i _ c' h f
+cluster_acts n c i made c' (tends ms whole z is t) f = tends_count i c c' whole t f
+cluster_acts n c i made c' (syncs a whole z is goes y) f = syncs_count i a (did_own made) (agent_did made c) c' whole y (agent_counts c made f)
 
 does_count : (i : ℕ) (made : Event) (n : ℕ) (c c' : Cluster) (whole : Bool) → Does i made n c c' whole → Counted c → Counted c'
 does_count i made n c c' whole (over e) f = f
@@ -164,6 +204,8 @@ marked_counts (event.AgentTick a ms) c f = f
 passes_count : (c : Cluster) (made : Event) (c' : Cluster) → Passes c made c' → Counted c → Counted c'
 passes_count c made c' (loses k w' is (p, n, w) e) f = subst Counted (sym e) (λ j. let k = f j in let q = ap (λ (z : World). (node_of z j).store.faults) w in omega arith)
 passes_count c made c' (replies agent asked draw why is goes e) f = subst Counted (sym e) f
+passes_count c made c' (stays own free e) f = subst Counted (sym e) (agent_counts c made f)
+passes_count c made c' (leaderless a why own is goes e) f = subst Counted (sym e) (agent_counts c made f)
 
 step_counts : (c c' : Cluster) (made : Event) (whole : Bool) → ClusterStep c made c' whole → Counted c → Counted c'
 step_counts c c' made whole (whole_step i c₁ c₂ m d e) f = subst Counted (sym e) (does_count i made 0 c₁ c₂ whole d (works_count i (marked made c) c₁ m.0 (marked_counts made c f)))
@@ -176,3 +218,4 @@ halts_counted start i whole moves c (by_event {whole = w} {moves = ms} {c = b} m
 halts_counted start i whole moves c (by_taking {whole = w} {moves = ms} {c = b} number out before after r is e) = halts_counted start i w ms b r
 halts_counted start i whole moves c (by_handing {whole = w} {moves = ms} {c = b} out before after r is e) = halts_counted start i w ms b r
 halts_counted start i whole moves c (by_settling {whole = w} {moves = ms} {c = b} pairs all r ends) = halts_counted start i w ms b r
+halts_counted start i whole moves c (by_advancing {whole = w} {moves = ms} {c = b} time made r ends) = halts_counted start i w ms b r

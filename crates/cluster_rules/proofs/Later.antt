@@ -19,8 +19,8 @@ use Rattle.raft_model.specs.World.{World}
 use Rattle.raft_model.proofs.Logs.{front_take}
 use Rattle.cluster_rules.specs.Replies.{Question, came, Out, Replied, Closed, Synced}
 use Rattle.cluster_rules.specs.Cluster.{Server, Stand, AtPlace, InRound, ForIndex, Ended, Pending, Start, Proposed, Probed, Looked, server_of}
-use Rattle.cluster_rules.specs.Sound.{IsAmong, IsOpen, entries_before, RestartedAt, IsFresh, IsFreshKind, StartIsSound, WasBelow, StandIsSound, PendingIsSound, LostFor, RestsOn, PastIsSound, OutIsSound}
-use Rattle.cluster_rules.proofs.Grows.{GoesTo, write_map, read_map, front_length, lasting_grows, reply_same, term_grows, never_grows, goes_nowhere}
+use Rattle.cluster_rules.specs.Sound.{IsAmong, IsOpen, entries_before, RestartedAt, IsFresh, IsFreshKind, StartIsSound, WasBelow, SeenBelow, StandIsSound, PendingIsSound, LostFor, RestsOn, PastIsSound, OutIsSound}
+use Rattle.cluster_rules.proofs.Grows.{GoesTo, write_map, look_map, front_length, lasting_grows, reply_same, term_grows, never_grows, goes_nowhere}
 
 pub record Later (w w' : World) (past past' : List Mark) (starts starts' : List Start) : Type 0 where
   pub goes : GoesTo w w'
@@ -51,13 +51,21 @@ below_later : (query : Query) (least : ℕ) (seen : Option ℕ) (a a' : Log) →
 below_later query least None a a' f x = x
 below_later query least (Some n) a a' f x = (let z = x.0 in let k = front_length a a' f in omega arith, subst (λ z. index_of query (commands_of z) ≤ least) (sym (front_take n a a' f x.0)) x.1)
 
+seen_later : (asked : Asked) (seen : Option ℕ) (a a' : Log) → take (length a) a' ≡ a → SeenBelow asked seen a → SeenBelow asked seen a'
+seen_later (Good (Read query mode least wait raw)) seen a a' f x = below_later query least seen a a' f x
+seen_later (Good (Write command)) seen a a' f x = x
+seen_later (Good (Execute name limit mode)) seen a a' f x = x
+seen_later (Good (Renew id)) seen a a' f x = x
+seen_later (Good (Agent op)) seen a a' f x = x
+seen_later (Bad why) seen a a' f x = x
+
 module _ (w w' : World) (past past' : List Mark) (starts starts' : List Start) (l : Later w w' past past' starts starts') where
   -- what a held request waits for
   stand_later : (a a' : Log) (server : ℕ) (q : Question) (s : Stand) → take (length a) a' ≡ a → entries_before q.number past' ≡ entries_before q.number past → StandIsSound a past starts server q s → StandIsSound a' past' starts' server q s
   stand_later a a' server q (AtPlace index term) f e x = write_map q.asked _ _ (λ c p. l.more _ p) x
-  stand_later a a' server q (InRound round deadline) f e x = read_map q.asked _ _ (λ query mode least p. (p.0, l.more _ p.1)) x
+  stand_later a a' server q (InRound round deadline) f e x = look_map q.asked _ _ (λ mode p. (p.0, l.more _ p.1)) x
   stand_later a a' server q (ForIndex deadline seen) f e x =
-      read_map q.asked _ _ (λ query mode least p. (fresh_later q.number past past' e starts starts' l.more mode (length a) (length a') (front_length a a' f) p.0, below_later query least seen a a' f p.1)) x
+      (look_map q.asked _ _ (λ mode p. fresh_later q.number past past' e starts starts' l.more mode (length a) (length a') (front_length a a' f) p) x.0, seen_later q.asked seen a a' f x.1)
   stand_later a a' server q (Ended event) f e x = l.restarted event server x
 
   pub pending_later : (servers servers' : List Server) (h : Pending) → Same h.question.number past past' →
@@ -102,7 +110,7 @@ module _ (w w' : World) (g : GoesTo w w') (starts starts' : List Start) (more : 
     never_grows w w' g old q.number x.7,
   )
   lost_later q (Good (Read query mode least wait raw)) old found x = (x.0, x.1, more _ x.2, x.3)
-  lost_later q (Good (Execute name limit mode)) old found x = x
+  lost_later q (Good (Execute name limit mode)) old found x = (x.0, x.1, more _ x.2, x.3)
   lost_later q (Good (Renew id)) old found x = x
   lost_later q (Good (Agent op)) old found x = x
   lost_later q (Bad why) old found x = x

@@ -1,10 +1,14 @@
 -- Each reply is legal where it is made.
-use Rattle.std.proofs.Common.{◌≡◌, ℕ, suc, ◌<◌, ◌≤◌, inl, inr, Bool, true, false, cond, length, refl, sym, subst, arith, Some, None}
+use Rattle.std.proofs.Common.{◌≡◌, ℕ, suc, ◌<◌, ◌≤◌, inl, inr, Bool, true, false, cond, length, refl, sym, ap, subst, arith, Option, Some, None}
 use Rattle.std.specs.Prelude.{◌==◌}
 use Rattle.cat_model.specs.declared.request.Asked.{Asked}
+use Rattle.cat_model.specs.declared.request.Asked.TheVariants.{Good}
+use Rattle.cat_model.specs.declared.request.Request.TheVariants.{Agent as OfAgent}
+use Rattle.cat_model.specs.declared.request.Mode.TheVariants.{Default}
+use Rattle.cat_model.specs.declared.request.Event.TheVariants as event
 use Rattle.cat_model.specs.declared.request.Event.{Event}
 use Rattle.cat_model.specs.declared.reply.Kind.{Kind}
-use Rattle.cat_model.specs.declared.reply.Kind.TheVariants.{Acked, Refused}
+use Rattle.cat_model.specs.declared.reply.Kind.TheVariants.{Acked, Seen, Refused}
 use Rattle.cat_model.specs.declared.reply.Refusal.TheVariants as refusal
 use Rattle.cat_model.specs.Indexes.{index_of}
 use Rattle.cat_model.specs.Log.{commands_of}
@@ -12,20 +16,24 @@ use Rattle.cat_model.specs.LogLimits.{log_bytes}
 use Rattle.raft_model.specs.Log.{term_at, last_term}
 use Rattle.raft_model.proofs.Tests.{at_bool, eq_tells, lt_tells}
 use Rattle.cluster_rules.specs.Replies.{Question, came}
-use Rattle.cluster_rules.specs.Lasting.{IsRead, IsRefused, LastsFor}
-use Rattle.cluster_rules.specs.Cluster.{Stand, AtPlace, InRound, ForIndex, Ended, Pending, Cluster, node_of, applied_of, clock_of}
+use Rattle.cluster_rules.specs.Lasting.{IsRead, IsWrite, IsSeen, IsRefused, LastsFor}
+use Rattle.agent_rules.specs.Agents.{Agent, change}
+use Rattle.office_rules.specs.Locks.{LocksKey}
+use Rattle.cluster_rules.specs.Proposals.{kind_told}
+use Rattle.std.proofs.lemmas.List.{length-take}
+use Rattle.cluster_rules.specs.Cluster.{Stand, AtPlace, InRound, ForIndex, Ended, Pending, Cluster, node_of, applied_of, clock_of, agent_of, until_at}
 use Rattle.cluster_rules.specs.Due.{Work, Replies, Holds, Closes, Applies, landed, is_ended, did, due, IsDue, Works, none, work}
-use Rattle.cluster_rules.specs.Requests.{Goes, way, asked_server, is_ready, is_stale_read, MayGo, log_with, halted_now, Handles, unready, full, proposes, stops, probes, reads}
-use Rattle.cluster_rules.specs.Step.{Acts, takes, ticks, arms, restarts, handles, Does, over, act, cut, cut_between, Passes, loses, replies, noted, marked, ClusterStep, done, passed, cut_early}
+use Rattle.cluster_rules.specs.Requests.{Goes, way, asked_server, is_ready, is_stale_read, MayGo, log_with, halted_now, Handles, unready, full, proposes, stops, delays, probes, reads, renews}
+use Rattle.cluster_rules.specs.Step.{Acts, takes, ticks, arms, restarts, handles, tends, syncs, Does, over, act, cut, cut_between, Passes, loses, replies, stays, leaderless, noted, marked, ClusterStep, done, passed, cut_early}
 use Rattle.cluster_rules.specs.Sound.{IsAmong, IsSoundAtWork, Sound}
-use Rattle.cluster_rules.specs.Legal.{Allows, Cause, waited, at_once, not_ready, no_room, stopped, WorkIsLegal, AllLegal, HandleIsLegal, ActIsLegal, DoesLegally, PassIsLegal, StepIsLegal}
+use Rattle.cluster_rules.specs.Legal.{Allows, AllowsIndex, Cause, waited, at_once, not_ready, no_room, delay, renewed, by_agent, unknown_there, stopped, IsLegal, AgentIsLegal, WorkIsLegal, AllLegal, HandleIsLegal, ActIsLegal, DoesLegally, PassIsLegal, StepIsLegal}
 use Rattle.cluster_rules.proofs.Asking.{AskIsNew, now_refused, unready_refused}
 use Rattle.cluster_rules.proofs.Cases.{Leaves, due_cases}
 use Rattle.cluster_rules.proofs.Due.{due_right, works_sound}
 use Rattle.cluster_rules.proofs.Grows.{lasting_grows}
-use Rattle.cluster_rules.proofs.Handling.{as_write, past_limits}
+use Rattle.cluster_rules.proofs.Handling.{as_write, past_limits, delayed_tells}
 use Rattle.cluster_rules.proofs.Moved.{plain_moved}
-use Rattle.cluster_rules.proofs.Steps.{Facts, acts_sound, acts_first, all_applied, noted_sound, marked_sound, facts_marked, facts_worked}
+use Rattle.cluster_rules.proofs.Steps.{Facts, acts_sound, all_applied, noted_sound, marked_sound, facts_marked, facts_worked}
 use Rattle.cluster_rules.proofs.Tools.{eq_tells_not, not_tells, all_among}
 use Rattle.cluster_rules.proofs.Works.{WorkIsRight, did_sound}
 
@@ -62,6 +70,7 @@ module _ (c : Cluster) (i : ℕ) (h : Pending) (m : IsAmong h c.held) (at : h.se
     refuses = λ deadline query mode least wait raw st ask below early l. because _ (ForIndex deadline None) st
         (refl, l, refl, subst (λ z. IsRead z (λ query mode least. (index_of query (commands_of (applied_of c i)) ≤ least) × (clock_of c.world i < deadline))) (sym ask) (below, early));
     sees = λ deadline seen query mode least wait raw st ask below u. tt;
+    runs = λ deadline seen name limit mode st ask. waited h m refl at (subst (λ z. Allows c i h.question.asked z (Seen mode (length (applied_of c i)))) (sym st) (subst (λ z. AllowsIndex c i z deadline seen (Seen mode (length (applied_of c i)))) (sym ask) (refl, refl)));
     turns = λ round deadline st up confirmed l. tt;
   }
 
@@ -78,46 +87,79 @@ pub works_legal : (i : ℕ) (c c' : Cluster) (p : Works i c c') → IsSoundAtWor
 works_legal i c c' none s = tt
 works_legal i c c' (work w d more) s = (due_legal c s i w d, works_legal i (did i w c) c' more (did_sound c s i w (due_right c s i w d)))
 
-handles_legal : (c : Cluster) (i : ℕ) (q : Question) → AskIsNew c q → way c.world (asked_server (length c.servers) q.agent) q.asked ≡ Some (Goes i) → (c' : Cluster) (p : Handles c i q c') → HandleIsLegal c i q c' p
+is_ready_for : (c : Cluster) (i : ℕ) (q : Question) → is_stale_read q.asked ≡ false → MayGo c i q → is_ready c i ≡ true
+is_ready_for c i q fresh (inl z) = absurd (cc (z, fresh))
+is_ready_for c i q fresh (inr z) = z
+
+-- what is applied is within the agreed log
+applied_within : (c : Cluster) → IsSoundAtWork c → (i : ℕ) → length (applied_of c i) ≤ length c.world.agreed
+applied_within c s i = let k = ap length (s.servers.each i).front in omega (arith, length-take (length (applied_of c i)) c.world.agreed)
+
+handles_legal : (c : Cluster) → IsSoundAtWork c → (i : ℕ) (q : Question) → AskIsNew c q → way c.world (asked_server (length c.servers) q.agent) q.asked ≡ Some (Goes i) → (c' : Cluster) (p : Handles c i q c') → HandleIsLegal c i q c' p
 unfolding LastsFor
-handles_legal c i q a goes c' (unready st r e) = record {
+handles_legal c s i q a goes c' (unready st r e) = record {
   asked = a.was;
   lasts = unready_refused c.world (asked_server (length c.servers) q.agent) i q.asked _ _ goes st (lt_tells (last_term (applied_of c i)) (node_of c.world i).term (not_tells _ r));
   cause = not_ready refl goes st r;
   known_is = refl;
   contact_is = refl;
 }
-handles_legal c i q a goes c' (full command w' ask free go room b e) = record {
+handles_legal c s i q a goes c' (full command w' ask free go room b e) = record {
   asked = a.was;
   lasts = as_write q command (λ z. IsRefused z (refusal.LogFull (length (log_with (node_of c.world i) q command)) (log_bytes (log_with (node_of c.world i) q command)))) ask (past_limits (log_with (node_of c.world i) q command) room);
-  cause = no_room command refl goes ask (ready go) room;
+  cause = no_room command refl goes ask (is_ready_for c i q (as_write q command (λ z. is_stale_read z ≡ false) ask refl) go) room;
   known_is = refl;
   contact_is = refl;
 }
-  where
-    fresh : is_stale_read q.asked ≡ false
-    fresh = subst (λ z. is_stale_read z ≡ false) (sym ask) refl
-
-    ready : MayGo c i q → is_ready c i ≡ true
-    ready (inl z) = absurd (cc (z, fresh))
-    ready (inr z) = z
-handles_legal c i q a goes c' (proposes command w' ask free go room b up e) = tt
-handles_legal c i q a goes c' (stops command w' ask free go room b down e) = record {
+handles_legal c s i q a goes c' (proposes command w' ask free go room b up e) = tt
+handles_legal c s i q a goes c' (stops command w' ask free go room b down e) = record {
   asked = (plain_moved (halted_now c.world w' i) i w' c).was (came q) a.was;
   lasts = as_write q command (λ z. IsRefused z (refusal.Halted i)) ask tt;
   cause = stopped command refl ask down;
   known_is = refl;
   contact_is = refl;
 }
-handles_legal c i q a goes c' (probes query least wait raw w' ask go b e) = tt
-handles_legal c i q a goes c' (reads query mode least wait raw ask d go e) = tt
+handles_legal c s i q a goes c' (delays command key ask go d e) = record {
+  asked = a.was;
+  lasts = let t = delayed_tells (until_at c i) (clock_of c.world i) command key d in (as_write q command (λ z. IsWrite z (LocksKey key)) ask t.0, t.1);
+  cause = delay command key refl goes ask (is_ready_for c i q (as_write q command (λ z. is_stale_read z ≡ false) ask refl) go) d;
+  known_is = refl;
+  contact_is = refl;
+}
+handles_legal c s i q a goes c' (probes wait w' look go b e) = tt
+handles_legal c s i q a goes c' (reads mode wait look d go e) = tt
+handles_legal c s i q a goes c' (renews id ask go e) = record {
+  asked = a.was;
+  lasts = (subst (λ z. IsSeen z Default) (sym ask) refl, applied_within c s i);
+  cause = renewed id refl goes ask (is_ready_for c i q (subst (λ z. is_stale_read z ≡ false) (sym ask) refl) go);
+  known_is = refl;
+  contact_is = refl;
+}
 
-acts_legal : (n : ℕ) (c : Cluster) (i : ℕ) (made : Event) → Facts c made → (c' : Cluster) (p : Acts n c i made c') → ActIsLegal n c i made c' p
-acts_legal n c i made f c' (takes input w' z is a e) = tt
-acts_legal n c i made f c' (ticks ms w' z is calm st e) = tt
-acts_legal n c i made f c' (arms nth w' z is st e) = tt
-acts_legal n c i made f c' (restarts w' z is st e) = tt
-acts_legal n c i made f c' (handles agent asked draw z is goes h) = handles_legal c i (record { number = c.asked; agent = agent; asked = asked; draw = draw }) (f.asked agent asked draw is) goes c' h
+-- an agent's answer
+told_legal : (c : Cluster) (made : Event) → Facts c made → AgentIsLegal c made
+unfolding LastsFor
+told_legal c (event.Ask a (Good (OfAgent op)) draw) f = by (change a op (agent_of c a)) refl
+  where
+    q : Question
+    q = record { number = c.asked; agent = a; asked = Good (OfAgent op); draw = draw }
+
+    new : AskIsNew c (record { number = c.asked; agent = a; asked = Good (OfAgent op); draw = draw })
+    new = f.asked a (Good (OfAgent op)) draw refl
+
+    by : (g : Option Agent) → change a op (agent_of c a) ≡ g → IsLegal c (asked_server (length c.servers) a) (record { number = c.asked; agent = a; asked = Good (OfAgent op); draw = draw }) (kind_told a op g) false 0
+    by None e = record { asked = new.was; lasts = tt; cause = unknown_there op refl e refl; known_is = refl; contact_is = refl }
+    by (Some g) e = record { asked = new.was; lasts = tt; cause = by_agent op g refl e refl; known_is = refl; contact_is = refl }
+told_legal c other f = tt
+
+acts_legal : (n : ℕ) (c : Cluster) → IsSoundAtWork c → (i : ℕ) (made : Event) → (n ≡ 0 → Facts c made) → (c' : Cluster) (p : Acts n c i made c') → ActIsLegal n c i made c' p
+acts_legal n c s i made f c' (takes input w' z is a e) = tt
+acts_legal n c s i made f c' (ticks ms w' z is st e) = tt
+acts_legal n c s i made f c' (arms nth w' z is st e) = tt
+acts_legal n c s i made f c' (restarts w' z is st e) = tt
+acts_legal n c s i made f c' (handles agent asked draw z is goes h) = handles_legal c s i (record { number = c.asked; agent = agent; asked = asked; draw = draw }) ((f z).asked agent asked draw is) goes c' h
+acts_legal n c s i made f c' (tends ms whole z is t) = tt
+acts_legal n c s i made f c' (syncs a whole z is goes y) = told_legal c made (f z)
 
 passes_legal : (c : Cluster) → IsSoundAtWork c → (made : Event) → Facts c made → (c' : Cluster) (p : Passes c made c') → PassIsLegal c made c' p
 unfolding LastsFor
@@ -129,16 +171,16 @@ passes_legal c s made f c' (replies agent asked draw why is goes e) = record {
   known_is = refl;
   contact_is = refl;
 }
+passes_legal c s made f c' (stays own free e) = told_legal c made f
+passes_legal c s made f c' (leaderless a why own is goes e) = told_legal c made f
 
 does_legal : (i : ℕ) (made : Event) (n : ℕ) (c c' : Cluster) (whole : Bool) (p : Does i made n c c' whole) → IsSoundAtWork c → (n ≡ 0 → Facts c made) → due i c ≡ None → DoesLegally i made n c c' whole p
 does_legal i made n c c' whole (over e) s f up = tt
 does_legal i made n c c' whole (act c₁ c₂ a r m more) s f up =
-    let f' = f (acts_first n c i made c₁ a) in
-    let s₁ = acts_sound n c s i made f' (all_applied c i up) c₁ a in
-    (acts_legal n c i made f' c₁ a, works_legal i c₁ c₂ m.0 s₁, does_legal i made (suc n) c₂ c' whole more (works_sound i c₁ c₂ m.0 s₁) (λ z. absurd (omega arith)) m.1)
+    let s₁ = acts_sound n c s i made f (all_applied c i up) c₁ a in
+    (acts_legal n c s i made f c₁ a, works_legal i c₁ c₂ m.0 s₁, does_legal i made (suc n) c₂ c' whole more (works_sound i c₁ c₂ m.0 s₁) (λ z. absurd (omega arith)) m.1)
 does_legal i made n c c' whole (cut c₁ a m short) s f up =
-    let f' = f (acts_first n c i made c₁ a) in
-    (acts_legal n c i made f' c₁ a, works_legal i c₁ c' m (acts_sound n c s i made f' (all_applied c i up) c₁ a))
+    (acts_legal n c s i made f c₁ a, works_legal i c₁ c' m (acts_sound n c s i made f (all_applied c i up) c₁ a))
 does_legal i made n c c' whole (cut_between l k) s f up = tt
 
 pub step_legal : (c c' : Cluster) (made : Event) (whole : Bool) (p : ClusterStep c made c' whole) → Sound c → StepIsLegal c made c' whole p

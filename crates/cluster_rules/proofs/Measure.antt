@@ -148,6 +148,7 @@ module _ (c : Cluster) (ascends : Ascends c.held) (i : ℕ) (above : 0 < i) (wit
     sees = λ deadline seen query mode least wait raw st ask below u. keeps h (record h { stand = ForIndex deadline (Some (length (applied_of c i))) }) o refl
         (let x = same_held i h at (length (applied_of c i)) in let y = same_held i (record h { stand = ForIndex deadline (Some (length (applied_of c i))) }) at (length (applied_of c i)) in
         let p = ap (stand_weight (length (applied_of c i))) st in let q = ap two_or_one u in let r = ap two_or_one (eq_self (length (applied_of c i))) in omega (arith, x, y, p, q, r));
+    runs = λ deadline seen name limit mode st ask. goes h o;
     turns = λ round deadline st up confirmed l. keeps h (record h { stand = ForIndex deadline None }) o refl
         (let x = same_held i h at (length (applied_of c i)) in let y = same_held i (record h { stand = ForIndex deadline None }) at (length (applied_of c i)) in let p = ap (stand_weight (length (applied_of c i))) st in omega (arith, x, y, p));
   }

@@ -59,6 +59,9 @@ plain_taken number past = record { was = λ m x. inr x; restarted = λ e s x. in
 pub plain_settled : (pairs : ℕ) (whole : Bool) (past : List Mark) → Plain past (mark.Settled pairs whole ∷ past)
 plain_settled pairs whole past = record { was = λ m x. inr x; restarted = λ e s x. inr x; open_ = λ n x. x; before = λ n. refl; asked = refl; sound = λ w starts x. x }
 
+pub plain_advanced : (ms made : ℕ) (past : List Mark) → Plain past (mark.Advanced ms made ∷ past)
+plain_advanced ms made past = record { was = λ m x. inr x; restarted = λ e s x. inr x; open_ = λ n x. x; before = λ n. refl; asked = refl; sound = λ w starts x. x }
+
 plain_entries : (es : Log) (past : List Mark) → Plain past (entries_past es past)
 plain_entries [] past = plain_same past
 plain_entries (e ∷ es) past = plain_on past (mark.Entry e ∷ past) (entries_past es (mark.Entry e ∷ past)) (plain_entry e past) (plain_entries es (mark.Entry e ∷ past))

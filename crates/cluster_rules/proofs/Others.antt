@@ -205,6 +205,7 @@ module _ (j i : ℕ) (d : j ≢ i) (c : Cluster) (a : Ascends c.held) where
       answers = λ deadline seen query mode least wait raw st ask due. replied _;
       refuses = λ deadline query mode least wait raw st ask below early l. replied _;
       sees = λ deadline seen query mode least wait raw st ask below u. stands _;
+      runs = λ deadline seen name limit mode st ask. replied _;
       turns = λ round deadline st up confirmed l. stands _;
     }
 

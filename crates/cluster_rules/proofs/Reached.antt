@@ -12,14 +12,14 @@ use Rattle.raft_model.proofs.Tests.{at_bool, eq_tells}
 use Rattle.cluster_rules.specs.Replies.{Question, came, Out, number_of}
 use Rattle.cluster_rules.specs.Lasting.{Lasting}
 use Rattle.cluster_rules.specs.Cluster.{Server, Start, Cluster, no_server, node_of, server_of, started}
-use Rattle.cluster_rules.specs.Reached.{IsStart, Move, Reached, at_start, by_event, by_taking, by_handing, by_settling}
+use Rattle.cluster_rules.specs.Reached.{IsStart, Move, Reached, at_start, by_event, by_taking, by_handing, by_settling, by_advancing}
 use Rattle.cluster_rules.specs.Sound.{IsAmong, ServerIsSound, entered_in, entries_before, IsFreshKind, RestsOn, PastIsSound, OutIsSound, one_if, is_of, out_times, IsSoundAtWork, Sound}
 use Rattle.cluster_rules.proofs.Counting.{outs_times}
 use Rattle.cluster_rules.proofs.Due.{was_numbered}
 use Rattle.cluster_rules.proofs.Grows.{goes_nowhere}
 use Rattle.cluster_rules.proofs.Keeping.{step_keeps}
 use Rattle.cluster_rules.proofs.Later.{fresh_kind_later}
-use Rattle.cluster_rules.proofs.Moved.{Plain, plain_taken, plain_settled, turned, held_as_before}
+use Rattle.cluster_rules.proofs.Moved.{Plain, plain_taken, plain_settled, plain_advanced, turned, held_as_before}
 use Rattle.cluster_rules.proofs.Tools.{each_but}
 
 -- The start.
@@ -28,7 +28,7 @@ get_replicate zero j x = refl
 get_replicate (suc n) zero x = refl
 get_replicate (suc n) (suc j) x = get_replicate n j x
 
-fresh_server : (n i : ℕ) → server_of (replicate n no_server) i ≡ no_server
+pub fresh_server : (n i : ℕ) → server_of (replicate n no_server) i ≡ no_server
 fresh_server n zero = refl
 fresh_server n (suc i) = get_replicate n i no_server
 
@@ -110,6 +110,9 @@ run_sound start i whole moves c (by_handing {whole = w} {moves = ms} {c = b} out
 run_sound start i whole moves c (by_settling {whole = w} {moves = ms} {c = b} pairs all r ends) =
     let s = run_sound start i w ms b r in
     record { parts = marks_sound b s.parts (mark.Settled pairs all ∷ b.past) (plain_settled pairs all b.past) refl; none_lost = s.none_lost; shelved = s.shelved }
+run_sound start i whole moves c (by_advancing {whole = w} {moves = ms} {c = b} time made r ends) =
+    let s = run_sound start i w ms b r in
+    record { parts = marks_sound b s.parts (mark.Advanced time made ∷ b.past) (plain_advanced time made b.past) refl; none_lost = s.none_lost; shelved = s.shelved }
 
 -- What a mark of an answer says.
 pub record Told (w : World) (past : List Mark) (starts : List Start) (number : ℕ) (kind : Kind) : Type 0 where

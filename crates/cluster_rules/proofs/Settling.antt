@@ -3,7 +3,8 @@ use Rattle.std.proofs.Common.{◌≡◌, ℕ, suc, ◌+◌, Bool, true, false, L
 use Rattle.std.specs.Prelude.{◌&&◌}
 use Rattle.cat_model.specs.declared.request.Event.TheVariants as event
 use Rattle.cluster_rules.specs.Cluster.{Cluster}
-use Rattle.cluster_rules.specs.Reached.{Move, Makes, EndInPairs, Reached, by_event, Settling, none, pair}
+use Rattle.cluster_rules.specs.Reached.{Move, Makes, EndInPairs, Reached, by_event, Settling, none, pair, then_made, Making, no_more, one}
+use Rattle.cat_model.specs.declared.request.Event.{Event}
 
 all_whole : (b : Bool) → (b && true) ≡ b
 all_whole true = refl
@@ -23,3 +24,9 @@ settling_reaches start whole n m moves c c' r e (pair {n = k} p c₁ c₂ low fi
   where
     plus : (k m : ℕ) → k + suc m ≡ suc k + m
     plus k m = omega arith
+
+-- And so are those of an advance.
+pub making_reaches : (start : Cluster) (whole : Bool) (events : List Event) (moves : List Move) (c c' : Cluster) → Reached start whole moves c → Making events c c' → Reached start whole (then_made events moves) c'
+making_reaches start whole events moves c c' r no_more = r
+making_reaches start whole (made ∷ events) moves c c' r (one m c₁ fits step more) =
+    making_reaches start whole events (Makes m ∷ moves) c₁ c' (subst (λ b. Reached start b (Makes m ∷ moves) c₁) (all_whole whole) (by_event m true r fits step)) more

@@ -3,7 +3,6 @@ use Rattle.std.proofs.Common.{◌≡◌, ℕ, ◌<◌, ◌≤◌, Bool, true, fa
 use Rattle.std.specs.Prelude.{◌==◌, nat_lt, nat_le, ◌&&◌, ◌||◌}
 use Rattle.std.specs.List.{AllByRecursion as Each}
 use Rattle.std.proofs.lemmas.Bool.Decides.{nat_tests}
-use Rattle.cat_model.specs.declared.query.Query.{Query}
 use Rattle.cat_model.specs.declared.request.Mode.{Mode}
 use Rattle.cat_model.specs.declared.request.Request.TheVariants.{Read, Execute, Write, Renew, Agent}
 use Rattle.cat_model.specs.declared.request.Asked.{Asked}
@@ -12,7 +11,7 @@ use Rattle.cat_model.specs.Indexes.{index_of}
 use Rattle.cat_model.specs.Log.{commands_of}
 use Rattle.raft_model.specs.Rules.{is_confirmed}
 use Rattle.raft_model.proofs.Tests.{lt_tells_not}
-use Rattle.cluster_rules.specs.Lasting.{IsRead}
+use Rattle.cluster_rules.specs.Lasting.{IsRead, IsLook}
 use Rattle.cluster_rules.specs.Cluster.{Stand, AtPlace, InRound, ForIndex, Ended, Pending, Cluster, node_of, server_of, applied_of, clock_of}
 use Rattle.cluster_rules.specs.Due.{Work, first_work, waiting, asks_read, early_stand, is_ended, early_work, late_stand, late_work, next_work, due}
 use Rattle.cluster_rules.specs.Sound.{StandIsSound, PendingIsSound, Sound}
@@ -44,14 +43,14 @@ first_none f [] e = tt
 first_none f (h ∷ hs) e = (or_left (f h) (first_work f hs) e, first_none f hs (or_right (f h) (first_work f hs) e))
 
 -- a read that is not answered
-read_waits : (c : Cluster) (i : ℕ) (h : Pending) (deadline : ℕ) (seen : Option ℕ) (asked : Asked) (P : Query → Mode → ℕ → Type 0) → IsRead asked P → asks_read h (waiting i c.held) (clock_of c.world i) (applied_of c i) deadline seen asked ≡ None →
+read_waits : (c : Cluster) (i : ℕ) (h : Pending) (deadline : ℕ) (seen : Option ℕ) (asked : Asked) (P : Mode → Type 0) → IsLook asked P → asks_read h (waiting i c.held) (clock_of c.world i) (applied_of c i) deadline seen asked ≡ None →
     IsRead asked (λ query mode least. (index_of query (commands_of (applied_of c i)) ≤ least) × (clock_of c.world i < deadline))
 read_waits c i h deadline seen (Good (Read query mode least wait raw)) P x e =
     let t = no_test (nat_lt least (index_of query (commands_of (applied_of c i))) || nat_le deadline (clock_of c.world i)) _ _ e in
     let n = neither (nat_lt least (index_of query (commands_of (applied_of c i)))) (nat_le deadline (clock_of c.world i)) t.0 in
     (lt_tells_not least (index_of query (commands_of (applied_of c i))) n.0, le_tells_not deadline (clock_of c.world i) n.1)
 read_waits c i h deadline seen (Good (Write command)) P x e = x
-read_waits c i h deadline seen (Good (Execute name limit mode)) P x e = x
+read_waits c i h deadline seen (Good (Execute name limit mode)) P x e = absurd (some_none _ e)
 read_waits c i h deadline seen (Good (Renew id)) P x e = x
 read_waits c i h deadline seen (Good (Agent op)) P x e = x
 read_waits c i h deadline seen (Bad why) P x e = x
@@ -64,7 +63,7 @@ module _ (c : Cluster) (i : ℕ) (up : (node_of c.world i).halted ≡ false) whe
     subst (λ b. (not b && (is_confirmed (node_of c.world i) round && nat_le round.commit (length (applied_of c i)))) ≡ false) up
         (no_test (not (node_of c.world i).halted && (is_confirmed (node_of c.world i) round && nat_le round.commit (length (applied_of c i)))) _ _ l).0,
   )
-  by h (ForIndex deadline seen) x e l = read_waits c i h deadline seen h.question.asked _ x e
+  by h (ForIndex deadline seen) x e l = read_waits c i h deadline seen h.question.asked _ x.0 e
   by h (Ended event) x e l = some_none _ e
 
   waits_on : (h : Pending) → h.server ≡ i → PendingIsSound c.servers c.past c.starts h → early_work c i h ≡ None → late_work c i h ≡ None → StillWaits c i h h.stand

@@ -12,9 +12,12 @@ use Rattle.raft_model.specs.Node.{Node, set_server}
 use Rattle.raft_model.specs.World.{World, IsReached}
 use Rattle.raft_model.proofs.Tests.{at_bool, eq_tells}
 use Rattle.raft_model.proofs.Theorems.{agrees}
-use Rattle.cluster_rules.specs.Replies.{Question, came, reply_of, Out, Replied, Closed, number_of}
+use Rattle.cluster_rules.specs.Replies.{Question, came, reply_of, Out, Replied, Closed, Synced, number_of}
+use Rattle.agent_rules.specs.Agents.{Agent}
+use Rattle.office_rules.specs.Offices.{Office}
+use Rattle.cluster_rules.specs.Proposals.{synced}
 use Rattle.cluster_rules.specs.Lasting.{Lasting}
-use Rattle.cluster_rules.specs.Cluster.{Server, Pending, Cluster, no_server, node_of, server_of, applied_of, clock_of}
+use Rattle.cluster_rules.specs.Cluster.{Server, Pending, Cluster, no_server, node_of, server_of, applied_of, clock_of, with_office}
 use Rattle.cluster_rules.specs.Due.{Work, Replies, Holds, Closes, Applies, without, with_held, put_out, is_before, answered, applies_entry, applies, did}
 use Rattle.cluster_rules.specs.Sound.{IsAmong, IsOpen, IsFreshKind, RestsOn, StartIsSound, PendingIsSound, OutIsSound, Ascends, ServerIsSound, IsSoundAtWork}
 use Rattle.cluster_rules.proofs.Tools.{eq_tells_not, at_item, length_set_server, there_or_none, each_map}
@@ -173,6 +176,36 @@ applies_sound c s i l =
       tray = s.tray;
       counts = s.counts;
     }
+
+-- What is in no part of this: a server's time in office, the agents, a sync's out.
+pub office_sound : (c : Cluster) → IsSoundAtWork c → (i : ℕ) (o : Office) → IsSoundAtWork (with_office i o c)
+office_sound c s i o =
+    let s' : Server = record (server_of c.servers i) { office = o } in
+    record {
+      world = s.world;
+      servers = record {
+        count = length_set_server c.servers i s' ∙ s.servers.count;
+        each = λ j. at_item (λ (x : Server). ServerIsSound c.world.agreed (node_of c.world j).commit x) no_server c.servers i s' j
+            (λ e. subst (λ z. ServerIsSound c.world.agreed (node_of c.world z).commit s') (sym e) (let x = s.servers.each i in record { front = x.front; within = x.within; clocks = x.clocks })) (s.servers.each j);
+      };
+      starts = s.starts;
+      held = each_map (PendingIsSound c.servers c.past c.starts) (PendingIsSound (set_server c.servers i s') c.past c.starts)
+          (λ h x. pending_later c.world c.world c.past c.past c.starts c.starts (later_nothing c.world c.past c.starts) c.servers (set_server c.servers i s') h (same_past h.question.number c.past)
+          (at_item (λ (z : Server). take (length (server_of c.servers h.server).applied) z.applied ≡ (server_of c.servers h.server).applied) no_server c.servers i s' h.server
+          (λ e. subst (λ z. take (length (server_of c.servers z).applied) s'.applied ≡ (server_of c.servers z).applied) (sym e) (take_all _ _ (omega arith)))
+          (take_all _ _ (omega arith))) x) c.held s.held;
+      ascends = s.ascends;
+      marks = s.marks;
+      fresh = s.fresh;
+      tray = s.tray;
+      counts = s.counts;
+    }
+
+pub agents_sound : (c : Cluster) → IsSoundAtWork c → (agents : List Agent) → IsSoundAtWork (record c { agents = agents })
+agents_sound c s agents = record { world = s.world; servers = s.servers; starts = s.starts; held = s.held; ascends = s.ascends; marks = s.marks; fresh = s.fresh; tray = s.tray; counts = s.counts }
+
+pub synced_sound : (c : Cluster) → IsSoundAtWork c → (a : ℕ) (count : Option ℕ) → IsSoundAtWork (synced a count c)
+synced_sound c s a count = record { world = s.world; servers = s.servers; starts = s.starts; held = s.held; ascends = s.ascends; marks = s.marks; fresh = each_put (OutIsSound c.world c.past) (Synced a count) c.fresh tt s.fresh; tray = s.tray; counts = s.counts }
 
 -- what a work needs to be right
 abbrev pub WorkIsRight : Cluster → ℕ → Work → Type 0

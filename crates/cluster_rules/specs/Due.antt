@@ -6,11 +6,11 @@ use Rattle.std.specs.Prelude.{◌≡◌, ℕ, suc, ◌==◌, nat_le, nat_lt, not
 use Rattle.cat_model.specs.declared.query.Query.{Query}
 use Rattle.cat_model.specs.declared.command.Entry.{Entry}
 use Rattle.cat_model.specs.declared.request.Mode.{Mode}
-use Rattle.cat_model.specs.declared.request.Request.TheVariants.{Read}
+use Rattle.cat_model.specs.declared.request.Request.TheVariants.{Read, Execute}
 use Rattle.cat_model.specs.declared.request.Asked.{Asked}
 use Rattle.cat_model.specs.declared.request.Asked.TheVariants.{Good}
 use Rattle.cat_model.specs.declared.reply.Kind.{Kind}
-use Rattle.cat_model.specs.declared.reply.Kind.TheVariants.{Acked, At, Refused}
+use Rattle.cat_model.specs.declared.reply.Kind.TheVariants.{Acked, At, Seen, Refused}
 use Rattle.cat_model.specs.declared.reply.Mark.TheVariants as mark
 use Rattle.cat_model.specs.declared.reply.Refusal.TheVariants as refusal
 use Rattle.cat_model.specs.Indexes.{index_of}
@@ -75,9 +75,10 @@ asks h others clock applied deadline seen query mode least =
     else if is_new seen && nat_le 4096 others then Some (Replies h.question (Refused (refusal.TooMany others)))
     else Some (Holds (record h { stand = ForIndex deadline (Some (length applied)) }))
 
--- a held read; no other request waits for an index
+-- a held read, or an execution, which waits for no index
 abbrev pub asks_read : Pending → ℕ → ℕ → Log → ℕ → Option ℕ → Asked → Option Work
 asks_read h others clock applied deadline seen (Good (Read query mode least wait raw)) = asks h others clock applied deadline seen query mode least
+asks_read h others clock applied deadline seen (Good (Execute name limit mode)) = Some (Replies h.question (Seen mode (length applied)))
 asks_read h others clock applied deadline seen other = None
 
 -- what is due before the next position is applied

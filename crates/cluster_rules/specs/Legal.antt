@@ -1,12 +1,15 @@
 -- When a reply is legal in the cluster in which it is made, and what a held request waits for where nothing is due.
-use Rattle.std.specs.Prelude.{◌≡◌, ◌≢◌, ℕ, suc, ◌<◌, ◌≤◌, nat_le, ◌&&◌, Bool, true, false, length, Option, Some, None}
+use Rattle.std.specs.Prelude.{◌≡◌, ◌≢◌, ℕ, suc, ◌<◌, ◌≤◌, nat_le, ◌&&◌, Bool, true, false, List, length, Option, Some, None}
 use Rattle.cat_model.specs.declared.command.Command.{Command}
 use Rattle.cat_model.specs.declared.request.Asked.{Asked}
 use Rattle.cat_model.specs.declared.request.Asked.TheVariants.{Good}
 use Rattle.cat_model.specs.declared.request.Event.{Event}
-use Rattle.cat_model.specs.declared.request.Request.TheVariants.{Write}
+use Rattle.cat_model.specs.declared.request.Request.TheVariants.{Execute, Write, Renew, Agent}
+use Rattle.cat_model.specs.declared.request.AgentOp.{AgentOp}
+use Rattle.cat_model.specs.declared.request.Mode.TheVariants.{Default}
+use Rattle.cat_model.specs.declared.request.Event.TheVariants as event
 use Rattle.cat_model.specs.declared.reply.Kind.{Kind}
-use Rattle.cat_model.specs.declared.reply.Kind.TheVariants.{Acked, At, Refused}
+use Rattle.cat_model.specs.declared.reply.Kind.TheVariants.{Acked, At, Seen, Local, Delayed, Refused}
 use Rattle.cat_model.specs.declared.reply.Refusal.{Refusal}
 use Rattle.cat_model.specs.declared.reply.Refusal.TheVariants as refusal
 use Rattle.cat_model.specs.Indexes.{index_of}
@@ -16,10 +19,12 @@ use Rattle.raft_model.specs.Log.{term_at, last_term}
 use Rattle.raft_model.specs.Rules.{has_room, is_confirmed}
 use Rattle.cluster_rules.specs.Replies.{Question, came, entered}
 use Rattle.cluster_rules.specs.Lasting.{IsRead, Lasting}
-use Rattle.cluster_rules.specs.Cluster.{Stand, AtPlace, InRound, ForIndex, Ended, Pending, Cluster, node_of, applied_of, clock_of, knows, contact_of}
+use Rattle.cluster_rules.specs.Cluster.{Stand, AtPlace, InRound, ForIndex, Ended, Pending, Cluster, node_of, applied_of, clock_of, agent_of, until_at, knows, contact_of}
+use Rattle.agent_rules.specs.Agents.{Agent as AgentRows, change, unknown, agent_body}
+use Rattle.cluster_rules.specs.Proposals.{kind_told}
 use Rattle.cluster_rules.specs.Due.{Work, Replies, Holds, Closes, Applies, did, waiting, Works, none, work}
-use Rattle.cluster_rules.specs.Requests.{Answers, Goes, way, asked_server, is_ready, is_stale_read, log_with, moved, Handles, unready, full, proposes, stops, probes, reads}
-use Rattle.cluster_rules.specs.Step.{Acts, takes, ticks, arms, restarts, handles, Does, over, act, cut, cut_between, Passes, loses, replies, noted, marked, ClusterStep, done, passed, cut_early}
+use Rattle.cluster_rules.specs.Requests.{Answers, Goes, way, asked_server, is_ready, is_stale_read, delayed_at, log_with, moved, Handles, unready, full, proposes, stops, delays, probes, reads, renews}
+use Rattle.cluster_rules.specs.Step.{Acts, takes, ticks, arms, restarts, handles, tends, syncs, Does, over, act, cut, cut_between, Passes, loses, replies, stays, leaderless, noted, marked, ClusterStep, done, passed, cut_early}
 use Rattle.cluster_rules.specs.Sound.{IsAmong}
 
 -- What an index query that waits here allows: its index at all that the server has applied, above the one given or
@@ -27,6 +32,7 @@ use Rattle.cluster_rules.specs.Sound.{IsAmong}
 abbrev pub AllowsIndex : Cluster → ℕ → Asked → ℕ → Option ℕ → Kind → Type 0
 AllowsIndex c i asked deadline seen (At mode prefix index clock deadline') =
     (prefix ≡ length (applied_of c i)) × (clock ≡ clock_of c.world i) × (deadline' ≡ deadline)
+AllowsIndex c i (Good (Execute name limit mode)) deadline seen (Seen by prefix) = (prefix ≡ length (applied_of c i)) × (by ≡ mode)
 AllowsIndex c i asked deadline seen (Refused (refusal.TooMany n)) =
     (n ≡ waiting i c.held) × (4096 ≤ n) × (seen ≡ None)
     × IsRead asked (λ query mode least. (index_of query (commands_of (applied_of c i)) ≤ least) × (clock_of c.world i < deadline))
@@ -53,6 +59,11 @@ pub data Cause (c : Cluster) (i : ℕ) (q : Question) (kind : Kind) : Type 0 whe
   no_room : (command : Command) → kind ≡ Refused (refusal.LogFull (length (log_with (node_of c.world i) q command)) (log_bytes (log_with (node_of c.world i) q command))) →
       way c.world (asked_server (length c.servers) q.agent) q.asked ≡ Some (Goes i) → q.asked ≡ Good (Write command) → is_ready c i ≡ true →
       has_room (node_of c.world i) q.number (entered q command) ≡ false → Cause c i q kind
+  delay : (command : Command) (key : List ℕ) → kind ≡ Delayed key (until_at c i key) (clock_of c.world i) → way c.world (asked_server (length c.servers) q.agent) q.asked ≡ Some (Goes i) →
+      q.asked ≡ Good (Write command) → is_ready c i ≡ true → delayed_at c i command ≡ Some key → Cause c i q kind
+  renewed : (id : ℕ) → kind ≡ Seen Default (length (applied_of c i)) → way c.world (asked_server (length c.servers) q.agent) q.asked ≡ Some (Goes i) → q.asked ≡ Good (Renew id) → is_ready c i ≡ true → Cause c i q kind
+  by_agent : (op : AgentOp) (g : AgentRows) → q.asked ≡ Good (Agent op) → change q.agent op (agent_of c q.agent) ≡ Some g → kind ≡ Local (agent_body q.agent op g) → Cause c i q kind
+  unknown_there : (op : AgentOp) → q.asked ≡ Good (Agent op) → change q.agent op (agent_of c q.agent) ≡ None → kind ≡ Refused (refusal.NotFound (unknown op)) → Cause c i q kind
   stopped : (command : Command) → kind ≡ Refused (refusal.Halted i) → q.asked ≡ Good (Write command) → (node_of c.world i).halted ≡ true → Cause c i q kind
 
 -- an answer of server i in this cluster
@@ -92,16 +103,26 @@ HandleIsLegal c i q c' (full command w' ask free go room a e) =
     IsLegal c i q (Refused (refusal.LogFull (length (log_with (node_of c.world i) q command)) (log_bytes (log_with (node_of c.world i) q command)))) false 0
 HandleIsLegal c i q c' (proposes command w' ask free go room a up e) = Unit {0}
 HandleIsLegal c i q c' (stops command w' ask free go room a down e) = IsLegal (moved i w' c) i q (Refused (refusal.Halted i)) false 0
-HandleIsLegal c i q c' (probes query least wait raw w' ask go a e) = Unit {0}
-HandleIsLegal c i q c' (reads query mode least wait raw ask d go e) = Unit {0}
+HandleIsLegal c i q c' (delays command key ask go d e) = IsLegal c i q (Delayed key (until_at c i key) (clock_of c.world i)) false 0
+HandleIsLegal c i q c' (probes wait w' ask go a e) = Unit {0}
+HandleIsLegal c i q c' (reads mode wait ask d go e) = Unit {0}
+HandleIsLegal c i q c' (renews id ask go e) = IsLegal c i q (Seen Default (length (applied_of c i))) false 0
+
+-- an agent's answer, in the cluster that it finds
+abbrev pub AgentIsLegal : Cluster → Event → Type 0
+AgentIsLegal c (event.Ask a (Good (Agent op)) draw) =
+    IsLegal c (asked_server (length c.servers) a) (record { number = c.asked; agent = a; asked = Good (Agent op); draw = draw }) (kind_told a op (change a op (agent_of c a))) false 0
+AgentIsLegal c other = Unit {0}
 
 -- only a request is answered in an act
 abbrev pub ActIsLegal : (n : ℕ) (c : Cluster) (i : ℕ) (made : Event) (c' : Cluster) → Acts n c i made c' → Type 0
 ActIsLegal n c i made c' (takes input w' z is a e) = Unit {0}
-ActIsLegal n c i made c' (ticks ms w' z is calm st e) = Unit {0}
+ActIsLegal n c i made c' (ticks ms w' z is st e) = Unit {0}
 ActIsLegal n c i made c' (arms nth w' z is st e) = Unit {0}
 ActIsLegal n c i made c' (restarts w' z is st e) = Unit {0}
 ActIsLegal n c i made c' (handles agent asked draw z is goes h) = HandleIsLegal c i (record { number = c.asked; agent = agent; asked = asked; draw = draw }) c' h
+ActIsLegal n c i made c' (tends ms whole z is t) = Unit {0}
+ActIsLegal n c i made c' (syncs a whole z is goes y) = AgentIsLegal c made
 
 -- the acts of an event, and what is made up for between them
 abbrev pub DoesLegally : (i : ℕ) (made : Event) (n : ℕ) (c c' : Cluster) (whole : Bool) → Does i made n c c' whole → Type 0
@@ -115,6 +136,8 @@ abbrev pub PassIsLegal : (c : Cluster) (made : Event) (c' : Cluster) → Passes 
 PassIsLegal c made c' (loses k w' is st e) = Unit {0}
 PassIsLegal c made c' (replies agent asked draw why is goes e) =
     IsLegal c (asked_server (length c.servers) agent) (record { number = c.asked; agent = agent; asked = asked; draw = draw }) (Refused why) false 0
+PassIsLegal c made c' (stays own quiet e) = AgentIsLegal c made
+PassIsLegal c made c' (leaderless a why own is goes e) = AgentIsLegal c made
 
 -- each reply and closing of a step is legal where it is made
 abbrev pub StepIsLegal : (c : Cluster) (made : Event) (c' : Cluster) (whole : Bool) → ClusterStep c made c' whole → Type 0

@@ -3,9 +3,13 @@ pub mod Lasting
 pub mod Cluster
 pub mod Due
 pub mod Requests
+pub mod Proposals
 pub mod Step
 pub mod Reached
 pub mod Sound
 pub mod Legal
+pub mod Guards
+pub mod Timely
 pub mod Runs
+pub mod SessionRuns
 pub mod Left

@@ -1,5 +1,5 @@
 -- Runs of a cluster: which events fit, how it starts, and what is done to it.
-use Rattle.std.specs.Prelude.{◌≡◌, ℕ, zero, suc, ◌+◌, ◌^◌, ◌<◌, ◌≤◌, ◌&&◌, ◌⊎◌, Bool, true, false, List, [], ◌∷◌, ◌++◌, length, Option, Some, None}
+use Rattle.std.specs.Prelude.{◌≡◌, ℕ, zero, suc, ◌+◌, ◌^◌, ◌<◌, ◌≤◌, ◌&&◌, ◌⊎◌, Bool, true, false, List, [], ◌∷◌, ◌++◌, length, map, take, Option, Some, None}
 use Rattle.cat_model.specs.declared.request.Event.{Event}
 use Rattle.cat_model.specs.declared.request.Event.TheVariants as event
 use Rattle.cat_model.specs.declared.reply.Mark.{Mark}
@@ -16,7 +16,7 @@ IsServerNumber c s = (0 < s) × (s ≤ length c.servers)
 
 -- and so are agents
 abbrev pub IsAgentNumber : Cluster → ℕ → Type 0
-IsAgentNumber c agent = (0 < agent) × (agent ≤ c.agents)
+IsAgentNumber c agent = (0 < agent) × (agent ≤ length c.agents)
 
 -- a message of this number is on its way
 abbrev pub IsUnderWay : Cluster → ℕ → Type 0
@@ -54,11 +54,12 @@ pub record IsStart (c : Cluster) : Type 0 where
   pub is : c ≡ started world agents
 
 -- What is done to a cluster: an event, the taking of a request's out, or so many deliveries, each followed by the
--- message's loss, with whether memory sufficed. The advance of all clocks is to be added with the agents.
+-- message's loss, with whether memory sufficed, or an advance of all clocks, with how many events it made.
 pub data Move : Type 0 where
   Makes : (made : Event) → Move
   Takes : (number : ℕ) → Move
   Settles : (pairs : ℕ) (whole : Bool) → Move
+  Advances : (ms made : ℕ) → Move
 
 -- The moves, the last one first, end in so many deliveries, each followed by the same message's loss.
 abbrev pub EndInPairs : ℕ → List Move → Type 0
@@ -76,6 +77,28 @@ abbrev pub Settled : ℕ → Bool → List Move → Type 0
 Settled pairs true moves = EndInPairs pairs moves
 Settled pairs false moves = EndInCutPairs pairs moves
 
+-- An advance: each server's clock goes on, and then each agent's. The numbers from k on, so many.
+abbrev pub numbers : ℕ → ℕ → List ℕ
+numbers k zero = []
+numbers k (suc n) = k ∷ numbers (suc k) n
+
+abbrev pub ticks_of : ℕ → ℕ → ℕ → List Event
+ticks_of ms servers agents = map (λ s. event.Tick s ms) (numbers 1 servers) ++ map (λ a. event.AgentTick a ms) (numbers 1 agents)
+
+-- these events as moves, the last one first, after the earlier ones
+abbrev pub then_made : List Event → List Move → List Move
+then_made [] moves = moves
+then_made (made ∷ events) moves = then_made events (Makes made ∷ moves)
+
+-- the moves end in these events
+abbrev pub EndIn : List Event → List Move → Type 0
+EndIn events moves = (earlier : List Move) × (moves ≡ then_made events earlier)
+
+-- Where memory did not suffice, one more event may have been made in part.
+abbrev pub EndInAdvance : ℕ → ℕ → ℕ → ℕ → List Move → Type 0
+EndInAdvance ms servers agents made moves =
+    (made ≤ servers + agents) × (EndIn (take made (ticks_of ms servers agents)) moves ⊎ EndIn (take (suc made) (ticks_of ms servers agents)) moves)
+
 -- A cluster that was reached by these moves, the last one first: whether each event was whole.
 pub data Reached (start : Cluster) : Bool → List Move → Cluster → Type 0 where
   at_start : Reached start true [] start
@@ -88,6 +111,8 @@ pub data Reached (start : Cluster) : Bool → List Move → Cluster → Type 0 w
       Reached start whole moves (record c { tray = before ++ after })
   by_settling : {whole : Bool} {moves : List Move} {c : Cluster} (pairs : ℕ) (all : Bool) → Reached start whole moves c → Settled pairs all moves →
       Reached start whole (Settles pairs all ∷ moves) (record c { past = mark.Settled pairs all ∷ c.past })
+  by_advancing : {whole : Bool} {moves : List Move} {c : Cluster} (ms made : ℕ) → Reached start whole moves c → EndInAdvance ms (length c.servers) (length c.agents) made moves →
+      Reached start whole (Advances ms made ∷ moves) (record c { past = mark.Advanced ms made ∷ c.past })
 
 -- the moves that the marks name
 abbrev pub moves_of : List Mark → List Move
@@ -96,6 +121,7 @@ moves_of (mark.Asked number agent asked draw ∷ past) = Makes (event.Ask agent 
 moves_of (mark.Made made ∷ past) = Makes made ∷ moves_of past
 moves_of (mark.Taken number ∷ past) = Takes number ∷ moves_of past
 moves_of (mark.Settled pairs whole ∷ past) = Settles pairs whole ∷ moves_of past
+moves_of (mark.Advanced ms made ∷ past) = Advances ms made ∷ moves_of past
 moves_of (other ∷ past) = moves_of past
 
 -- the message of the lowest number
@@ -107,3 +133,8 @@ lowest (p ∷ ps) = Some p
 pub data Settling : ℕ → Cluster → Cluster → Type 0 where
   none : {c : Cluster} → Settling 0 c c
   pair : {n : ℕ} {c c' : Cluster} (p : Packet) (c₁ c₂ : Cluster) → lowest c.world.bag.packets ≡ Some p → Fits c (event.Deliver p.number) → ClusterStep c (event.Deliver p.number) c₁ true → Fits c₁ (event.Drop p.number) → ClusterStep c₁ (event.Drop p.number) c₂ true → Settling n c₂ c' → Settling (suc n) c c'
+
+-- These whole events, one after the other, as an advance makes its own.
+pub data Making : List Event → Cluster → Cluster → Type 0 where
+  no_more : {c : Cluster} → Making [] c c
+  one : {events : List Event} {c c' : Cluster} (made : Event) (c₁ : Cluster) → Fits c made → ClusterStep c made c₁ true → Making events c₁ c' → Making (made ∷ events) c c'

@@ -1,26 +1,33 @@
 -- Requests with their numbers, and what a reply shows. The cluster knows no JSON: a reply's status, body and form are
 -- a function of its content (Consul, HTTP API, version 1).
-use Rattle.std.specs.Prelude.{ℕ, ◌+◌, ◌-◌, ◌/◌, ◌%◌, nat_lt, if◌then◌else◌, Bool, true, List, [], ◌∷◌, ◌++◌, take, Option, Some, None, codes}
+use Rattle.std.specs.Option.{option_map}
+use Rattle.std.specs.Prelude.{ℕ, ◌+◌, ◌*◌, ◌-◌, if◌then◌else◌, Bool, true, List, [], ◌∷◌, take, Option, Some, None}
 use Rattle.cat_model.specs.declared.query.Query.{Query}
 use Rattle.cat_model.specs.declared.query.Answer.{Answer}
 use Rattle.cat_model.specs.declared.command.Command.{Command}
 use Rattle.cat_model.specs.declared.command.Command.TheVariants.{SessionCreate, QuerySet}
 use Rattle.cat_model.specs.declared.command.Entry.{Entry}
 use Rattle.cat_model.specs.declared.applied.Applied.{Applied}
-use Rattle.cat_model.specs.declared.request.Request.TheVariants.{Read, Write}
+use Rattle.cat_model.specs.declared.query.Ran.{Ran}
+use Rattle.cat_model.specs.declared.row.SessionRow.{SessionRow}
+use Rattle.cat_model.specs.declared.request.Request.TheVariants.{Read, Execute, Write, Renew}
 use Rattle.cat_model.specs.declared.request.Asked.{Asked}
 use Rattle.cat_model.specs.declared.request.Asked.TheVariants.{Good}
 use Rattle.cat_model.specs.declared.request.Draw.{Draw}
 use Rattle.cat_model.specs.declared.reply.Kind.{Kind}
-use Rattle.cat_model.specs.declared.reply.Kind.TheVariants.{Acked, At, Refused}
+use Rattle.cat_model.specs.declared.reply.Kind.TheVariants.{Acked, At, Seen, Local, Delayed, Refused}
 use Rattle.cat_model.specs.declared.reply.Mark.{Mark}
 use Rattle.cat_model.specs.declared.reply.Mark.TheVariants as mark
 use Rattle.cat_model.specs.declared.reply.Refusal.{Refusal}
+use Rattle.uuid.specs.Text.{parsed}
+use Rattle.cat_model.specs.Catalog.{session_at}
+use Rattle.cat_model.specs.Executions.{execution}
 use Rattle.cat_model.specs.Identifiers.{identifier}
 use Rattle.cat_model.specs.Keys.{is_empty}
 use Rattle.cat_model.specs.Log.{commands_of}
 use Rattle.cat_model.specs.Machine.{catalog_at, reply_to}
 use Rattle.cat_model.specs.Queries.{answer}
+use Rattle.agent_rules.specs.Agents.{agent_node}
 
 -- A request with its number, the agent that was asked, and the words that were drawn for it.
 pub record Question : Type 0 where
@@ -32,14 +39,6 @@ pub record Question : Type 0 where
 -- the mark of its asking
 abbrev pub came : Question → Mark
 came q = mark.Asked q.number q.agent q.asked q.draw
-
--- the name of an agent's node; agents are numbered up to 64
-abbrev pub digits : ℕ → List ℕ
-digits n = if nat_lt n 10 then (48 + n) ∷ [] else (48 + n / 10) ∷ (48 + n % 10) ∷ []
-
--- the name of an agent's node
-abbrev pub agent_node : ℕ → List ℕ
-agent_node agent = codes "agent-" ++ digits agent
 
 -- The command that a write enters into the log: a new session or prepared query gets the identifier that was drawn,
 -- and a session without a node is its agent's.
@@ -54,6 +53,10 @@ entered q command = command
 pub data Content : Type 0 where
   Shows : (query : Query) (raw : Bool) (answer : Answer) → Content
   Tells : (command : Command) (applied : Applied) → Content
+  Runs : (ran : Option Ran) → Content
+  Renews : (row : Option SessionRow) → Content
+  Holds : (body : List ℕ) → Content
+  Defers : (command : Command) (key : List ℕ) → Content
   Says : (why : Refusal) → Content
   Blank : Content
 
@@ -68,12 +71,34 @@ abbrev pub shown_read : Asked → ℕ → List Entry → Content
 shown_read (Good (Read query mode least wait raw)) prefix log = Shows query raw (answer query (catalog_at (commands_of (take prefix log))))
 shown_read other prefix log = Blank
 
+-- the number that bytes spell, the most significant first
+abbrev pub number_from : ℕ → List ℕ → ℕ
+number_from n [] = n
+number_from n (b ∷ bytes) = number_from (n * 256 + b) bytes
+
+-- the identifier that a text spells
+abbrev pub id_in : List ℕ → Option ℕ
+id_in text = option_map (number_from 0) (parsed text)
+
+-- an execution shows what the prepared query gives at its prefix, a renewal the session's row
+abbrev pub shown_seen : Asked → ℕ → List Entry → Content
+shown_seen (Good (Execute name limit mode)) prefix log = Runs (execution (catalog_at (commands_of (take prefix log))) (id_in name) name limit)
+shown_seen (Good (Renew id)) prefix log = Renews (session_at id (catalog_at (commands_of (take prefix log))).sessions)
+shown_seen other prefix log = Blank
+
+-- a write that a lock delay refused, with the key
+abbrev pub shown_delay : Question → Asked → List ℕ → Content
+shown_delay q (Good (Write command)) key = Defers (entered q command) key
+shown_delay q other key = Blank
+
 -- what a reply of this kind shows over a log
 unfoldable pub shown : Question → Kind → List Entry → Content
 shown q (Acked position) log = shown_write q q.asked position log
 shown q (At mode prefix index clock deadline) log = shown_read q.asked prefix log
+shown q (Seen mode prefix) log = shown_seen q.asked prefix log
+shown q (Local body) log = Holds body
+shown q (Delayed key until now) log = shown_delay q q.asked key
 shown q (Refused why) log = Says why
-shown q other log = Blank
 
 -- the index that a reply names, which is that of a read
 abbrev pub index_shown : Kind → Option ℕ

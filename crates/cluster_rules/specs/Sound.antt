@@ -5,7 +5,7 @@ use Rattle.cat_model.specs.declared.query.Query.{Query}
 use Rattle.cat_model.specs.declared.command.Entry.{Entry}
 use Rattle.cat_model.specs.declared.request.Mode.{Mode}
 use Rattle.cat_model.specs.declared.request.Mode.TheVariants.{Default, Consistent, Stale}
-use Rattle.cat_model.specs.declared.request.Request.TheVariants.{Read, Write}
+use Rattle.cat_model.specs.declared.request.Request.TheVariants.{Read, Execute, Write}
 use Rattle.cat_model.specs.declared.request.Asked.{Asked}
 use Rattle.cat_model.specs.declared.request.Asked.TheVariants.{Good}
 use Rattle.cat_model.specs.declared.request.Event.TheVariants as event
@@ -23,7 +23,7 @@ use Rattle.raft_model.specs.Node.{Node}
 use Rattle.raft_model.specs.Rules.{is_confirmed}
 use Rattle.raft_model.specs.World.{World, Reaches, IsReached, IsServer}
 use Rattle.cluster_rules.specs.Replies.{Question, came, entered, Reply, reply_of, Out, Replied, Closed, Synced, number_of}
-use Rattle.cluster_rules.specs.Lasting.{IsWrite, IsRead, Lasting}
+use Rattle.cluster_rules.specs.Lasting.{IsWrite, IsLook, Lasting}
 use Rattle.cluster_rules.specs.Cluster.{Server, Stand, AtPlace, InRound, ForIndex, Ended, Pending, Start, Proposed, Probed, Looked, Cluster, node_of, server_of}
 use Rattle.cluster_rules.specs.Step.{events_in}
 
@@ -133,14 +133,19 @@ abbrev pub WasBelow : Query → ℕ → Option ℕ → Log → Type 0
 WasBelow query least None applied = Unit {0}
 WasBelow query least (Some n) applied = (n ≤ length applied) × (index_of query (commands_of (take n applied)) ≤ least)
 
+-- of a read, that its index was not above the one given when it was last looked for
+abbrev pub SeenBelow : Asked → Option ℕ → Log → Type 0
+SeenBelow (Good (Read query mode least wait raw)) seen applied = WasBelow query least seen applied
+SeenBelow other seen applied = Unit {0}
+
 -- what a held request waits for is so, by what its server has applied
 abbrev pub StandIsSound : Log → List Mark → List Start → ℕ → Question → Stand → Type 0
 StandIsSound applied past starts server q (AtPlace index term) =
     IsWrite q.asked (λ command. IsAmong (Proposed index (record { term = term; number = q.number; command = entered q command })) starts)
 StandIsSound applied past starts server q (InRound round deadline) =
-    IsRead q.asked (λ query mode least. (mode ≡ Consistent) × IsAmong (Probed q.number server round) starts)
+    IsLook q.asked (λ mode. (mode ≡ Consistent) × IsAmong (Probed q.number server round) starts)
 StandIsSound applied past starts server q (ForIndex deadline seen) =
-    IsRead q.asked (λ query mode least. IsFresh mode q.number past starts (length applied) × WasBelow query least seen applied)
+    IsLook q.asked (λ mode. IsFresh mode q.number past starts (length applied)) × SeenBelow q.asked seen applied
 StandIsSound applied past starts server q (Ended number) = RestartedAt number server past
 
 -- a held request
@@ -162,6 +167,8 @@ LostFor w starts q (Good (Write command)) old found =
     (index : ℕ) × (e : Entry) × IsAmong (Proposed index e) starts × (e.number ≡ q.number) × (e.term ≡ old)
     × (index ≤ length w.agreed) × (term_at index w.agreed ≡ found) × NeverEnters w old q.number
 LostFor w starts q (Good (Read query mode least wait raw)) old found =
+    (server : ℕ) × (round : Round) × IsAmong (Probed q.number server round) starts × (round.term ≡ old)
+LostFor w starts q (Good (Execute name limit mode)) old found =
     (server : ℕ) × (round : Round) × IsAmong (Probed q.number server round) starts × (round.term ≡ old)
 LostFor w starts q other old found = Unit {0}
 

@@ -1,25 +1,24 @@
 -- One event of a cluster. It is marked; its server makes up for what is due; then come its acts, each followed by
 -- making up; then its outs join the tray. It may be cut short for want of memory wherever something is left to do.
 use Rattle.std.specs.Prelude.{◌≡◌, ◌≢◌, ℕ, suc, ◌==◌, ◌<◌, ◌⊎◌, Bool, true, false, List, [], ◌∷◌, ◌++◌, length, map, if◌then◌else◌, Option, Some, None}
-use Rattle.std.specs.List.{list_all}
-use Rattle.cat_model.specs.declared.command.Command.{Command}
-use Rattle.cat_model.specs.declared.command.Command.TheVariants.{Noop, Register, KvSet, KvCas}
 use Rattle.cat_model.specs.declared.request.Asked.{Asked}
+use Rattle.cat_model.specs.declared.request.Asked.TheVariants.{Good}
+use Rattle.cat_model.specs.declared.request.Request.TheVariants.{Agent}
 use Rattle.cat_model.specs.declared.request.Draw.{Draw}
 use Rattle.cat_model.specs.declared.request.Event.{Event}
 use Rattle.cat_model.specs.declared.request.Event.TheVariants as event
 use Rattle.cat_model.specs.declared.reply.Mark.{Mark}
 use Rattle.cat_model.specs.declared.reply.Mark.TheVariants as mark
 use Rattle.cat_model.specs.declared.reply.Refusal.{Refusal}
-use Rattle.cat_model.specs.Log.{commands_of}
 use Rattle.raft_model.specs.Node.{set_server}
 use Rattle.raft_model.specs.Rules.{Input, Timeout, Beat, Receive}
 use Rattle.raft_model.specs.Step.{Forgets}
 use Rattle.raft_model.specs.World.{World, Packet, WorldStep, numbered, Acts as NodeActs}
 use Rattle.raft_model.specs.World as world
-use Rattle.cluster_rules.specs.Cluster.{Ended, Pending, Cluster, no_server, node_of, applied_of, runs_leading}
+use Rattle.cluster_rules.specs.Cluster.{Ended, Pending, Cluster, no_server, node_of, seated}
 use Rattle.cluster_rules.specs.Due.{Work, did, due, IsDue, Works, IsMadeUp}
-use Rattle.cluster_rules.specs.Requests.{Way, Answers, Goes, way, asked_server, moved_with, moved, refused, Handles}
+use Rattle.cluster_rules.specs.Requests.{Way, Answers, Goes, way, way_of, asked_server, moved_with, moved, refused, Handles}
+use Rattle.cluster_rules.specs.Proposals.{Tends, Syncs, did_own, sync_of, agent_did, is_agents, synced}
 
 -- how many events there were, by their marks
 abbrev pub events_in : List Mark → ℕ
@@ -48,37 +47,30 @@ input_of w i (event.Beat s) = if s == i then Some Beat else None
 input_of w i (event.Deliver k) = received i (numbered k w.bag.packets)
 input_of w i other = None
 
--- A command after which no tick of a leading server has anything to propose: it begins no session with a TTL, and
--- removes no key.
-abbrev pub is_calm : Command → Bool
-is_calm Noop = true
-is_calm (Register node address service checks) = true
-is_calm (KvSet key flags value) = true
-is_calm (KvCas key flags value index) = true
-is_calm other = false
-
--- Where a leading server's tick could propose the end of a session or a reap, it has no act yet.
-abbrev pub IsCalm : Cluster → ℕ → Type 0
-IsCalm c i = (runs_leading c.world i ≡ false) ⊎ (list_all is_calm (commands_of (applied_of c i)) ≡ true)
-
--- One act of an event at its server, of which `n` are done. The proposals of a tick and of a sync are further acts, to
--- be added; a Sync and an AgentTick have none yet.
+-- One act of an event at its server, of which `n` are done. A tick has a second one, in which the server proposes what
+-- is due by its clock.
 pub data Acts (n : ℕ) (c : Cluster) (i : ℕ) (made : Event) (c' : Cluster) : Type 0 where
-  takes : (input : Input) (w' : World) → n ≡ 0 → input_of c.world i made ≡ Some input → NodeActs c.world i input w' → c' ≡ moved i w' c → Acts n c i made c'
-  ticks : (ms : ℕ) (w' : World) → n ≡ 0 → made ≡ event.Tick i ms → IsCalm c i → WorldStep c.world (world.Ticks i ms) w' → c' ≡ moved i w' c → Acts n c i made c'
+  takes : (input : Input) (w' : World) → n ≡ 0 → input_of c.world i made ≡ Some input → NodeActs c.world i input w' → c' ≡ seated c.world i (moved i w' c) → Acts n c i made c'
+  ticks : (ms : ℕ) (w' : World) → n ≡ 0 → made ≡ event.Tick i ms → WorldStep c.world (world.Ticks i ms) w' → c' ≡ moved i w' c → Acts n c i made c'
   arms : (nth : ℕ) (w' : World) → n ≡ 0 → made ≡ event.FailKeep i nth → WorldStep c.world (world.Arms i nth) w' → c' ≡ moved i w' c → Acts n c i made c'
   -- a restart that fails leaves the server halted, also where it was halted before
   restarts : (w' : World) → n ≡ 0 → made ≡ event.Restart i → WorldStep c.world (world.Restarts i) w' → c' ≡ begun_anew i (moved_with (node_of w' i).halted i w' c) → Acts n c i made c'
   handles : (agent : ℕ) (asked : Asked) (draw : Draw) → n ≡ 0 → made ≡ event.Ask agent asked draw → way c.world (asked_server (length c.servers) agent) asked ≡ Some (Goes i) →
       Handles c i (record { number = c.asked; agent = agent; asked = asked; draw = draw }) c' → Acts n c i made c'
+  tends : (ms : ℕ) (whole : Bool) → n ≡ 1 → made ≡ event.Tick i ms → Tends i c c' whole → Acts n c i made c'
+  syncs : (a : ℕ) (whole : Bool) → n ≡ 0 → sync_of c made ≡ Some a → way_of c.world (asked_server (length c.servers) a) false ≡ Goes i → Syncs i a (did_own made) (agent_did made c) c' whole → Acts n c i made c'
 
 -- how many acts an event has
 abbrev pub acts_of : Event → ℕ
-acts_of made = 1
+acts_of (event.Tick s ms) = 2
+acts_of other = 1
 
--- the act found the memory that it needed: it left no node with a term that it had just saved
+-- The act found the memory that it needed: it left no node with a term that it had just saved, and proposed all that it
+-- had to.
 abbrev pub Remembers : {n : ℕ} {c : Cluster} {i : ℕ} {made : Event} {c' : Cluster} → Acts n c i made c' → Type 0
 Remembers (takes input w' z is acts e) = acts.outcome ≢ Forgets
+Remembers (tends ms whole z is t) = whole ≡ true
+Remembers (syncs a whole z is goes y) = whole ≡ true
 Remembers other = Unit {0}
 
 -- An act is cut short where something is still due once its works stop, or where it forgot.
@@ -103,6 +95,11 @@ abbrev pub receiver : Option Packet → Option ℕ
 receiver None = None
 receiver (Some p) = Some p.to
 
+-- the server to which an agent's sync goes
+abbrev pub sync_goes : Cluster → Option ℕ → Option ℕ
+sync_goes c None = None
+sync_goes c (Some a) = goes (Some (way_of c.world (asked_server (length c.servers) a) false))
+
 -- the server of an event
 abbrev pub goes_to : Cluster → Event → Option ℕ
 goes_to c (event.Timeout s) = Some s
@@ -112,15 +109,19 @@ goes_to c (event.Deliver k) = receiver (numbered k c.world.bag.packets)
 goes_to c (event.Drop k) = None
 goes_to c (event.Restart s) = Some s
 goes_to c (event.FailKeep s nth) = Some s
+goes_to c (event.Ask agent (Good (Agent op)) draw) = sync_goes c (sync_of c (event.Ask agent (Good (Agent op)) draw))
 goes_to c (event.Ask agent asked draw) = goes (way c.world (asked_server (length c.servers) agent) asked)
-goes_to c (event.Sync agent) = None
-goes_to c (event.AgentTick agent ms) = None
+goes_to c (event.Sync agent) = sync_goes c (sync_of c (event.Sync agent))
+goes_to c (event.AgentTick agent ms) = sync_goes c (sync_of c (event.AgentTick agent ms))
 
--- an event that goes to no server: the loss of a message, or a request that is answered at once
+-- An event that goes to no server: the loss of a message, a request that is answered at once, or an agent's event without
+-- a sync, or with one that finds no leader.
 pub data Passes (c : Cluster) (made : Event) (c' : Cluster) : Type 0 where
   loses : (k : ℕ) (w' : World) → made ≡ event.Drop k → WorldStep c.world (world.Drops k) w' → c' ≡ record c { world = w' } → Passes c made c'
   replies : (agent : ℕ) (asked : Asked) (draw : Draw) (why : Refusal) → made ≡ event.Ask agent asked draw → way c.world (asked_server (length c.servers) agent) asked ≡ Some (Answers why) →
       c' ≡ refused (record { number = c.asked; agent = agent; asked = asked; draw = draw }) why c → Passes c made c'
+  stays : is_agents made ≡ true → sync_of c made ≡ None → c' ≡ agent_did made c → Passes c made c'
+  leaderless : (a : ℕ) (why : Refusal) → is_agents made ≡ true → sync_of c made ≡ Some a → way_of c.world (asked_server (length c.servers) a) false ≡ Answers why → c' ≡ synced a None (agent_did made c) → Passes c made c'
 
 -- the mark of an event, whatever it is
 abbrev pub noted : Event → Cluster → Cluster

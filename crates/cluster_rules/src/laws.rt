@@ -12,7 +12,7 @@ ghost use Rattle.cat_model.specs.declared.request.Request.TheVariants.{Read, Wri
 ghost use Rattle.cat_model.specs.declared.request.Asked.TheVariants.{Bad, Good};
 ghost use Rattle.cat_model.specs.declared.request.Event.{Event};
 ghost use Rattle.cat_model.specs.declared.reply.Kind.{Kind};
-ghost use Rattle.cat_model.specs.declared.reply.Kind.TheVariants.{Acked, At, Refused};
+ghost use Rattle.cat_model.specs.declared.reply.Kind.TheVariants.{Acked, At, Seen, Refused};
 ghost use Rattle.cat_model.specs.declared.reply.Mark.TheVariants.{Answered};
 ghost use Rattle.cat_model.specs.declared.reply.Refusal.TheVariants.{Invalid, LogFull, Lost, TooMany};
 ghost use Rattle.cat_model.specs.declared.reply.Role.TheVariants.{Follower};
@@ -22,13 +22,16 @@ ghost use Rattle.raft_model.specs.Runs.{fresh};
 ghost use Rattle.raft_model.specs.World.{World, IsReached, Reaches};
 ghost use Rattle.cluster_rules.specs.Replies.{Out, Question, came, entered};
 ghost use Rattle.cluster_rules.specs.Lasting.{IsWrite, IsEntered, Lasting};
-ghost use Rattle.cluster_rules.specs.Cluster.{Cluster, Pending, applied_of, node_of, server_of, started};
+ghost use Rattle.cluster_rules.specs.Cluster.{Cluster, Pending, Server, applied_of, node_of, server_of, started};
+ghost use Rattle.cluster_rules.specs.Timely.{AreTimely};
+ghost use Rattle.cluster_rules.specs.SessionRuns.{LockRun, ReapRun, TtlRun};
 ghost use Rattle.cluster_rules.specs.Due.{IsDue, Work, did, due};
 ghost use Rattle.cluster_rules.specs.Left.{left};
+ghost use Rattle.cluster_rules.specs.Guards.{StepIsGuarded};
 ghost use Rattle.cluster_rules.specs.Legal.{StepIsLegal, StillWaits};
 ghost use Rattle.cluster_rules.specs.Step.{ClusterStep};
-ghost use Rattle.cluster_rules.specs.Reached.{EndInPairs, IsStart, Move, Reached, Settling, moves_of};
-ghost use Rattle.cluster_rules.specs.Runs.{ConsistentRun, FullWaitRun, LostWriteRun, NotReadyRun, PutAndGet, StoreFailsRun};
+ghost use Rattle.cluster_rules.specs.Reached.{EndInPairs, IsStart, Making, Move, Reached, Settling, moves_of, then_made};
+ghost use Rattle.cluster_rules.specs.Runs.{ConsistentRun, FullWaitRun};
 ghost use Rattle.cluster_rules.specs.Sound.{OutIsSound, answers_in, Ascends, IsAmong, LookedBefore, NeverEnters, Sound, entered_in, entries_before, found, halts_in};
 
 /// Each step, whole or cut short, keeps a cluster sound.
@@ -76,6 +79,12 @@ pub fn consistent_reads_are_fresh()
     ensures { (c : Cluster) → Sound c → (number prefix index clock deadline : ℕ) (known : Bool) (contact : ℕ) → IsAmong (Answered number (At Consistent prefix index clock deadline) known contact) c.past → entries_before number c.past ≤ prefix }
 {}
 
+/// Nor is that of a consistent execution.
+#[tactic(auto, using(crate::proofs::Answers::run_fresh))]
+pub fn consistent_executions_are_fresh()
+    ensures { (c : Cluster) → Sound c → (number prefix : ℕ) (known : Bool) (contact : ℕ) → IsAmong (Answered number (Seen Consistent prefix) known contact) c.past → entries_before number c.past ≤ prefix }
+{}
+
 /// A default read's prefix is no shorter than what its server had applied at its asking.
 #[tactic(auto, using(crate::proofs::Answers::default_fresh))]
 pub fn default_reads_look_no_earlier()
@@ -85,6 +94,15 @@ pub fn default_reads_look_no_earlier()
 /// Each reply and each closing of a step is legal in the cluster in which it is made.
 pub fn replies_are_legal()
     ensures { (c c' : Cluster) (made : Event) (whole : Bool) (step : ClusterStep c made c' whole) → Sound c → StepIsLegal c made c' whole step }
+{}
+
+/// A write that locks a key is proposed only by a server by whose clock the key's lock delay is over, and with the number
+/// of its request, which is not 0. The end of a session is proposed for no request only in the second act of a tick, and
+/// only of a session with a TTL, twice of which is over since the latest of the server's taking office, its applying of
+/// the creation, and its renewal. No sync and no reap proposes one, and nothing else proposes.
+#[tactic(auto, using(crate::proofs::Guarding::step_guarded))]
+pub fn proposals_are_guarded()
+    ensures { (c c' : Cluster) (made : Event) (whole : Bool) (step : ClusterStep c made c' whole) → Sound c → StepIsGuarded c made c' whole step }
 {}
 
 /// Each of the requests that were asked is in exactly one place: held, in an out that nobody has taken, or taken. No
@@ -147,6 +165,17 @@ pub fn settling_makes_pairs()
         (moves' : List Move) × Reached start whole moves' c' × EndInPairs (n + m) moves' }
 {}
 
+/// Whole events one after another, as an advance of all clocks makes them, are moves of the run.
+#[tactic(auto, using(crate::proofs::Settling::making_reaches))]
+pub fn advancing_makes_events()
+    ensures { (start : Cluster) (whole : Bool) (events : List Event) (moves : List Move) (c c' : Cluster) → Reached start whole moves c → Making events c c' → Reached start whole (then_made events moves) c' }
+{}
+
+/// Nothing that a server noted, the clock of a position, of its taking office or of a renewal, lies ahead of its clock.
+pub fn nothing_is_noted_ahead()
+    ensures { (start : Cluster) → IsStart start → (whole : Bool) (moves : List Move) (c : Cluster) → Reached start whole moves c → AreTimely c }
+{}
+
 /// A server's durable store counts no fewer failures than there are marks of its halts.
 pub fn halts_are_counted()
     ensures { (start : Cluster) → IsStart start → (whole : Bool) (moves : List Move) (c : Cluster) → Reached start whole moves c → (i : ℕ) → min (halts_in i c.past) (2 ^ 64 - 1) ≤ (node_of c.world i).store.faults }
@@ -172,39 +201,32 @@ pub fn leaders_have_terms()
     ensures { (w : World) → IsReached w → (i : ℕ) → ((node_of w i).role ≡ Follower) ⊎ (0 < (node_of w i).term) }
 {}
 
-/// One server is elected, a key is set and read: the definitions compute this run.
-#[tactic(auto, using(crate::proofs::Rows::put_and_get))]
-pub fn smallest_run()
-    ensures { PutAndGet }
-{}
-
-/// Three servers: a read before any election finds no leader, and one at a leader that has applied nothing of its term
-/// finds it not ready.
-#[tactic(auto, using(crate::proofs::ThreeServers::not_ready_run))]
-pub fn no_leader_then_not_ready()
-    ensures { NotReadyRun }
-{}
-
 /// A read that waits is answered unchanged once its full wait is over.
 #[tactic(auto, using(crate::proofs::FullWait::full_wait_run))]
 pub fn unchanged_after_the_full_wait()
     ensures { FullWaitRun }
 {}
 
-/// Three servers: a write is answered that its leadership was lost, since another leader's entry stands at its place.
-#[tactic(auto, using(crate::proofs::LostWrite::lost_write_run))]
-pub fn a_write_is_lost()
-    ensures { LostWriteRun }
-{}
-
-/// A server whose durable store fails at a write refuses what it holds and what comes, until it restarts.
-#[tactic(auto, using(crate::proofs::StoreFails::store_fails_run))]
-pub fn a_failed_store_halts()
-    ensures { StoreFailsRun }
-{}
-
 /// A consistent read is answered once its round is confirmed.
 #[tactic(auto, using(crate::proofs::ConsistentRead::consistent_run))]
 pub fn a_consistent_read_has_its_round()
     ensures { ConsistentRun }
+{}
+
+/// A session is renewed, and ends at twice its TTL after that.
+#[tactic(auto, using(crate::proofs::TtlRun::ttl_run))]
+pub fn a_renewed_session_ends_later()
+    ensures { TtlRun }
+{}
+
+/// A lock delay refuses a transaction and a write until just its end.
+#[tactic(auto, using(crate::proofs::LockRun::lock_run))]
+pub fn a_lock_waits_for_its_delay()
+    ensures { LockRun }
+{}
+
+/// A removed key is reaped at the leading server's next look.
+#[tactic(auto, using(crate::proofs::ReapRun::reap_run))]
+pub fn a_removed_key_is_reaped()
+    ensures { ReapRun }
 {}

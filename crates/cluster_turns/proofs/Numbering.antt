@@ -9,7 +9,9 @@ use Rattle.cat_model.specs.declared.reply.Mark.TheVariants as mark
 use Rattle.cat_model.specs.declared.reply.Refusal.{Refusal}
 use Rattle.cluster_rules.specs.Cluster.{Cluster}
 use Rattle.cluster_rules.specs.Due.{Work, Replies, Holds, Closes, Applies, due, IsDue, early, next_one, late, did, Works, none, work, IsMadeUp}
-use Rattle.cluster_rules.specs.Requests.{Goes, Answers, refused}
+use Rattle.cluster_rules.specs.Requests.{Way, Goes, Answers, refused}
+use Rattle.cat_model.specs.declared.request.Asked.TheVariants.{Good, Bad}
+use Rattle.cat_model.specs.declared.request.Request.TheVariants.{Read, Execute, Write, Renew, Agent}
 use Rattle.cluster_rules.specs.Step.{Acts, Remembers, handles, over, act, cut, replies, ClusterStep, done, passed, cut_early, marked, noted, shelved, goes, goes_to}
 use Rattle.cluster_turns.specs.declared.cut.Cut.{Cut}
 use Rattle.cluster_turns.specs.declared.cut.Cut.TheVariants.{Before, Within}
@@ -49,7 +51,7 @@ pub works_come : (i : ℕ) (agent : ℕ) (asked : Asked) (draw : Draw) (c c' : C
 works_come i agent asked draw c c' none p = p
 works_come i agent asked draw c c' (work w d more) p = works_come i agent asked draw (did i w c) c' more (did_come i agent asked draw w c p)
 
-made_up_numbered : (i agent : ℕ) (asked : Asked) (draw : Draw) (a c : Cluster) → IsMadeUp i (noted (event.Ask agent asked draw) a) c → IsMadeUp i (marked (event.Ask agent asked draw) a) (numbered agent asked draw c)
+pub made_up_numbered : (i agent : ℕ) (asked : Asked) (draw : Draw) (a c : Cluster) → IsMadeUp i (noted (event.Ask agent asked draw) a) c → IsMadeUp i (marked (event.Ask agent asked draw) a) (numbered agent asked draw c)
 made_up_numbered i agent asked draw a c (p, n) =
     let k : c.asked ≡ a.asked = (works_keep i (noted (event.Ask agent asked draw) a) c p).asked in
     let q : Works i (marked (event.Ask agent asked draw) a) (with_number (suc a.asked) (mark.Asked (suc a.asked) agent asked draw) c) =
@@ -82,8 +84,16 @@ ask_whole i agent asked draw a b c d g e (c₁, c₂, m, x, n) f =
     let m' : IsMadeUp i (noted (event.Ask agent asked draw) a) c₁ = subst (λ z. IsMadeUp i z c₁) e m in
     done i (numbered agent asked draw c₁) c (made_up_numbered i agent asked draw a c₁ m') (act c₂ c (acted i agent asked draw a c₁ c₂ g m' x).0 (acted i agent asked draw a c₁ c₂ g m' x).1 n (over refl)) f
 
+no_way : (x : Way) → None ≡ Some x → ⊥
+no_way x e = cc e
+
 asked_goes : (i agent : ℕ) (asked : Asked) (draw : Draw) (a : Cluster) → GoesBy agent asked (Goes i) a → goes_to a (event.Ask agent asked draw) ≡ Some i
-asked_goes i agent asked draw a g = ap goes g
+asked_goes i agent (Good (Read query mode least wait raw)) draw a g = ap goes g
+asked_goes i agent (Good (Execute name limit mode)) draw a g = ap goes g
+asked_goes i agent (Good (Write command)) draw a g = ap goes g
+asked_goes i agent (Good (Renew id)) draw a g = ap goes g
+asked_goes i agent (Good (Agent op)) draw a g = absurd (no_way _ g)
+asked_goes i agent (Bad why) draw a g = ap goes g
 
 pub ask_cut : (i agent : ℕ) (asked : Asked) (draw : Draw) (a b c d : Cluster) → GoesBy agent asked (Goes i) a → b ≡ noted (event.Ask agent asked draw) a → IsServedCut i agent asked draw Within b c → d ≡ shelved c → FindsNoMemory (event.Ask agent asked draw) a d
 ask_cut i agent asked draw a b c d g e (inl p) f =

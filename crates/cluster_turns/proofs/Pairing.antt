@@ -1,9 +1,12 @@
 -- Pairs of a delivery and the same message's loss.
-use Rattle.std.proofs.Common.{◌≡◌, inl, inr, ℕ, suc, ◌==◌, Bool, true, false, cond, List, [], ◌∷◌, ◌++◌, Option, Some, sym, ◌∙◌, ap, subst, eq-eqb}
+use Rattle.std.proofs.Common.{◌≡◌, inl, inr, ℕ, suc, ◌==◌, Bool, true, false, cond, List, [], ◌∷◌, ◌++◌, Option, Some, None, refl, sym, ◌∙◌, ap, subst, eq-eqb}
 use Rattle.cat_model.specs.declared.request.Event.TheVariants as event
 use Rattle.raft_model.specs.declared.message.Sent.{Sent}
 use Rattle.raft_model.specs.World.{World, Packet, Bag, numbered, posted, posted_all, takes}
-use Rattle.cluster_rules.specs.Cluster.{Cluster}
+use Rattle.cluster_rules.specs.Cluster.{Cluster, clock_of, with_office, took_office, seated}
+use Rattle.office_rules.specs.Offices.{office_from}
+use Rattle.cluster_rules.specs.Requests.{moved}
+use Rattle.raft_model.proofs.Tests.{at_bool}
 use Rattle.cluster_rules.specs.Due.{work}
 use Rattle.cluster_rules.specs.Step as step
 use Rattle.cluster_rules.specs.Step.{Acts, Does, over, act, Passes, loses, replies, ClusterStep, done, passed, cut_early, marked}
@@ -37,11 +40,19 @@ IsThere k p c = numbered k c.world.bag.packets ≡ Some p
 kept_there : (k : ℕ) (p : Packet) (c c' : Cluster) → Keeps c c' → IsThere k p c → IsThere k p c'
 kept_there k p c c' e h = ap (λ (w : World). numbered k w.bag.packets) e.world ∙ h
 
+no_sync : (a : ℕ) → None ≡ Some a → ⊥
+no_sync a e = cc e
+
+seated_bag : (k : ℕ) (w : World) (i : ℕ) (c : Cluster) → numbered k (seated w i c).world.bag.packets ≡ numbered k c.world.bag.packets
+seated_bag k w i c = at_bool (λ b. numbered k (cond b (with_office i (office_from (clock_of c.world i)) c) c).world.bag.packets ≡ numbered k c.world.bag.packets) (took_office w c.world i) (λ _. refl) (λ _. refl)
+
 -- a delivered message is there still
 act_there : (k i n : ℕ) (p : Packet) (c c' : Cluster) → Acts n c i (event.Deliver k) c' → IsThere k p c → IsThere k p c'
 act_there k i n p c c' (step.takes input w z is acts e) h =
-    ap (λ (d : Cluster). numbered k d.world.bag.packets) e ∙ ap (λ (v : World). numbered k v.bag.packets) acts.becomes ∙ all_posted_still i k p acts.sent c.world.bag h
-act_there k i n p c c' (step.ticks ms w z is calm s e) h = absurd cc
+    ap (λ (d : Cluster). numbered k d.world.bag.packets) e ∙ seated_bag k c.world i (moved i w c) ∙ ap (λ (v : World). numbered k v.bag.packets) acts.becomes ∙ all_posted_still i k p acts.sent c.world.bag h
+act_there k i n p c c' (step.ticks ms w z is s e) h = absurd cc
+act_there k i n p c c' (step.tends ms whole z is t) h = absurd cc
+act_there k i n p c c' (step.syncs a whole z is g y) h = absurd (no_sync a is)
 act_there k i n p c c' (step.arms nth w z is s e) h = absurd cc
 act_there k i n p c c' (step.restarts w z is s e) h = absurd cc
 act_there k i n p c c' (step.handles agent asked draw z is g x) h = absurd cc
@@ -57,6 +68,8 @@ delivered_there k p c c' whole (done i c₁ c₂ m x e) h =
     ap (λ (d : Cluster). numbered k d.world.bag.packets) e ∙ does_there k i 0 p c₁ c₂ whole x (kept_there k p (marked (event.Deliver k) c) c₁ (works_keep i (marked (event.Deliver k) c) c₁ m.0) h)
 delivered_there k p c c' whole (passed c₁ w (loses n v is s f) e) h = absurd cc
 delivered_there k p c c' whole (passed c₁ w (replies agent asked draw why is g f) e) h = absurd cc
+delivered_there k p c c' whole (passed c₁ w (step.stays own free f) e) h = absurd (cc own)
+delivered_there k p c c' whole (passed c₁ w (step.leaderless a why own is g f) e) h = absurd (cc own)
 delivered_there k p c c' whole (cut_early i w c₁ s g d m e) h =
     ap (λ (d : Cluster). numbered k d.world.bag.packets) e ∙ kept_there k p (step.noted (event.Deliver k) c) c₁ (works_keep i (step.noted (event.Deliver k) c) c₁ (work w d m)) h
 

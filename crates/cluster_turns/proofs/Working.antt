@@ -4,7 +4,7 @@ use Rattle.cat_model.specs.declared.request.Event.{Event}
 use Rattle.cat_model.specs.declared.request.Event.TheVariants as event
 use Rattle.cluster_rules.specs.Cluster.{Cluster}
 use Rattle.cluster_rules.specs.Due.{Work, due, IsDue, did, Works, none, work, IsMadeUp}
-use Rattle.cluster_rules.specs.Step.{over, act, cut, ClusterStep, done, cut_early, passed, loses, marked, noted, shelved, goes_to}
+use Rattle.cluster_rules.specs.Step.{acts_of, over, act, cut, ClusterStep, done, cut_early, passed, loses, marked, noted, shelved, goes_to}
 use Rattle.cluster_turns.specs.declared.cut.Cut.{Cut}
 use Rattle.cluster_turns.specs.declared.cut.Cut.TheVariants.{Before, Within}
 use Rattle.cluster_turns.specs.declared.impulse.Impulse.{Impulse}
@@ -34,8 +34,15 @@ made_up_by i false a b m = (subst (Works i a) (sym m.1) none, subst (λ z. due i
 pub made_up_works : (i : ℕ) (was : Bool) (a b : Cluster) → MadeUp i was a b → Works i a b
 made_up_works i was a b m = (made_up_by i was a b m).0
 
-pub done_by : (i : ℕ) (made : Event) (was : Bool) (a b c d : Cluster) → MadeUp i was a b → ActsWhole i made b c → Works i c d → due i d ≡ None → IsDone i made a d
-done_by i made was a b c d m x p n = (b, made_up_by i was a b m, act c d x.0 x.1 (p, n) (over refl))
+one_act : (made : Impulse) → 1 ≡ acts_of (event_of made)
+one_act (impulse.Timeout server) = refl
+one_act (impulse.Beat server) = refl
+one_act (impulse.Deliver n) = refl
+one_act (impulse.Restart server) = refl
+one_act (impulse.FailKeep server nth) = refl
+
+pub done_by : (i : ℕ) (made : Impulse) (was : Bool) (a b c d : Cluster) → MadeUp i was a b → ActsWhole i (event_of made) b c → Works i c d → due i d ≡ None → IsDone i (event_of made) a d
+done_by i made was a b c d m x p n = (b, made_up_by i was a b m, act c d x.0 x.1 (p, n) (over (one_act made)))
 
 pub cut_behind : (i : ℕ) (made : Event) (was : Bool) (a b c d : Cluster) → MadeUp i was a b → ActsWhole i made b c → Works i c d → due i d ≢ None → IsCut i made Within a d
 cut_behind i made was a b c d m x p n = inr (b, made_up_by i was a b m, cut c x.0 p (inl n))
@@ -54,7 +61,6 @@ cut_at_first i made Within a b m = inl m.0
 pub marked_impulse : (made : Impulse) (c : Cluster) → marked (event_of made) c ≡ noted (event_of made) c
 marked_impulse (impulse.Timeout server) c = refl
 marked_impulse (impulse.Beat server) c = refl
-marked_impulse (impulse.Tick server ms) c = refl
 marked_impulse (impulse.Deliver n) c = refl
 marked_impulse (impulse.Restart server) c = refl
 marked_impulse (impulse.FailKeep server nth) c = refl

@@ -62,15 +62,6 @@ pub fn beat<P: Parts>(parts: &mut P, alloc: Global, server: u32) -> Result<(), M
     impel(parts, alloc, server, Impulse::Beat(server))
 }
 
-/// The server's clock goes on by so many milliseconds, and stays at or below 2 ^ 53.
-pub fn tick<P: Parts>(parts: &mut P, alloc: Global, server: u32, ms: u64) -> Result<(), Memory>
-    requires { Fits (P.state parts.old) (event.Tick server ms) }
-    ensures whole { OnOk result (ClusterStep (P.state parts.old) (event.Tick server ms) (P.state parts.new) true) }
-    ensures cut { OnErr result (FindsNoMemory (event.Tick server ms) (P.state parts.old) (P.state parts.new)) }
-{
-    impel(parts, alloc, server, Impulse::Tick(server, ms))
-}
-
 /// The message with this number reaches its receiver, and may do so again.
 pub fn deliver<P: Parts>(parts: &mut P, alloc: Global, number: u64) -> Result<(), Memory>
     requires { IsUnderWay (P.state parts.old) number }

@@ -3,12 +3,11 @@ ghost use Rattle.cluster_turns.specs.Turns.{event_of};
 
 use cat_model::Event;
 
-/// An event that goes to one server and is no request. Times are milliseconds.
+/// An event of one act that goes to one server and is no request.
 #[derive(Clone, Copy, Debug)]
 pub enum Impulse {
     Timeout(u32),
     Beat(u32),
-    Tick(u32, u64),
     /// The message with this number.
     Deliver(u64),
     Restart(u32),
@@ -23,7 +22,6 @@ impl Impulse {
         match self {
             Impulse::Timeout(server) => Event::Timeout(server),
             Impulse::Beat(server) => Event::Beat(server),
-            Impulse::Tick(server, ms) => Event::Tick(server, ms),
             Impulse::Deliver(number) => Event::Deliver(number),
             Impulse::Restart(server) => Event::Restart(server),
             Impulse::FailKeep(server, nth) => Event::FailKeep(server, nth),

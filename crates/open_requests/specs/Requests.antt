@@ -1,12 +1,13 @@
 -- The requests of a cluster: what the rules' cluster has beside its world and what its servers have applied. `room` is
 -- how many calls may still come that take no memory; the rules know nothing of it.
-use Rattle.std.specs.Prelude.{◌≡◌, ℕ, ◌+◌, ◌*◌, ◌-◌, ◌^◌, ◌≤◌, ◌==◌, Bool, true, false, List, [], ◌∷◌, ◌++◌, map, if◌then◌else◌}
+use Rattle.std.specs.Prelude.{◌≡◌, ℕ, ◌+◌, ◌*◌, ◌-◌, ◌^◌, ◌≤◌, ◌==◌, Bool, true, false, List, [], ◌∷◌, ◌++◌, map, replicate, if◌then◌else◌}
 use Rattle.cat_model.specs.declared.request.Asked.{Asked}
 use Rattle.cat_model.specs.declared.request.Draw.{Draw}
 use Rattle.cat_model.specs.declared.request.Event.{Event}
 use Rattle.cat_model.specs.declared.reply.Kind.{Kind}
 use Rattle.cat_model.specs.declared.reply.Mark.{Mark}
 use Rattle.cat_model.specs.declared.reply.Mark.TheVariants as mark
+use Rattle.agent_rules.specs.Agents.{new_agent}
 use Rattle.cluster_rules.specs.Replies.{Question, Content, Reply, Out, Replied, Closed, index_shown}
 use Rattle.cluster_rules.specs.Cluster.{Cluster, Pending, Server, Stand, Start}
 use Rattle.cluster_rules.specs.Due.{without, put_out}
@@ -31,7 +32,7 @@ abbrev pub cluster_of : World → List Server → Requests → Cluster
 cluster_of world servers r = record {
   world = world;
   servers = servers;
-  agents = r.agents;
+  agents = replicate r.agents new_agent;
   asked = r.asked;
   held = r.held;
   starts = r.starts;

@@ -25,8 +25,8 @@ server_there c s e =
 
 agent_there : (c : Cluster) (a : ℕ) → agent_misfit c a ≡ None → IsAgentNumber c a
 agent_there c a e =
-    let t = and_tells (nat_lt 0 a) (nat_le a c.agents) (unless (nat_lt 0 a && nat_le a c.agents) NoAgent e) in
-    (lt_tells 0 a t.0, le_tells a c.agents t.1)
+    let t = and_tells (nat_lt 0 a) (nat_le a (length c.agents)) (unless (nat_lt 0 a && nat_le a (length c.agents)) NoAgent e) in
+    (lt_tells 0 a t.0, le_tells a (length c.agents) t.1)
 
 under_way : (o : Option Packet) → is_some o ≡ true → (p : Packet) × (o ≡ Some p)
 under_way None e = absurd (cc e)

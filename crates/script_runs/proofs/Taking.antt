@@ -8,7 +8,7 @@ use Rattle.cat_model.specs.declared.reply.Mark.TheVariants as mark
 use Rattle.cluster_rules.specs.Replies.{Out, number_of}
 use Rattle.cluster_rules.specs.Cluster.{Cluster}
 use Rattle.cluster_rules.specs.Step.{ClusterStep}
-use Rattle.cluster_rules.specs.Reached.{IsStart, Move, Makes, Takes, Settles, Reached, Fits, by_event, moves_of, Settling, none, pair}
+use Rattle.cluster_rules.specs.Reached.{IsStart, Move, Makes, Takes, Settles, Advances, Reached, Fits, by_event, moves_of, Settling, none, pair}
 use Rattle.cluster_rules.specs.Sound.{is_of, one_if, out_times, taken_times}
 use Rattle.cluster_rules.proofs.Counting.{outs_times}
 use Rattle.cluster_rules.proofs.Marks.{marks_are_moves}
@@ -23,6 +23,7 @@ takes_in k [] = 0
 takes_in k (Makes made ∷ moves) = takes_in k moves
 takes_in k (Takes number ∷ moves) = one_if (number == k) + takes_in k moves
 takes_in k (Settles pairs whole ∷ moves) = takes_in k moves
+takes_in k (Advances ms made ∷ moves) = takes_in k moves
 
 takes_are : (k : ℕ) (past : List Mark) → taken_times k past ≡ takes_in k (moves_of past)
 unfolding takes_in

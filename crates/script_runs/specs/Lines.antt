@@ -28,7 +28,7 @@ server_misfit c s = if nat_lt 0 s && nat_le s (length c.servers) then None else 
 
 -- and so are agents
 abbrev pub agent_misfit : Cluster → ℕ → Option Misfit
-agent_misfit c agent = if nat_lt 0 agent && nat_le agent c.agents then None else Some NoAgent
+agent_misfit c agent = if nat_lt 0 agent && nat_le agent (length c.agents) then None else Some NoAgent
 
 -- a message of that number is on its way
 abbrev pub message_misfit : Cluster → ℕ → Option Misfit

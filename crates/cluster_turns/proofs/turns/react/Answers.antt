@@ -25,7 +25,7 @@ finish-requires g c = acted_server 0 c.args.server c.args.server (event_of c.arg
 
 pub returns-in-Ok-act-clause-whole : goal.returns-in-Ok-act-clause-whole
 returns-in-Ok-act-clause-whole g c =
-    ok_by c.finish.result (due c.args.server (g.P.Parts.state c.finish.new.parts) ≡ None) _ (λ n. done_by c.args.server (event_of c.args.impulse) c.in-Ok.was (g.P.Parts.state c.args.parts.now) (g.P.Parts.state c.make_up.new.parts) (g.P.Parts.state c.act.new.self) (g.P.Parts.state c.finish.new.parts) c.in-Ok.ensures.whole c.in-Ok-act.ensures.whole c.finish.ensures.works n) c.finish.ensures.none
+    ok_by c.finish.result (due c.args.server (g.P.Parts.state c.finish.new.parts) ≡ None) _ (λ n. done_by c.args.server c.args.impulse c.in-Ok.was (g.P.Parts.state c.args.parts.now) (g.P.Parts.state c.make_up.new.parts) (g.P.Parts.state c.act.new.self) (g.P.Parts.state c.finish.new.parts) c.in-Ok.ensures.whole c.in-Ok-act.ensures.whole c.finish.ensures.works n) c.finish.ensures.none
 
 pub returns-in-Ok-act-clause-cut : goal.returns-in-Ok-act-clause-cut
 returns-in-Ok-act-clause-cut g c =

@@ -1,0 +1,3 @@
+pub mod AgentBodies
+pub mod Agents
+pub mod Own
