@@ -27,7 +27,11 @@ pub mod Others
 pub mod Whole
 pub mod Running
 pub mod Halts
+pub mod Shown
 pub mod Settling
+pub mod Adding
+pub mod Numbers
+pub mod Theirs
 pub mod Starting
 pub mod Once
 pub mod Wrong

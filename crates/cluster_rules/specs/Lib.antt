@@ -8,6 +8,7 @@ pub mod Step
 pub mod Reached
 pub mod Sound
 pub mod Legal
+pub mod Past
 pub mod Guards
 pub mod Timely
 pub mod Runs

@@ -1,7 +1,7 @@
 //! Laws of the definitions, each the contract of a function with an empty body. They hold whatever is lost, repeated,
 //! reordered, restarted or cut short for want of memory, and whichever store calls fail.
 
-ghost use Rattle.std.specs.Prelude.{Bool, List, None, length, take, min, false, true, ℕ, ◌+◌, ◌-◌, ◌^◌, ◌≡◌, ◌≢◌, ◌<◌, ◌≤◌, ◌⊎◌};
+ghost use Rattle.std.specs.Prelude.{Bool, List, None, length, take, min, false, true, ℕ, ◌+◌, ◌-◌, ◌^◌, ◌≡◌, ◌≢◌, ◌<◌, ◌≤◌, ◌⊎◌, ◌++◌, ◌∷◌};
 ghost use Rattle.std.specs.List.{AllByRecursion as Each};
 ghost use Rattle.cat_model.specs.declared.command.Command.{Command};
 ghost use Rattle.cat_model.specs.declared.query.Query.{Query};
@@ -20,7 +20,8 @@ ghost use Rattle.cat_model.specs.declared.reply.Refusal.{Refusal};
 ghost use Rattle.raft_model.specs.Log.{Log};
 ghost use Rattle.raft_model.specs.Runs.{fresh};
 ghost use Rattle.raft_model.specs.World.{World, IsReached, Reaches};
-ghost use Rattle.cluster_rules.specs.Replies.{Out, Question, came, entered};
+ghost use Rattle.cluster_rules.specs.Replies.{Blank, Out, Question, Replied, Reply, came, entered, reply_of, shown};
+ghost use Rattle.cluster_rules.specs.Past.{AddsEvent, AddsQuiet, Among, AreKept, AsksNothing, HasNoOut, IsNotHeld, asked_of, taken_of};
 ghost use Rattle.cluster_rules.specs.Lasting.{IsWrite, IsEntered, Lasting};
 ghost use Rattle.cluster_rules.specs.Cluster.{Cluster, Pending, Server, applied_of, node_of, server_of, started};
 ghost use Rattle.cluster_rules.specs.Timely.{AreTimely};
@@ -229,4 +230,41 @@ pub fn a_lock_waits_for_its_delay()
 #[tactic(auto, using(crate::proofs::ReapRun::reap_run))]
 pub fn a_removed_key_is_reaped()
     ensures { ReapRun }
+{}
+
+/// A step only adds to the marks: its event's own, and then marks that name no move.
+pub fn steps_add_marks()
+    ensures { (c c' : Cluster) (made : Event) (whole : Bool) → ClusterStep c made c' whole → AddsEvent made c c' }
+{}
+
+/// Each number is asked at most once and answered at most once, and only what was asked is taken.
+pub fn marks_are_kept()
+    ensures { (c : Cluster) → Sound c → AreKept c.past }
+{}
+
+/// Deliveries and losses ask and take nothing.
+pub fn settling_adds_marks()
+    ensures { (n : ℕ) (c c' : Cluster) → Settling n c c' → AddsQuiet c.past c'.past }
+{}
+
+/// Nor do the events of an advance, and no others that are no request's.
+pub fn advancing_adds_marks()
+    ensures { (events : List Event) (c c' : Cluster) → Each AsksNothing events → Making events c c' → AddsQuiet c.past c'.past }
+{}
+
+/// A reply in the tray is that of its Answered mark, and shows what its request and its kind give over the agreed log.
+pub fn replies_are_theirs()
+    ensures { (c : Cluster) → Sound c → (before after : List Out) (r : Reply) → c.tray ≡ before ++ Replied r ∷ after → IsAmong (Answered r.number r.kind r.known r.contact) c.past
+        × ((q : Question) → IsAmong (came q) c.past → q.number ≡ r.number → (r ≡ reply_of q r.kind r.known r.contact c.world.agreed) × Lasting q r.kind c.world.agreed) }
+{}
+
+/// A request that has no out and is not held was never asked, or it was taken.
+pub fn gone_were_taken()
+    ensures { (c : Cluster) → Sound c → (n : ℕ) → HasNoOut n c.tray → IsNotHeld n c.held → Among n (asked_of c.past) → Among n (taken_of c.past) }
+{}
+
+/// No reply that lasts shows nothing.
+#[tactic(auto, using(crate::proofs::Shown::lasting_shows))]
+pub fn no_reply_is_blank()
+    ensures { (q : Question) (kind : Kind) (log : Log) → Lasting q kind log → shown q kind log ≢ Blank }
 {}

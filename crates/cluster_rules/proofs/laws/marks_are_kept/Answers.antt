@@ -1,0 +1,5 @@
+use Rattle.cluster_rules.proofs.Numbers.{sound_kept}
+use Rattle.cluster_rules.proofs.laws.marks_are_kept.Goals as goal
+
+pub returns : goal.returns
+returns c = sound_kept
