@@ -1,7 +1,6 @@
 -- An act: a step of a server's node with its marks, or a part of one where memory ran out.
-use Rattle.std.proofs.Common.{◌≡◌, ◌≢◌, ℕ, zero, suc, inl, inr, cond, List, [], ◌∷◌, length, get_or, Option, Some, None, Result, Ok, Err, OnOk, OnErr, IfErr, refl, sym, ◌∙◌, ap, subst}
-use Rattle.std.specs.Prelude.{◌==◌}
-use Rattle.std.specs.List.{AllByRecursion as Each}
+use Rattle.std.proofs.Common.{◌≡◌, ◌≢◌, ℕ, inl, inr, Bool, true, false, cond, not, List, length, Option, Some, None, Result, Ok, Err, OnOk, OnErr, IfErr, refl, sym, ◌∙◌, ap, subst, arith}
+use Rattle.std.specs.Prelude.{◌==◌, ◌&&◌}
 use Rattle.cat_model.specs.declared.memory.Memory.{Memory}
 use Rattle.cat_model.specs.declared.request.Event.{Event}
 use Rattle.cat_model.specs.declared.request.Event.TheVariants as event
@@ -12,18 +11,23 @@ use Rattle.raft_model.specs.Step as node
 use Rattle.raft_model.specs.World as world
 use Rattle.raft_model.specs.World.{World, WorldStep, Packet, Acts as NodeActs, numbered, raised}
 use Rattle.raft_world.specs.Steps.{Delivers, FindsNoMemory, KeepsAgreement, StepsWhole, StepsWorking}
-use Rattle.cluster_rules.specs.Cluster.{Cluster, Server, no_node, no_server, node_of, server_of}
+use Rattle.office_rules.specs.Offices.{Office, office_from}
+use Rattle.raft_model.specs.Node.{set_server}
+use Rattle.raft_model.proofs.Tests.{at_bool}
+use Rattle.cluster_rules.specs.Cluster.{Cluster, Server, clock_of, no_node, node_of, runs_leading, seated, server_of, took_office, with_office}
+use Rattle.cluster_servers.specs.Servers.{Servers, officed}
 use Rattle.cluster_rules.specs.Requests.{halted_now, moved}
-use Rattle.cluster_rules.specs.Step.{Acts, Remembers, takes, ticks, arms, input_of, received, receiver}
+use Rattle.cluster_rules.specs.Step.{Acts, Remembers, takes, arms, input_of, received, receiver}
 use Rattle.cluster_rules.proofs.Tools.{eq_self, is_node, is_place, item_same, length_set_server}
 use Rattle.cluster_turns.specs.declared.cut.Cut.{Cut}
 use Rattle.cluster_turns.specs.declared.cut.Cut.TheVariants.{Before, Within}
 use Rattle.cluster_turns.specs.Turns.{ActsWhole, ActsCut}
 use Rattle.open_requests.specs.Requests.{Requests, cluster_of}
 use Rattle.cluster.specs.declared.moving.Seen.{Seen}
-use Rattle.cluster.specs.Moving.{Ends, MarksStep, seen_of}
-use Rattle.cluster.specs.Standing.{AppliesCalm, Stands}
+use Rattle.cluster.specs.Moving.{Ends, MarksStep, Seats, seen_of}
+use Rattle.cluster.specs.Standing.{Stands}
 use Rattle.cluster.proofs.Forgetting.{forgot}
+use Rattle.cluster.proofs.Kept.{each_item, each_set}
 use Rattle.cluster.proofs.Marking.{cluster_marked, stands_marked, with_room}
 
 -- the node behind a step
@@ -72,38 +76,91 @@ pub record Acted (i : ℕ) (made : Event) (c : Cluster) (w' : World) (servers' :
   pub whole : OnOk result (ActsWhole i made c (cluster_of w' servers' r'))
   pub cut : IfErr result (λ cut. ActsCut i made cut c (cluster_of w' servers' r'))
 
+-- the servers once server i has taken office, where it did
+seated_servers : World → World → ℕ → List Server → List Server
+seated_servers w w' i servers = cond (took_office w w' i) (set_server servers i (record (server_of servers i) { office = office_from (clock_of w' i) })) servers
+
+cluster_seated : (w w' : World) (i : ℕ) (servers : List Server) (r : Requests) → cluster_of w' (seated_servers w w' i servers) r ≡ seated w i (cluster_of w' servers r)
+unfolding seated_servers
+cluster_seated w w' i servers r = at_bool (λ b. cluster_of w' (cond b (set_server servers i (record (server_of servers i) { office = office_from (clock_of w' i) })) servers) r
+    ≡ cond b (with_office i (office_from (clock_of w' i)) (cluster_of w' servers r)) (cluster_of w' servers r)) (took_office w w' i) (λ _. refl) (λ _. refl)
+
+-- another time in office of one server
+pub stands_officed : (i : ℕ) (o : Office) (w : World) (servers : List Server) (r : Requests) → Stands w servers r → Stands w (set_server servers i (record (server_of servers i) { office = o })) r
+stands_officed i o w servers r s = record {
+  reached = s.reached;
+  some = let k = length_set_server servers i (record (server_of servers i) { office = o }) in omega (arith, s.some, k);
+  count = length_set_server servers i (record (server_of servers i) { office = o }) ∙ s.count;
+  joined = s.joined;
+  proposed = s.proposed;
+  ascends = s.ascends;
+  held = s.held;
+  calm = each_set servers i (record (server_of servers i) { office = o }) s.calm (each_item servers i s.calm);
+}
+
+stands_seated : (w w' : World) (i : ℕ) (servers : List Server) (r : Requests) → Stands w' servers r → Stands w' (seated_servers w w' i servers) r
+unfolding seated_servers
+stands_seated w w' i servers r s = at_bool (λ b. Stands w' (cond b (set_server servers i (record (server_of servers i) { office = office_from (clock_of w' i) })) servers) r) (took_office w w' i)
+    (λ _. stands_officed i (office_from (clock_of w' i)) w' servers r s) (λ _. s)
+
+-- a server that was seen before, and is as it was, does not take office
+not_twice : (leads : Bool) (term : ℕ) → (leads && not (leads && (term == term))) ≡ false
+not_twice true term = ap not (eq_self term)
+not_twice false term = refl
+
+seated_none : (w : World) (i : ℕ) (servers : List Server) → seated_servers w w i servers ≡ servers
+unfolding seated_servers
+seated_none w i servers = ap (λ b. cond b (set_server servers i (record (server_of servers i) { office = office_from (clock_of w i) })) servers) (not_twice (runs_leading w i) (node_of w i).term)
+
+-- what the code's seating does
+pub are_seated : (i : ℕ) (w : World) (s₁ s₂ : Servers) (before now : Seen) → before ≡ seen_of w i → now ≡ seen_of s₁.world i → Seats before now i s₁ s₂
+    → (s₂.world ≡ s₁.world) × (s₂.servers ≡ seated_servers w s₁.world i s₁.servers)
+unfolding seated_servers
+are_seated i w s₁ s₂ before now was seen m =
+    let known : Seats (seen_of w i) (seen_of s₁.world i) i s₁ s₂ = subst (λ (z : Seen). Seats z (seen_of s₁.world i) i s₁ s₂) was (subst (λ (z : Seen). Seats before z i s₁ s₂) seen m) in (
+      ap (λ (z : Servers). z.world) known ∙ at_bool (λ b. (cond b (officed i (office_from (clock_of s₁.world i)) s₁) s₁).world ≡ s₁.world) (took_office w s₁.world i) (λ _. refl) (λ _. refl),
+      ap (λ (z : Servers). z.servers) known
+          ∙ at_bool (λ b. (cond b (officed i (office_from (clock_of s₁.world i)) s₁) s₁).servers ≡ cond b (set_server s₁.servers i (record (server_of s₁.servers i) { office = office_from (clock_of s₁.world i) })) s₁.servers) (took_office w s₁.world i) (λ _. refl) (λ _. refl),
+    )
+
 module _ (i : ℕ) (made : Event) (input : Input) (w w' : World) (servers : List Server) (r r' : Requests) (s : Stands w servers r) (k : KeepsAgreement w w') (plain : IsPlain input) (is : input_of w i made ≡ Some input) where
-  step_acted : (a : NodeActs w i input w') → MarksStep (seen_of w i) (seen_of w' i) i r r' → Stands w' servers r' × ((act : Acts 0 (cluster_of w servers r) i made (cluster_of w' servers r')) × ((a.outcome ≢ Forgets → Remembers act) × (a.outcome ≡ Forgets → ¬ Remembers act)))
+  step_acted : (a : NodeActs w i input w') → MarksStep (seen_of w i) (seen_of w' i) i r r'
+      → Stands w' (seated_servers w w' i servers) r' × ((act : Acts 0 (cluster_of w servers r) i made (cluster_of w' (seated_servers w w' i servers) r')) × ((a.outcome ≢ Forgets → Remembers act) × (a.outcome ≡ Forgets → ¬ Remembers act)))
   step_acted a m =
       let moves : cluster_of w' servers r' ≡ moved i w' (cluster_of w servers r) = cluster_marked (halted_now w w' i) i w w' servers r r' s k m in (
-        stands_marked (halted_now w w' i) i w w' servers r r' s k (nodes_kept w i input w' a) (greatest_kept w i input w' plain a) m,
-        (takes input w' refl is a moves, ((λ n. n), (λ f n. n f))),
+        stands_seated w w' i servers r' (stands_marked (halted_now w w' i) i w w' servers r r' s k (nodes_kept w i input w' a) (greatest_kept w i input w' plain a) m),
+        (takes input w' refl is a (cluster_seated w w' i servers r' ∙ ap (seated w i) moves), ((λ n. n), (λ f n. n f))),
       )
 
   ended : (done : Result Unit Memory) (result : Result Unit Cut) → OnOk done (StepsWhole w i input w') → OnErr done (FindsNoMemory w i input w') → Ends (seen_of w i) (seen_of w' i) i done result r r'
-      → Acted i made (cluster_of w servers r) w' servers r' result
+      → Acted i made (cluster_of w servers r) w' (seated_servers w w' i servers) r' result
   ended (Ok x) (Ok y) (a, n) err m = let t = step_acted a m in record { stands = t.0; whole = (t.1.0, t.1.1.0 n); cut = tt }
   ended (Ok x) (Err y) ok err m = absurd m
   ended (Err x) (Ok y) ok err m = absurd m
   ended (Err x) (Err Before) ok err (same, e) =
-      let world : w' ≡ w = same_term w i input w' err same in record {
-        stands = subst (λ (v : World). Stands v servers r') (sym world) (subst (λ (q : Requests). Stands w servers q) (sym e) s);
+      let world : w' ≡ w = same_term w i input w' err same in
+      let unseated : seated_servers w w' i servers ≡ servers = ap (λ (v : World). seated_servers w v i servers) world ∙ seated_none w i servers in record {
+        stands = subst (λ (v : World). Stands v (seated_servers w w' i servers) r') (sym world) (subst (λ (l : List Server). Stands w l r') (sym unseated) (subst (λ (q : Requests). Stands w servers q) (sym e) s));
         whole = tt;
-        cut = ap (λ (v : World). cluster_of v servers r') world ∙ ap (cluster_of w servers) e;
+        cut = ap (λ (v : World). cluster_of v (seated_servers w w' i servers) r') world ∙ ap (λ (l : List Server). cluster_of w l r') unseated ∙ ap (cluster_of w servers) e;
       }
   ended (Err x) (Err Within) ok err (differs, m) =
       let f = other_term w i input w' err differs in
       let t = step_acted f.0 m in record { stands = t.0; whole = tt; cut = (t.1.0, t.1.1.1 f.1) }
 
 -- A call that is given an input, between its preparation and its end, is an act.
-pub acts_by : (i : ℕ) (made : Event) (input : Input) (w w' : World) (servers servers' : List Server) (r r₁ r' : Requests) (c : Cluster) (before now : Seen) (done : Result Unit Memory) (result : Result Unit Cut) (room : ℕ)
-    → Stands w servers r → cluster_of w servers r ≡ c → r₁ ≡ record r { room = room } → KeepsAgreement w w' → servers' ≡ servers → IsPlain input → input_of w i made ≡ Some input
-    → OnOk done (StepsWhole w i input w') → OnErr done (FindsNoMemory w i input w') → before ≡ seen_of w i → now ≡ seen_of w' i → Ends before now i done result r₁ r' → Acted i made c w' servers' r' result
-acts_by i made input w w' servers servers' r r₁ r' c before now done result room s view ready k same plain is ok err was seen m =
+pub acts_by : (i : ℕ) (made : Event) (input : Input) (w : World) (servers : List Server) (s₁ s₂ : Servers) (r r₁ r' : Requests) (c : Cluster) (before now : Seen) (done : Result Unit Memory) (result : Result Unit Cut) (room : ℕ)
+    → Stands w servers r → cluster_of w servers r ≡ c → r₁ ≡ record r { room = room } → KeepsAgreement w s₁.world → s₁.servers ≡ servers → IsPlain input → input_of w i made ≡ Some input
+    → OnOk done (StepsWhole w i input s₁.world) → OnErr done (FindsNoMemory w i input s₁.world) → before ≡ seen_of w i → now ≡ seen_of s₁.world i → Seats before now i s₁ s₂ → Ends before now i done result r₁ r'
+    → Acted i made c s₂.world s₂.servers r' result
+acts_by i made input w servers s₁ s₂ r r₁ r' c before now done result room s view ready k same plain is ok err was seen seats m =
     let p = with_room w servers r r₁ room s ready in
-    let ends : Ends (seen_of w i) (seen_of w' i) i done result r₁ r' = subst (λ (z : Seen). Ends z (seen_of w' i) i done result r₁ r') was (subst (λ (z : Seen). Ends before z i done result r₁ r') seen m) in
-    let t = ended i made input w w' servers r₁ r' p.0 k plain is done result ok err ends in
-    subst (λ (l : List Server). Acted i made c w' l r' result) (sym same) (subst (λ (d : Cluster). Acted i made d w' servers r' result) (p.1 ∙ view) t)
+    let ends : Ends (seen_of w i) (seen_of s₁.world i) i done result r₁ r' = subst (λ (z : Seen). Ends z (seen_of s₁.world i) i done result r₁ r') was (subst (λ (z : Seen). Ends before z i done result r₁ r') seen m) in
+    let t = ended i made input w s₁.world servers r₁ r' p.0 k plain is done result ok err ends in
+    let on = are_seated i w s₁ s₂ before now was seen seats in
+    let same₂ : s₂.servers ≡ seated_servers w s₁.world i servers = on.1 ∙ ap (seated_servers w s₁.world i) same in
+    subst (λ (v : World). Acted i made c v s₂.servers r' result) (sym on.0)
+    (subst (λ (l : List Server). Acted i made c s₁.world l r' result) (sym same₂) (subst (λ (d : Cluster). Acted i made d s₁.world (seated_servers w s₁.world i servers) r' result) (p.1 ∙ view) t))
 
 pub input_here : (w : World) (i : ℕ) (input : Input) → cond (i == i) (Some input) None ≡ Some input
 input_here w i input = ap (λ b. cond b (Some input) None) (eq_self i)
@@ -153,26 +210,6 @@ pub record ActedWhole (i : ℕ) (made : Event) (c : Cluster) (w' : World) (serve
 
 pub whole_with : (i : ℕ) (made : Event) (c c' : Cluster) (w' : World) (servers servers' : List Server) (r' : Requests) → c ≡ c' → servers' ≡ servers → ActedWhole i made c w' servers r' → ActedWhole i made c' w' servers' r'
 whole_with i made c c' w' servers servers' r' view same t = subst (λ (l : List Server). ActedWhole i made c' w' l r') (sym same) (subst (λ (d : Cluster). ActedWhole i made d w' servers r') view t)
-
--- Nothing that a server has applied makes its tick propose anything.
-applies_calm : (servers : List Server) → Each AppliesCalm servers → (i : ℕ) → AppliesCalm (server_of servers i)
-applies_calm servers all zero = refl
-applies_calm servers all (suc i) = at servers all i
-  where
-    at : (l : List Server) → Each AppliesCalm l → (i : ℕ) → AppliesCalm (get_or l i no_server)
-    at [] all i = refl
-    at (x ∷ l) all zero = all.0
-    at (x ∷ l) all (suc i) = at l all.1 i
-
-pub tick_acts : (i ms : ℕ) (w w' : World) (servers servers' : List Server) (r r₁ r' : Requests) (c : Cluster) (before now : Seen) (room : ℕ) → Stands w servers r → cluster_of w servers r ≡ c → r₁ ≡ record r { room = room } → KeepsAgreement w w'
-    → servers' ≡ servers → WorldStep w (world.Ticks i ms) w' → before ≡ seen_of w i → now ≡ seen_of w' i → MarksStep before now i r₁ r' → ActedWhole i (event.Tick i ms) c w' servers' r'
-tick_acts i ms w w' servers servers' r r₁ r' c before now room s view ready k same step was seen m =
-    let e = step.2 in
-    let moves = moves_by i w w' servers r r₁ r' before now room s ready k (ap (λ (v : World). length v.nodes) e) (ap (λ (v : World). v.greatest) e) was seen m in
-    whole_with i (event.Tick i ms) (cluster_of w servers r) c w' servers servers' r' view same (record {
-      stands = moves.stands;
-      whole = (ticks ms w' refl refl (inr (applies_calm servers s.calm i)) step moves.is, tt);
-    })
 
 pub arming_acts : (i nth : ℕ) (w w' : World) (servers servers' : List Server) (r r₁ r' : Requests) (c : Cluster) (before now : Seen) (room : ℕ) → Stands w servers r → cluster_of w servers r ≡ c → r₁ ≡ record r { room = room } → KeepsAgreement w w'
     → servers' ≡ servers → WorldStep w (world.Arms i nth) w' → before ≡ seen_of w i → now ≡ seen_of w' i → MarksStep before now i r₁ r' → ActedWhole i (event.FailKeep i nth) c w' servers' r'

@@ -150,7 +150,7 @@ read_call c i q deadline query mode least wait raw (Err why) e t w = tt
 read_due : (c : Cluster) (i : ℕ) (h : Pending) (others deadline : ℕ) (seen : Option ℕ) (asked : Asked) → IsTakenAsked asked
     → is_read asked ≡ is_some (asks_read h others (clock_of c.world i) (applied_of c i) deadline seen asked)
 read_due c i h others deadline seen (Good (Read query mode least wait raw)) t = sym (ap is_some (asked_at c i h others deadline seen query mode least t.2))
-read_due c i h others deadline seen (Good (Execute name limit mode)) t = refl
+read_due c i h others deadline seen (Good (Execute name limit mode)) t = absurd t
 read_due c i h others deadline seen (Good (Write command)) t = refl
 read_due c i h others deadline seen (Good (Renew id)) t = refl
 read_due c i h others deadline seen (Good (Agent op)) t = refl

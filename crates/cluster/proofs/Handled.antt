@@ -18,7 +18,7 @@ use Rattle.script_runs.specs.Taken.{IsTakenAsked}
 use Rattle.cluster_rules.specs.Cluster.{Cluster, ForIndex, Looked, Pending, Server, Stand, Start, applied_of, clock_of, node_of}
 use Rattle.cluster_rules.specs.Lasting.{is_stale}
 use Rattle.cluster_rules.specs.Replies.{Question, Says, shown}
-use Rattle.cluster_rules.specs.Requests.{Handles, holding, is_ready, is_stale_read, refused, unready, reads, wait_of}
+use Rattle.cluster_rules.specs.Requests.{Handles, holding, is_ready, is_stale_read, look_of, refused, unready, reads, wait_of}
 use Rattle.cluster_rules.specs.Sound.{Ascends}
 use Rattle.cluster_rules.proofs.Tools.{each_append, each_map}
 use Rattle.cluster_turns.specs.Turns.{HandlesNewest, IsCome, newest, numbered}
@@ -145,7 +145,7 @@ read_handles w servers r r' c i agent asked draw query mode least wait raw numbe
     let q : Question = record { number = number; agent = agent; asked = asked; draw = draw } in
     let same : q ≡ newest agent asked draw c₁ = ap (λ k. record { number = k; agent = agent; asked = asked; draw = draw }) (n ∙ sym (number_is w servers r c agent asked draw at)) in
     let done = holds_as w servers r₂ r' q i (ForIndex deadline None) (Looked number i applied) c₁ (numbered_cluster w servers r c agent asked draw at) e in (
-      reads query mode least wait raw is (not_consistent mode (default_mode query mode least wait raw asked is taken)) (inr ready)
+      reads mode wait (ap look_of is) (not_consistent mode (default_mode query mode least wait raw asked is taken)) (inr ready)
           (done ∙ ap (λ (p : Question). holding p i (ForIndex deadline None) (Looked p.number i applied) c₁) same
           ∙ ap (λ k. holding (newest agent asked draw c₁) i (ForIndex k None) (Looked (newest agent asked draw c₁).number i applied) c₁) d
           ∙ ap (λ k. holding (newest agent asked draw c₁) i (ForIndex (clock_of c.world i + wait_of wait) None) (Looked (newest agent asked draw c₁).number i k) c₁) l),

@@ -13,7 +13,7 @@ use Rattle.raft_model.specs.World.{World}
 use Rattle.cluster_rules.specs.Cluster.{Pending, Server, clock_of, item_of, no_server, node_of, server_of}
 use Rattle.cluster_rules.specs.Due.{applies_entry, without}
 use Rattle.cluster_rules.specs.Replies.{Content}
-use Rattle.cluster_rules.specs.Step.{is_calm}
+use Rattle.cluster.specs.Calm.{is_calm}
 use Rattle.cluster_rules.proofs.Tools.{length_set_server}
 use Rattle.cluster_rules.proofs.Works.{ascends_without, each_kept}
 use Rattle.open_requests.specs.Requests.{Requests, answered_with, closed_with}
@@ -63,13 +63,13 @@ calm_entry : (clock : ℕ) (s : Server) (e : Option Entry) → AppliesCalm s →
 calm_entry clock s None a t = a
 calm_entry clock s (Some e) a t = ap (list_all is_calm) (map-append (λ (x : Entry). x.command) s.applied (e ∷ [])) ∙ calm_more (commands_of s.applied) e.command a (sym t)
 
-each_item : (ss : List Server) (i : ℕ) → Each AppliesCalm ss → AppliesCalm (server_of ss i)
+pub each_item : (ss : List Server) (i : ℕ) → Each AppliesCalm ss → AppliesCalm (server_of ss i)
 each_item ss zero a = refl
 each_item [] (suc i) a = refl
 each_item (s ∷ ss) (suc zero) a = a.0
 each_item (s ∷ ss) (suc (suc i)) a = each_item ss (suc i) a.1
 
-each_set : (ss : List Server) (i : ℕ) (x : Server) → Each AppliesCalm ss → AppliesCalm x → Each AppliesCalm (set_server ss i x)
+pub each_set : (ss : List Server) (i : ℕ) (x : Server) → Each AppliesCalm ss → AppliesCalm x → Each AppliesCalm (set_server ss i x)
 each_set ss zero x a t = a
 each_set [] (suc i) x a t = tt
 each_set (s ∷ ss) (suc zero) x a t = (t, a.1)

@@ -1,5 +1,6 @@
 pub mod Acts
 pub mod Beginning
+pub mod Calm
 pub mod Dues
 pub mod Finding
 pub mod Forgetting
@@ -14,5 +15,6 @@ pub mod Proposing
 pub mod Refused
 pub mod Restarts
 pub mod Stores
+pub mod Ticking
 pub mod Turns
 pub mod Notes

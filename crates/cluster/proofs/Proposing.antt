@@ -1,5 +1,5 @@
 -- A write that was just noted is proposed: it is held at its place, or refused by what the proposal answered.
-use Rattle.std.proofs.Common.{◌≡◌, ◌≢◌, ◌⊎◌, inl, inr, ℕ, suc, ◌+◌, ◌-◌, ◌≤◌, max, Bool, true, false, cond, not, length, List, [], ◌∷◌, ◌++◌, Result, Ok, Err, refl, sym, ap, ◌∙◌, subst, arith}
+use Rattle.std.proofs.Common.{◌≡◌, ◌≢◌, ◌⊎◌, inl, inr, ℕ, suc, ◌+◌, ◌-◌, ◌≤◌, max, Bool, true, false, cond, not, length, List, [], ◌∷◌, ◌++◌, Option, None, Result, Ok, Err, refl, sym, ap, ◌∙◌, subst, arith}
 use Rattle.std.specs.Prelude.{OnOk, OnErr, ◌&&◌, ◌<◌}
 use Rattle.std.specs.List.{AllByRecursion as Each}
 use Rattle.std.proofs.lemmas.List.{length-append}
@@ -28,7 +28,7 @@ use Rattle.raft_world.specs.Steps.{IsProposed, KeepsAgreement, Proposes}
 use Rattle.script_runs.specs.Taken.{IsPut, IsTakenAsked}
 use Rattle.cluster_rules.specs.Cluster.{AtPlace, Cluster, Pending, Proposed, Server, node_of, runs_leading}
 use Rattle.cluster_rules.specs.Replies.{Question, Says, entered}
-use Rattle.cluster_rules.specs.Requests.{Handles, full, holding, is_ready, locks, log_with, moved, proposes, refused, stops}
+use Rattle.cluster_rules.specs.Requests.{Handles, full, holding, delayed_at, is_ready, log_with, moved, proposes, refused, stops}
 use Rattle.cluster_rules.proofs.Boundary.{acts_greatest, acts_server, leader_there, leading_tells}
 use Rattle.cluster_rules.proofs.Tools.{is_node}
 use Rattle.cluster_turns.specs.Turns.{HandlesNewest, IsCome, newest, numbered}
@@ -49,9 +49,9 @@ unfolding entered
 put_entered q (KvSet key flags value) p = refl
 put_entered q other p = absurd p
 
-put_locks : (command : Command) → IsPut command → locks command ≡ false
-put_locks (KvSet key flags value) p = refl
-put_locks other p = absurd p
+put_is_free : (c : Cluster) (i : ℕ) (command : Command) → IsPut command → delayed_at c i command ≡ None
+put_is_free c i (KvSet key flags value) p = refl
+put_is_free c i other p = absurd p
 
 put_counts : (command : Command) → IsPut command → is_noop command ≡ false
 put_counts (KvSet key flags value) p = refl
@@ -151,7 +151,7 @@ module _ (w w' : World) (servers : List Server) (r r' : Requests) (i : ℕ) (wri
     held_so place here room up e =
         let at : place ≡ record { index = suc (length (node_of w i).log); term = (node_of w i).term } = here ∙ ap (λ (n : Node). record { index = suc (length n.log); term = n.term }) (sym same_node) in
         let done = holds_as w' servers mid r' write.question i (AtPlace place.index place.term) (Proposed place.index write.entry) (moved i w' c₁) moved_cluster e in (
-          proposes command w' is.asked (put_locks command is.put) (inr is.ready) (room_is true room) acts_now (ap (λ (n : Node). n.halted) (acts_server w i (Propose write.question.number command) w' a) ∙ up)
+          proposes command w' is.asked (put_is_free c₁ i command is.put) (inr is.ready) (room_is true room) acts_now (ap (λ (n : Node). n.halted) (acts_server w i (Propose write.question.number command) w' a) ∙ up)
               (done ∙ ap (λ (x : Question). holding x i (AtPlace place.index place.term) (Proposed place.index write.entry) (moved i w' c₁)) question_is
               ∙ ap (λ (x : Entry). holding q i (AtPlace place.index place.term) (Proposed place.index x) (moved i w' c₁)) entry_is
               ∙ ap (λ (p : Place). holding q i (AtPlace p.index p.term) (Proposed p.index (proposal (node_of w i) q.number (entered q command))) (moved i w' c₁)) at),
@@ -183,7 +183,7 @@ module _ (w w' : World) (servers : List Server) (r r' : Requests) (i : ℕ) (wri
         let bytes : write.bytes ≡ log_bytes (log_with (node_of w i) q command) =
         is.copied.bytes ∙ ap (λ x. log_bytes log + command_bytes x) (sym command_is) ∙ sym (bytes_more log (proposal (node_of w i) q.number (entered q command)) counts) in
         let done = refused_so (refusal.LogFull write.entries write.bytes) e in (
-          full command w' is.asked (put_locks command is.put) (inr is.ready) (room_is false room) acts_now
+          full command w' is.asked (put_is_free c₁ i command is.put) (inr is.ready) (room_is false room) acts_now
               (done.0 ∙ ap (λ k. refused q (refusal.LogFull k write.bytes) (moved i w' c₁)) entries ∙ ap (λ k. refused q (refusal.LogFull (length (log_with (node_of w i) q command)) k) (moved i w' c₁)) bytes),
           done.1,
         )
@@ -194,7 +194,7 @@ module _ (w w' : World) (servers : List Server) (r r' : Requests) (i : ℕ) (wri
         let step : NodeStep LogFails a.old (Propose write.question.number command) a.new a.sent = subst (λ (o : Outcome). NodeStep o a.old (Propose write.question.number command) a.new a.sent) fails a.step in
         let down : (node_of w' i).halted ≡ true = ap (λ (n : Node). n.halted) (acts_server w i (Propose write.question.number command) w' a ∙ step.4) in
         let done = refused_so (refusal.Halted i) e in
-        (stops command w' is.asked (put_locks command is.put) (inr is.ready) (room_is true room) acts_now down done.0, done.1)
+        (stops command w' is.asked (put_is_free c₁ i command is.put) (inr is.ready) (room_is true room) acts_now down done.0, done.1)
 
   -- what comes of it
   abbrev Ended : Result Unit memory.Memory → Type 0

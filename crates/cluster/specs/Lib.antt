@@ -1,5 +1,6 @@
 pub mod Asking
 pub mod Beginning
+pub mod Calm
 pub mod Fitting
 pub mod Going
 pub mod Looking

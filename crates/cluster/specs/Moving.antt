@@ -1,8 +1,10 @@
 -- What is marked of a step that a server's node made.
-use Rattle.std.specs.Prelude.{◌≡◌, ◌≢◌, ℕ, ◌-◌, ◌&&◌, not, Bool, length, Result, Ok, Err}
+use Rattle.std.specs.Prelude.{◌≡◌, ◌≢◌, ℕ, ◌-◌, ◌==◌, ◌&&◌, not, if◌then◌else◌, Bool, length, Result, Ok, Err}
 use Rattle.cat_model.specs.declared.memory.Memory.{Memory}
 use Rattle.raft_model.specs.World.{World}
-use Rattle.cluster_rules.specs.Cluster.{node_of}
+use Rattle.office_rules.specs.Offices.{office_from}
+use Rattle.cluster_rules.specs.Cluster.{clock_of, node_of, runs_leading}
+use Rattle.cluster_servers.specs.Servers.{Servers, officed}
 use Rattle.cluster_turns.specs.declared.cut.Cut.{Cut}
 use Rattle.cluster_turns.specs.declared.cut.Cut.TheVariants.{Before, Within}
 use Rattle.open_requests.specs.declared.note.Note.TheVariants.{Joined}
@@ -11,7 +13,11 @@ use Rattle.cluster.specs.declared.moving.Seen.{Seen}
 
 -- what is seen of server i in this world
 abbrev pub seen_of : World → ℕ → Seen
-seen_of w i = record { halted = (node_of w i).halted; term = (node_of w i).term; agreed = length w.agreed }
+seen_of w i = record { halted = (node_of w i).halted; leads = runs_leading w i; term = (node_of w i).term; agreed = length w.agreed }
+
+-- Server i takes office where it leads now, and did not before in this term.
+abbrev pub Seats : Seen → Seen → ℕ → Servers → Servers → Type 0
+Seats before now i old new = new ≡ (if now.leads && not (before.leads && (before.term == now.term)) then officed i (office_from (clock_of old.world i)) old else old)
 
 -- a server's store failed or not
 abbrev pub IsHalted : Bool → ℕ → Requests → Requests → Type 0

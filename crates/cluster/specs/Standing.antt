@@ -6,7 +6,7 @@ use Rattle.raft_model.specs.World.{World, IsReached}
 use Rattle.script_runs.specs.Taken.{IsTakenAsked}
 use Rattle.cluster_rules.specs.Cluster.{Stand, AtPlace, InRound, ForIndex, Ended, Pending, Server}
 use Rattle.cluster_rules.specs.Sound.{Ascends}
-use Rattle.cluster_rules.specs.Step.{is_calm}
+use Rattle.cluster.specs.Calm.{is_calm}
 use Rattle.open_requests.specs.Notes.{joined_in}
 use Rattle.open_requests.specs.Requests.{Requests}
 

@@ -4,7 +4,8 @@ use Rattle.cluster_rules.specs.Replies.{Out, Replied, Closed, number_of}
 use Rattle.cluster_rules.specs.Cluster.{Cluster}
 use Rattle.open_requests.specs.declared.collected.Collected.{Collected}
 use Rattle.open_requests.specs.declared.collected.Collected.TheVariants as collected
-use Rattle.open_requests.specs.Taking.{HasNoOut, IsNotHeld, Waits}
+use Rattle.cluster_rules.specs.Past.{HasNoOut, IsNotHeld}
+use Rattle.open_requests.specs.Taking.{Waits}
 use Rattle.script_runs.specs.Plays.{taken}
 
 -- This out was taken out of the tray, and a request's taking is marked.

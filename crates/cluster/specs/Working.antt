@@ -6,7 +6,7 @@ use Rattle.cluster_rules.specs.Replies.{Closed, shown}
 use Rattle.cluster_rules.specs.Cluster.{Cluster, applied_of, node_of}
 use Rattle.cluster_rules.specs.Due as rules
 use Rattle.cluster_rules.specs.Due.{due, put_out, without}
-use Rattle.cluster_rules.specs.Step.{is_calm}
+use Rattle.cluster.specs.Calm.{is_calm}
 use Rattle.open_requests.specs.Contents.{content_of}
 use Rattle.cluster.specs.declared.work.Work.{Work}
 use Rattle.cluster.specs.declared.work.Work.TheVariants.{Answer, Close, Apply}

@@ -1,15 +1,14 @@
 //! What the events do at their servers that are no requests.
 
-ghost use Rattle.std.specs.Prelude.{◌≡◌, ◌+◌, ◌^◌, ◌≤◌, IfErr, OnErr, OnOk, Some};
+ghost use Rattle.std.specs.Prelude.{◌≡◌, IfErr, OnErr, OnOk, Some};
 ghost use Rattle.cat_model.specs.declared.request.Event.TheVariants as event;
 ghost use Rattle.raft_model.specs.World.{numbered};
-ghost use Rattle.cluster_rules.specs.Cluster.{clock_of};
 ghost use Rattle.cluster_rules.specs.Reached.{Fits, IsServerNumber};
 ghost use Rattle.cluster_rules.specs.Step.{goes_to, receiver};
 ghost use Rattle.cluster_turns.specs.Turns.{ActsCut, ActsWhole, event_of};
 
 use crate::cluster::Cluster;
-use crate::moving::{end, mark, mark_step, see};
+use crate::moving::{end, mark, mark_step, seat, see};
 use cat_model::Memory;
 use cat_outside::Keeper;
 use cluster_turns::{Cut, Impulse};
@@ -38,6 +37,7 @@ impl<K: Keeper + Drop> Cluster<K> {
         let before = see(&self.servers, server);
         let made = self.servers.timeout(alloc, server);
         let now = see(&self.servers, server);
+        seat(&mut self.servers, server, before, now);
         end(&mut self.requests, server, before, now, made)
     }
 
@@ -51,6 +51,7 @@ impl<K: Keeper + Drop> Cluster<K> {
         let before = see(&self.servers, server);
         let made = self.servers.beat(alloc, server);
         let now = see(&self.servers, server);
+        seat(&mut self.servers, server, before, now);
         end(&mut self.requests, server, before, now, made)
     }
 
@@ -65,22 +66,8 @@ impl<K: Keeper + Drop> Cluster<K> {
         let before = see(&self.servers, server);
         let made = self.servers.deliver(alloc, number);
         let now = see(&self.servers, server);
+        seat(&mut self.servers, server, before, now);
         end(&mut self.requests, server, before, now, made)
-    }
-
-    /// The clock of a server goes on. Nothing that it has applied makes it propose anything then.
-    pub(crate) fn tick(&mut self, server: u32, milliseconds: u64) -> Result<(), Cut>
-        requires server { IsServerNumber self.old server }
-        requires fits { clock_of self.old.world server + milliseconds ≤ 2 ^ 53 }
-        ensures whole { OnOk result (ActsWhole server (event.Tick server milliseconds) self.old self.new) }
-        ensures cut { IfErr result (λ cut. ActsCut server (event.Tick server milliseconds) cut self.old self.new) }
-    {
-        prepare(&mut self.requests)?;
-        let before = see(&self.servers, server);
-        self.servers.tick(server, milliseconds);
-        let now = see(&self.servers, server);
-        mark_step(&mut self.requests, server, before, now);
-        Ok(())
     }
 
     /// A call of a server's durable store is to fail.
@@ -130,7 +117,6 @@ impl<K: Keeper + Drop> Cluster<K> {
         match impulse {
             Impulse::Timeout(_) => self.time_out(alloc, server),
             Impulse::Beat(_) => self.beat(alloc, server),
-            Impulse::Tick(_, milliseconds) => self.tick(server, milliseconds),
             Impulse::Deliver(number) => self.deliver(alloc, server, number),
             Impulse::Restart(_) => self.restart(alloc, server),
             Impulse::FailKeep(_, nth) => self.fail_keep(server, nth),

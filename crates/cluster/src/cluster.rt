@@ -38,7 +38,7 @@ impl<K: Keeper> Cluster<K> {
 
     /// How many agents there are.
     pub fn agents(&self) -> u32
-        ensures { result ≡ self.now.agents }
+        ensures { result ≡ length self.now.agents }
     {
         self.requests.agents()
     }

@@ -22,6 +22,7 @@ mod stepping;
 #[cfg(test)]
 mod stepping_tests;
 mod taking;
+mod ticking;
 mod travelling;
 mod turning;
 mod way;

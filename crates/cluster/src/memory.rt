@@ -32,7 +32,7 @@ impl Cluster<MemKeeper> {
         requires few { agents ≤ 64 }
         ensures first { IfOk result IsFirstStart }
         ensures servers { IfOk result (λ c. length c.servers ≡ servers) }
-        ensures agents { IfOk result (λ c. c.agents ≡ agents) }
+        ensures agents { IfOk result (λ c. length c.agents ≡ agents) }
     {
         let stores = empty_stores(alloc, servers)?;
         match Cluster::new(alloc, agents, stores) {

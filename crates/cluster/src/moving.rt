@@ -2,7 +2,7 @@
 
 ghost use Rattle.std.specs.Prelude.{◌≡◌, ◌+◌, ◌-◌, ◌≤◌, length};
 ghost use Rattle.raft_world.specs.Steps.{IsNumber};
-ghost use Rattle.cluster.specs.Moving.{Ends, IsHalted, IsMarked, MarksStep, seen_of};
+ghost use Rattle.cluster.specs.Moving.{Ends, IsHalted, IsMarked, MarksStep, Seats, seen_of};
 
 use cat_model::Memory;
 use cat_outside::Keeper;
@@ -10,10 +10,11 @@ use cluster_servers::Servers;
 use cluster_turns::Cut;
 use open_requests::Requests;
 
-/// What is seen of a server, and how many entries are agreed.
+/// What is seen of a server, of which `leads` says that it runs and leads, and how many entries are agreed.
 #[derive(Clone, Copy)]
 pub(crate) struct Seen {
     pub(crate) halted: bool,
+    pub(crate) leads: bool,
     pub(crate) term: u64,
     pub(crate) agreed: u64,
 }
@@ -29,8 +30,19 @@ pub(crate) fn see<K: Keeper>(servers: &Servers<K>, server: u32) -> Seen
     let node = servers.node(server);
     Seen {
         halted: node.halted(),
+        leads: !node.halted() && node.role().leads(),
         term: node.term(),
         agreed: servers.agreed().len() as u64,
+    }
+}
+
+/// A server that leads now, and did not before in this term, takes office.
+pub(crate) fn seat<K: Keeper>(servers: &mut Servers<K>, server: u32, before: Seen, now: Seen)
+    requires { IsNumber server servers.old.world }
+    ensures { Seats before now server servers.old servers.new }
+{
+    if now.leads && !(before.leads && before.term == now.term) {
+        servers.lead(server);
     }
 }
 

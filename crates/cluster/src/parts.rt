@@ -39,6 +39,15 @@ impl<K: Keeper + Drop> Parts for Cluster<K> {
         self.act(alloc, server, impulse)
     }
 
+    fn tick(&mut self, server: u32, ms: u64) {
+        self.tick(server, ms);
+    }
+
+    fn tend(&mut self, _alloc: Global, server: u32) -> Result<(), Memory> {
+        self.tend(server);
+        Ok(())
+    }
+
     fn shelve(&mut self) {
         self.shelve_outs();
     }

@@ -32,7 +32,7 @@ impl<K: Keeper> Cluster<K> {
 
     // The server runs and leads. One that is not there does not.
     #[tactic(auto, using(crate::proofs::Numbers::is_number))]
-    fn runs_leading(&self, server: u32) -> bool
+    pub(crate) fn runs_leading(&self, server: u32) -> bool
         requires { IsServerNumber self.now server }
         ensures { result ≡ runs_leading self.now.world server }
     {

@@ -8,7 +8,7 @@ ghost use Rattle.cluster_rules.specs.Reached.{IsServerNumber};
 ghost use Rattle.cluster_rules.specs.Replies.{Question, shown};
 ghost use Rattle.open_requests.specs.Contents.{content_of};
 ghost use Rattle.cluster.specs.Working.{IsWork, calm_next, closed};
-ghost use Rattle.cluster_rules.specs.Step.{is_calm};
+ghost use Rattle.cluster.specs.Calm.{is_calm};
 
 use crate::cluster::Cluster;
 use crate::work::Work;

@@ -80,7 +80,6 @@ MayGo c i q = (is_stale_read q.asked ≡ true) ⊎ (is_ready c i ≡ true)
 abbrev pub wait_of : ℕ → ℕ
 wait_of wait = if wait == 0 then 300000 else min wait 600000
 
--- the command acquires a lock, so that a lock delay may refuse it
 -- what is answered from what its server has applied, with its mode and how long it may wait
 abbrev pub look_of : Asked → Option (Mode × ℕ)
 look_of (Good (Read query mode least wait raw)) = Some (mode, wait)

@@ -42,7 +42,7 @@ module _ (n : Node) (r : ReplicaState) (e : Entry) (clock : ℕ) (there : entry_
       }
 
   pub server_more : server_with n (applied_at e.command clock r) ≡ applies_entry clock (server_with n r) (Some e)
-  server_more = λ i. record { applied = grown i; clocks = r.clocks ++ clock ∷ [] }
+  server_more = λ i. record { applied = grown i; clocks = r.clocks ++ clock ∷ []; office = r.office }
 
 pub same_length : (ns : List Node) (rs : List ReplicaState) → AllFollow ns rs → length rs ≡ length ns
 same_length [] [] a = refl
@@ -88,7 +88,7 @@ node_changes (m ∷ ns) (q ∷ rs) zero old new a is k =
     let f = subst (λ (z : Node). Follows z q) is a.0 in
     let kept = k (length q.commands) f.committed f.there in (
       (record { committed = kept.0; there = kept.1; same = f.same ∙ ap commands_of (sym kept.2) }, a.1),
-      λ i. record { applied = (kept.2 ∙ ap (λ (z : Node). take (length q.commands) z.log) (sym is)) i; clocks = q.clocks } ∷ servers_with ns rs,
+      λ i. record { applied = (kept.2 ∙ ap (λ (z : Node). take (length q.commands) z.log) (sym is)) i; clocks = q.clocks; office = q.office } ∷ servers_with ns rs,
     )
 node_changes (m ∷ ns) (q ∷ rs) (suc at) old new a is k = let t = node_changes ns rs at old new a.1 is k in ((a.0, t.0), ap (λ s. server_with m q ∷ s) t.1)
 

@@ -5,6 +5,7 @@ use Rattle.cat_model.specs.Log.{commands_of}
 use Rattle.raft_model.specs.Log.{entry_at}
 use Rattle.raft_model.specs.Node.{Node, set_server}
 use Rattle.raft_model.specs.World.{World}
+use Rattle.office_rules.specs.Offices.{Office}
 use Rattle.replica.specs.States.{ReplicaState}
 use Rattle.cluster_rules.specs.Cluster.{Server, clock_of, no_server, node_of, server_of}
 use Rattle.cluster_rules.specs.Due.{applies_entry}
@@ -16,7 +17,7 @@ pub record Servers : Type 0 where
 
 -- a server with this node and this replica
 abbrev pub server_with : Node → ReplicaState → Server
-server_with n r = record { applied = take (length r.commands) n.log; clocks = r.clocks }
+server_with n r = record { applied = take (length r.commands) n.log; clocks = r.clocks; office = r.office }
 
 -- the servers, in the order of their numbers
 abbrev pub servers_with : List Node → List ReplicaState → List Server
@@ -46,6 +47,10 @@ abbrev pub applies_next : ℕ → Servers → Servers
 applies_next i s = record s {
   servers = set_server s.servers i (applies_entry (clock_of s.world i) (server_of s.servers i) (entry_at (suc (length (server_of s.servers i).applied)) (node_of s.world i).log));
 }
+
+-- server i with another time in office
+abbrev pub officed : ℕ → Office → Servers → Servers
+officed i o s = record s { servers = set_server s.servers i (record (server_of s.servers i) { office = o }) }
 
 -- the same servers in this world
 abbrev pub in_world : World → Servers → Servers

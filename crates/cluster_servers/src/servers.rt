@@ -7,7 +7,8 @@ ghost use Rattle.cat_model.specs.Machine.{catalog_at};
 ghost use Rattle.cat_model.specs.Queries.{answer};
 ghost use Rattle.cluster_rules.specs.Cluster.{clock_of, node_of, server_of};
 ghost use Rattle.raft_world.specs.Steps.{IsNumber};
-ghost use Rattle.cluster_servers.specs.Servers.{HasNext, applies_next};
+ghost use Rattle.office_rules.specs.Offices.{looks_on, office_from};
+ghost use Rattle.cluster_servers.specs.Servers.{HasNext, applies_next, officed};
 
 use cat_model::{Answer, Entry, Memory, Query, Steps};
 use cat_outside::Keeper;
@@ -153,5 +154,28 @@ impl<K: Keeper> Servers<K> {
         }
         replica.apply(alloc, &entry.command, clock)?;
         Ok(())
+    }
+
+    /// A server takes office, at its clock's time.
+    pub fn lead(&mut self, s: u32)
+        requires { IsNumber s self.old.world }
+        ensures { self.new ≡ officed s (office_from (clock_of self.old.world s)) self.old }
+    {
+        let clock = self.world.clock(s);
+        let at = place(s);
+        let leader = &mut self.replicas[at];
+        leader.lead(clock);
+    }
+
+    /// A server in office looks for removed keys that are to be reaped, where by its clock the time of its next look has
+    /// come, and the look after that comes 900,000 milliseconds later.
+    pub fn look(&mut self, s: u32)
+        requires { IsNumber s self.old.world }
+        ensures { self.new ≡ officed s (looks_on (clock_of self.old.world s) (server_of self.old.servers s).office) self.old }
+    {
+        let clock = self.world.clock(s);
+        let at = place(s);
+        let leader = &mut self.replicas[at];
+        leader.look(clock);
     }
 }

@@ -13,12 +13,7 @@ use Rattle.cluster_rules.specs.Cluster.{Cluster}
 use Rattle.cluster_rules.specs.Due.{Work, due, IsDue, did, Works, IsMadeUp}
 use Rattle.cluster_rules.specs.Requests as rules
 use Rattle.cluster_rules.specs.Requests.{Handles, Answers, Goes, way, asked_server, moved}
-use Rattle.cluster_rules.specs.Proposals.{Tends, Syncs, sync_of, agent_did}
-use Rattle.cluster_turns.specs.declared.own.Own.{Own}
-use Rattle.cluster_turns.specs.declared.own.Own.TheVariants as own
-use Rattle.cluster_turns.specs.declared.own.SyncWay.{SyncWay}
-use Rattle.cluster_turns.specs.declared.own.SyncWay.TheVariants as syncs
-use Rattle.cat_model.specs.declared.reply.Refusal.{Refusal}
+use Rattle.cluster_rules.specs.Proposals.{Tends}
 use Rattle.cluster_rules.specs.Step.{Acts, Remembers, Does, ClusterStep}
 use Rattle.cluster_turns.specs.declared.cut.Cut.{Cut}
 use Rattle.cluster_turns.specs.declared.cut.Cut.TheVariants.{Before, Within}
@@ -118,26 +113,6 @@ Ticks i ms c c' = (w : world.World) × WorldStep c.world (world.Ticks i ms) w ×
 abbrev pub TendsInPart : ℕ → Cluster → Cluster → Type 0
 TendsInPart i c c' = (c' ≡ c) ⊎ Tends i c c' false
 
--- the event of an agent
-abbrev pub event_by : Own → Event
-event_by (own.Sync agent) = event.Sync agent
-event_by (own.AgentTick agent ms) = event.AgentTick agent ms
-
--- the way of a sync from its agent
-abbrev pub way_from : ℕ → Cluster → rules.Way
-way_from a c = rules.way_of c.world (asked_server (length c.servers) a) false
-
--- whose sync is part of the event, and where it goes
-abbrev pub SyncGoes : SyncWay → Event → Cluster → Type 0
-SyncGoes syncs.None made c = sync_of c made ≡ None
-SyncGoes (syncs.NoLeader a) made c = (sync_of c made ≡ Some a) × ((why : Refusal) × (way_from a c ≡ Answers why))
-SyncGoes (syncs.Goes a i) made c = (sync_of c made ≡ Some a) × (way_from a c ≡ Goes i)
-
--- A sync that finds no memory changed nothing, where the agent did nothing by itself, or did a first part.
-abbrev pub SyncsInPart : ℕ → ℕ → Bool → Cut → Cluster → Cluster → Type 0
-SyncsInPart i a mine Before c c' = (mine ≡ false) × (c' ≡ c)
-SyncsInPart i a mine Within c c' = Syncs i a mine c c' false
-
 -- a message is lost
 abbrev pub Loses : ℕ → Cluster → Cluster → Type 0
 Loses k c c' = (w : world.World) × WorldStep c.world (world.Drops k) w × (c' ≡ record c { world = w })
@@ -158,20 +133,9 @@ IsServedCut i agent asked draw Within c c' =
     WorkedSome i c c'
     ⊎ ((c₁ : Cluster) × (c₂ : Cluster) × IsMadeUp i c c₁ × HandlesNewest i agent asked draw c₁ c₂ × Works i c₂ c' × (due i c' ≢ None))
 
--- an event is taken; of requests those that are
+-- an event is taken: no sync and no tick of an agent, and of requests those that are taken
 abbrev pub IsTaken : (Asked → Type 0) → Event → Type 0
 IsTaken Takes (event.Ask agent asked draw) = Takes asked
+IsTaken Takes (event.Sync agent) = ⊥
+IsTaken Takes (event.AgentTick agent ms) = ⊥
 IsTaken Takes other = Unit {0}
-
--- What an agent's request that was noted makes its agent and the leading server do, once it has its number.
-abbrev pub IsTold : ℕ → ℕ → ℕ → Asked → Draw → Cluster → Cluster → Type 0
-IsTold i a agent asked draw c c' =
-    (c₁ : Cluster) × (c₂ : Cluster) × (c₃ : Cluster) × IsMadeUp i c c₁ × (c₂ ≡ agent_did (event.Ask agent asked draw) (numbered agent asked draw c₁)) × Syncs i a true c₂ c₃ true × IsMadeUp i c₃ c'
-
--- and where it is cut short: while it is made up for, behind the sync, or in it
-abbrev pub IsToldCut : ℕ → ℕ → ℕ → Asked → Draw → Cut → Cluster → Cluster → Type 0
-IsToldCut i a agent asked draw Before c c' = c' ≡ c
-IsToldCut i a agent asked draw Within c c' =
-    WorkedSome i c c'
-    ⊎ ((c₁ : Cluster) × (c₂ : Cluster) × IsMadeUp i c c₁ × (c₂ ≡ agent_did (event.Ask agent asked draw) (numbered agent asked draw c₁))
-    × (((c₃ : Cluster) × Syncs i a true c₂ c₃ true × Works i c₃ c' × (due i c' ≢ None)) ⊎ Syncs i a true c₂ c' false))

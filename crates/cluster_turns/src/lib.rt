@@ -2,27 +2,21 @@
 //! makes up again, and its outs join the tray.
 #![tactic(auto)]
 
-mod agents;
-mod answering;
 mod asking;
 mod cut;
 mod events;
 mod impulse;
 mod making;
-mod own;
 mod parts;
 mod settling;
 mod ticking;
 mod turns;
 
-pub use agents::of_agent;
-pub use answering::ask_agent;
 pub use asking::ask;
 pub use cut::Cut;
 pub use events::{beat, deliver, fail_keep, lose, restart, timeout};
 pub use impulse::Impulse;
 pub use making::make;
-pub use own::{Own, SyncWay};
 pub use parts::{Parts, Way};
 pub use settling::settle;
 pub use ticking::tick;

@@ -6,16 +6,14 @@ ghost use Rattle.cluster_rules.specs.Reached.{Fits};
 ghost use Rattle.cluster_rules.specs.Step.{ClusterStep};
 ghost use Rattle.cluster_turns.specs.Turns.{FindsNoMemory, IsTaken};
 
-use crate::agents::of_agent;
 use crate::asking::ask;
 use crate::events::{beat, deliver, fail_keep, lose, restart, timeout};
-use crate::own::Own;
 use crate::parts::Parts;
 use crate::ticking::tick;
 use cat_model::{Asked, Draw, Event, Memory};
 use std::alloc::Global;
 
-/// Makes an event that fits.
+/// Makes an event that fits. Syncs and ticks of agents are not taken so far.
 pub fn make<P: Parts>(parts: &mut P, alloc: Global, made: &Event) -> Result<(), Memory>
     requires fits { Fits (P.state parts.old) made.now }
     requires taken { IsTaken P.takes made.now }
@@ -31,8 +29,7 @@ pub fn make<P: Parts>(parts: &mut P, alloc: Global, made: &Event) -> Result<(), 
         Event::Restart(server) => restart(parts, alloc, *server),
         Event::FailKeep(server, nth) => fail_keep(parts, alloc, *server, *nth),
         Event::Ask { agent, asked, draw } => make_request(parts, alloc, *agent, asked, *draw),
-        Event::Sync(agent) => of_agent(parts, alloc, Own::Sync(*agent)),
-        Event::AgentTick(agent, ms) => of_agent(parts, alloc, Own::AgentTick(*agent, *ms)),
+        Event::Sync(_) | Event::AgentTick(..) => unreachable!(),
     }
 }
 

@@ -5,19 +5,16 @@ ghost use Rattle.cat_model.specs.declared.request.Event.TheVariants as event;
 ghost use Rattle.raft_model.specs.World.{numbered as packet};
 ghost use Rattle.cluster_rules.specs.Cluster.{Cluster};
 ghost use Rattle.cluster_rules.specs.Due.{due};
-ghost use Rattle.cluster_rules.specs.Lasting.{IsAgents};
 ghost use Rattle.cluster_rules.specs.Left.{left};
 ghost use Rattle.cluster_rules.specs.Reached.{IsServerNumber, IsAgentNumber, IsUnderWay, Fits};
 ghost use Rattle.cluster_rules.specs.Requests.{refused, Goes};
-ghost use Rattle.cluster_rules.specs.Proposals.{Tends, Syncs, agent_did, did_own, synced};
+ghost use Rattle.cluster_rules.specs.Proposals.{Tends};
 ghost use Rattle.cluster_rules.specs.Step.{goes_to, marked, noted, receiver, shelved};
-ghost use Rattle.cluster_turns.specs.Turns.{Turned, numbered, Ticks, TendsInPart, SyncGoes, SyncsInPart, event_by, ActsWhole, ActsCut, event_of, way_of, GoesBy, IsCome, HandlesNewest, Loses, newest};
+ghost use Rattle.cluster_turns.specs.Turns.{Turned, Ticks, TendsInPart, ActsWhole, ActsCut, event_of, way_of, GoesBy, IsCome, HandlesNewest, Loses, newest};
 ghost use Rattle.cluster_turns.specs.Pairs.{HasLowest, settled};
-ghost use Rattle.cluster_turns.specs.declared.own.SyncWay.TheVariants as SyncWay;
 
 use crate::cut::Cut;
 use crate::impulse::Impulse;
-use crate::own::{Own, SyncWay};
 use cat_model::{Asked, Draw, Event, Memory, Refusal};
 use std::alloc::Global;
 
@@ -86,72 +83,6 @@ pub trait Parts {
         requires made_up { due server (state self.old) ≡ None }
         ensures whole { OnOk result (Tends server (state self.old) (state self.new) true) }
         ensures cut { OnErr result (TendsInPart server (state self.old) (state self.new)) };
-
-    /// Whose sync is part of an agent's event, and where it goes.
-    fn sync_goes(&self, made: Own) -> SyncWay
-        requires { Fits (state self.now) (event_by made) }
-        ensures way { SyncGoes result (event_by made) (state self.now) }
-        ensures server { (agent server : ℕ) → result ≡ SyncWay.Goes agent server → IsServerNumber (state self.now) server };
-
-    /// What the agent does by itself.
-    fn own(&mut self, alloc: Global, made: Own) -> Result<(), Memory>
-        ensures ok { OnOk result (state self.new ≡ agent_did (event_by made) (state self.old)) }
-        ensures err { OnErr result (state self.new ≡ state self.old) };
-
-    /// A sync finds no leader.
-    fn sync_none(&mut self, agent: u32)
-        ensures { state self.new ≡ synced agent None (state self.old) };
-
-    /// The agent's sync at a server at which nothing is due.
-    fn sync(&mut self, alloc: Global, agent: u32, server: u32, made: Own) -> Result<(), Cut>
-        requires server { IsServerNumber (state self.old) server }
-        requires made_up { due server (state self.old) ≡ None }
-        ensures whole { OnOk result (Syncs server agent (did_own (event_by made)) (state self.old) (state self.new) true) }
-        ensures cut { IfErr result (λ cut. SyncsInPart server agent (did_own (event_by made)) cut (state self.old) (state self.new)) };
-
-    /// Whose sync is part of an agent's request, and where it goes.
-    fn sync_asked(&self, agent: u32, asked: &Asked, draw: Draw) -> SyncWay
-        requires agent { IsAgentNumber (state self.now) agent }
-        requires agents { IsAgents asked.now }
-        ensures way { SyncGoes result (event.Ask agent asked.now draw) (state self.now) }
-        ensures server { (syncing server : ℕ) → result ≡ SyncWay.Goes syncing server → IsServerNumber (state self.now) server };
-
-    /// Marks an event that is an agent's request, of which the number is still to be given.
-    fn note_agents(
-        &mut self,
-        alloc: Global,
-        agent: u32,
-        asked: &Asked,
-        draw: Draw,
-    ) -> Result<(), Memory>
-        requires { IsAgents asked.now }
-        ensures ok { OnOk result (state self.new ≡ noted (event.Ask agent asked.now draw) (state self.old)) }
-        ensures err { OnErr result (state self.new ≡ state self.old) };
-
-    /// Marks an agent's request with its number, and answers it.
-    fn answer(&mut self, alloc: Global, agent: u32, asked: &Asked, draw: Draw) -> Result<(), Memory>
-        requires { IsAgents asked.now }
-        ensures ok { OnOk result (let made = event.Ask agent asked.now draw in state self.new ≡ agent_did made (marked made (state self.old))) }
-        ensures err { OnErr result (state self.new ≡ state self.old) };
-
-    /// Gives the agent's request that was marked last its number, and answers it.
-    fn answer_newest(
-        &mut self,
-        alloc: Global,
-        agent: u32,
-        asked: &Asked,
-        draw: Draw,
-    ) -> Result<(), Memory>
-        requires agents { IsAgents asked.now }
-        requires come { IsCome agent asked.now draw (state self.old).past }
-        ensures ok { OnOk result (state self.new ≡ agent_did (event.Ask agent asked.now draw) (numbered agent asked.now draw (state self.old))) }
-        ensures err { OnErr result (state self.new ≡ state self.old) };
-
-    /// The agent's sync after its own request. Where it lacks memory it did a first part of that.
-    fn sync_after(&mut self, alloc: Global, agent: u32, server: u32) -> Result<(), Memory>
-        requires { IsServerNumber (state self.old) server }
-        ensures whole { OnOk result (Syncs server agent true (state self.old) (state self.new) true) }
-        ensures cut { OnErr result (Syncs server agent true (state self.old) (state self.new) false) };
 
     /// Lets the event's outs join the tray.
     fn shelve(&mut self)

@@ -4,3 +4,4 @@ pub mod Telling
 pub mod Lifting
 pub mod Placing
 pub mod Numbering
+pub mod Amounts

@@ -1,6 +1,6 @@
 -- The marks of a cluster as they are kept. Entries that joined the agreed log are counted only, since that log has
 -- them.
-use Rattle.std.specs.Prelude.{ℕ, ◌+◌, Bool, true, false, List, [], ◌∷◌, take, drop, if◌then◌else◌, Option, Some, None}
+use Rattle.std.specs.Prelude.{ℕ, suc, ◌+◌, Bool, true, false, List, [], ◌∷◌, take, drop, if◌then◌else◌, Option, Some, None}
 use Rattle.cat_model.specs.declared.reply.Mark.{Mark}
 use Rattle.cat_model.specs.declared.reply.Mark.TheVariants as mark
 use Rattle.raft_model.specs.Log.{Log}
@@ -19,6 +19,12 @@ abbrev pub past_of : Log → List Note → List Mark
 past_of log [] = []
 past_of log (Marked m ∷ notes) = m ∷ past_of log notes
 past_of log (Joined count ∷ notes) = entries_past (take count (drop (joined_in notes) log)) (past_of log notes)
+
+-- how many of these notes are marks of their own
+abbrev pub marked_in : List Note → ℕ
+marked_in [] = 0
+marked_in (Marked m ∷ notes) = suc (marked_in notes)
+marked_in (Joined count ∷ notes) = marked_in notes
 
 -- 1 for the mark of an event
 abbrev pub event_of : Mark → ℕ

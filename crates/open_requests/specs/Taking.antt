@@ -1,12 +1,13 @@
 -- What a call that looks for a request's out finds.
-use Rattle.std.specs.Prelude.{◌≡◌, ◌≢◌, ◌==◌, Bool, false, ℕ, get_or, List, ◌∷◌, ◌++◌, Option, Some, None}
-use Rattle.std.specs.List.{AllByRecursion as Each, remove}
+use Rattle.std.specs.Prelude.{◌≡◌, ◌==◌, Bool, false, ℕ, get_or, List, ◌∷◌, ◌++◌, Option, Some, None}
+use Rattle.std.specs.List.{remove}
 use Rattle.cat_model.specs.declared.request.Asked.{Asked}
 use Rattle.cat_model.specs.declared.request.Asked.TheVariants.{Good}
 use Rattle.cat_model.specs.declared.request.Request.TheVariants.{Read}
 use Rattle.cluster_rules.specs.Replies.{Out, Replied, Closed, number_of}
 use Rattle.cluster_rules.specs.Cluster.{Pending, Stand, AtPlace, InRound, ForIndex, Ended}
 use Rattle.cluster_rules.specs.Sound.{IsAmong}
+use Rattle.cluster_rules.specs.Past.{HasNoOut, IsNotHeld}
 use Rattle.open_requests.specs.declared.collected.Awaits.{Awaits}
 use Rattle.open_requests.specs.declared.collected.Awaits.TheVariants as awaits
 use Rattle.open_requests.specs.declared.collected.Collected.{Collected}
@@ -33,17 +34,9 @@ has_number (Some own) number = own == number
 abbrev pub is_of : ℕ → Out → Bool
 is_of number out = has_number (number_of out) number
 
--- the request has no out in the tray
-abbrev pub HasNoOut : ℕ → List Out → Type 0
-HasNoOut number tray = Each (λ (o : Out). number_of o ≢ Some number) tray
-
 -- the out at this place of the tray was taken
 abbrev pub TakesAt : ℕ → Out → Requests → Requests → Type 0
 TakesAt at out old new = (out ≡ get_or old.tray at out) × (new ≡ record old { tray = remove old.tray at; notes = taken_note (number_of out) old.notes })
-
--- and is not held
-abbrev pub IsNotHeld : ℕ → List Pending → Type 0
-IsNotHeld number held = Each (λ (h : Pending). h.question.number ≢ number) held
 
 abbrev pub least_of : Asked → ℕ
 least_of (Good (Read query mode least wait raw)) = least

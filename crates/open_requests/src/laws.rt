@@ -18,8 +18,9 @@ ghost use Rattle.cluster_rules.specs.Replies.{Closed};
 ghost use Rattle.cluster_rules.specs.Requests.{holding, moved_with, refused};
 ghost use Rattle.cluster_rules.specs.Sound.{Ascends, IsAmong};
 ghost use Rattle.cluster_rules.specs.Step.{ended, events_in, marked, noted, shelved};
+ghost use Rattle.open_requests.specs.declared.note.Note.{Note};
 ghost use Rattle.open_requests.specs.declared.note.Note.TheVariants.{Joined, Marked};
-ghost use Rattle.open_requests.specs.Notes.{joined_in, past_of};
+ghost use Rattle.open_requests.specs.Notes.{joined_in, marked_in, past_of};
 ghost use Rattle.open_requests.specs.Requests as own;
 ghost use Rattle.open_requests.specs.Requests.{Requests, answered_with, came_with, closed_with, cluster_of, ended_all, halted_with, holding_with, restood, shelved_all, used, with_note};
 ghost use Rattle.open_requests.specs.Taking.{Takes};
@@ -76,4 +77,10 @@ pub fn shelving_lifts()
 pub fn takings_lift()
     ensures request { (w : World) (servers : List Server) (old new : Requests) (out : Out) (number : ℕ) → number_of out ≡ Some number → (t : Takes out old new) → let c = cluster_of w servers old in cluster_of w servers new ≡ record c { tray = t.before ++ t.after; past = mark.Taken number ∷ c.past } }
     ensures sync { (w : World) (servers : List Server) (old new : Requests) (out : Out) → number_of out ≡ None → (t : Takes out old new) → let c = cluster_of w servers old in cluster_of w servers new ≡ record c { tray = t.before ++ t.after } }
+{}
+
+/// The marks beside an agreed log are as many as the notes that are marks and the entries that joined.
+#[tactic(auto, using(crate::proofs::Amounts::counted_marks))]
+pub fn marks_are_counted()
+    ensures { (log : Log) (notes : List Note) → joined_in notes ≤ length log → length (past_of log notes) ≡ marked_in notes + joined_in notes }
 {}

@@ -3,6 +3,7 @@
 
 mod copies;
 pub mod laws;
+mod office;
 mod replica;
 #[cfg(test)]
 mod tests;

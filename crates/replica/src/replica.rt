@@ -6,9 +6,11 @@ ghost use Rattle.cat_model.specs.Queries.{answer};
 ghost use Rattle.cat_model.specs.Indexes.{index_of};
 ghost use Rattle.catalog_store.specs.Firing.{FiresJust};
 ghost use Rattle.catalog_store.specs.Steps.{is_taken};
-ghost use Rattle.replica.specs.States.{nothing_applied, applied_at, last_reply};
+ghost use Rattle.office_rules.specs.Offices.{looks_on, office_from};
+ghost use Rattle.replica.specs.States.{nothing_applied, applied_at, in_office, last_reply};
 
 use crate::copies;
+use crate::office::{Office, looks_on};
 use cat_model::{Answer, Applied, Command, Fired, Memory, Query, Steps};
 use catalog_query::View;
 use catalog_store::Store;
@@ -17,21 +19,22 @@ use std::marker::Model;
 use std::sync::ledger::Ledger;
 
 /// What a server has applied since it last started: the store of these commands, and its clock at each of them, in
-/// milliseconds. A restarted server begins with a new one.
+/// milliseconds; and its time in office, if it led since then. A restarted server begins with a new one.
 #[derive(Drop)]
 pub struct Replica {
     store: Store,
     clocks: Vec<u64>,
     reply: Option<Applied>,
+    office: Option<Office>,
 }
 
 impl Model for Replica {
     ghost use Rattle.std.specs.Prelude.{◌≡◌, ◌≤◌, length};
-    ghost use Rattle.replica.specs.States.{ReplicaState, last_reply};
+    ghost use Rattle.replica.specs.States.{ReplicaState, last_reply, office_kept};
 
     ghost Value = { ReplicaState };
 
-    ghost view = { λ r. record { commands = r.store; clocks = r.clocks.items } };
+    ghost view = { λ r. record { commands = r.store; clocks = r.clocks.items; office = office_kept r.office } };
 
     ghost invariant = { λ r. (length r.clocks.items ≡ length r.store) × (length r.store ≤ 262144) × (r.reply ≡ last_reply r.store) };
 }
@@ -45,6 +48,7 @@ impl Replica {
             store: Store::new(alloc)?,
             clocks: Vec::new(alloc),
             reply: None,
+            office: None,
         })
     }
 
@@ -105,6 +109,24 @@ impl Replica {
                 Err(memory)
             }
         }
+    }
+
+    /// The server takes office, at this time of its clock.
+    pub fn lead(&mut self, now: u64)
+        ensures { self.new ≡ in_office (office_from now) self.old }
+    {
+        self.office = Some(Office {
+            since: now,
+            looked: now,
+        });
+    }
+
+    /// A server in office looks for removed keys that are to be reaped, where the time of its next look has come, and
+    /// the look after that comes 900,000 milliseconds later.
+    pub fn look(&mut self, now: u64)
+        ensures { self.new ≡ in_office (looks_on now self.old.office) self.old }
+    {
+        self.office = looks_on(self.office, now);
     }
 
     /// The answer to the query at all that is applied, with its index. It is one step, also where memory fails.

@@ -1,6 +1,6 @@
 -- What the answers to reads show: Consul's HTTP API version 1, the endpoints of the catalog, the KV store, health,
 -- sessions and prepared queries.
-use Rattle.std.specs.Prelude.{ℕ, ◌&&◌, not, Bool, true, false, if◌then◌else◌, List, [], ◌∷◌, map, codes}
+use Rattle.std.specs.Prelude.{ℕ, ◌==◌, ◌&&◌, not, Bool, true, false, if◌then◌else◌, List, [], ◌∷◌, length, map, codes}
 use Rattle.serde_json.specs.Data.{Data, array}
 use Rattle.serde_json.specs.View.{items_of}
 use Rattle.cat_model.specs.Keys.{is_empty}
@@ -20,10 +20,14 @@ abbrev pub shown_rows : List KvRow → Shown
 shown_rows [] = plain 404 []
 shown_rows (r ∷ rows) = json 200 (rows_data (r ∷ rows))
 
+-- the bytes of a value; none are a plain text, as any empty body is
+abbrev pub shown_bytes : List ℕ → Shown
+shown_bytes value = if length value == 0 then plain 200 [] else record { status = 200; body = value; form = Octets }
+
 -- the bytes of the value of the one row
 abbrev pub shown_value : List KvRow → Shown
 shown_value [] = plain 404 []
-shown_value (r ∷ rows) = record { status = 200; body = r.value; form = Octets }
+shown_value (r ∷ rows) = shown_bytes r.value
 
 abbrev pub has_none : List (List ℕ) → Bool
 has_none [] = true

@@ -5,7 +5,7 @@ ghost use Rattle.serde_json.specs.Data.{string};
 ghost use Rattle.serde_json.specs.View.{view};
 ghost use Rattle.reply_body.specs.Bodies as spec;
 ghost use Rattle.reply_body.specs.Rows.{names_data};
-ghost use Rattle.reply_body.specs.Reads.{shown_rows, shown_value, shown_names};
+ghost use Rattle.reply_body.specs.Reads.{shown_bytes, shown_rows, shown_value, shown_names};
 
 use crate::json::{id_text, listed, plain, written};
 use crate::shown::Shown;
@@ -88,17 +88,27 @@ pub(crate) fn rows_shown(alloc: Global, rows: &[KvRow]) -> Result<Shown, Memory>
     written(alloc, 200, &json)
 }
 
+// The bytes of a value. No bytes are a plain text, as any empty body is.
+fn raw_shown(alloc: Global, value: &[u8]) -> Result<Shown, Memory>
+    ensures { IfOk result (λ shown. shown ≡ shown_bytes value.now) }
+{
+    if value.is_empty() {
+        return plain(alloc, 200, "");
+    }
+    Ok(Shown {
+        status: 200,
+        body: Bytes::new(alloc, value)?,
+        form: Form::Octets,
+    })
+}
+
 /// The bytes of the first row's value.
 pub(crate) fn value_shown(alloc: Global, rows: &[KvRow]) -> Result<Shown, Memory>
     ensures { IfOk result (λ shown. shown ≡ shown_value rows.now) }
 {
     match rows.first() {
         None => plain(alloc, 404, ""),
-        Some(row) => Ok(Shown {
-            status: 200,
-            body: Bytes::new(alloc, row.value.as_slice())?,
-            form: Form::Octets,
-        }),
+        Some(row) => raw_shown(alloc, row.value.as_slice()),
     }
 }
 

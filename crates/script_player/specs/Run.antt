@@ -38,7 +38,7 @@ pub record Played (script : Script) (outs : List Out) (end : Ending) : Type 0 wh
   pub start : Cluster
   pub first : IsFirstStart start
   pub servers : length start.servers ≡ opening.servers
-  pub agents : start.agents ≡ opening.agents
+  pub agents : length start.agents ≡ opening.agents
   pub reached : Cluster
   pub plays : Plays (said opening.seed) next lines start outs end reached
   pub holds : Holds start outs reached

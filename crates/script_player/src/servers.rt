@@ -30,7 +30,7 @@ pub trait Servers: Drop {
         requires few { agents ≤ 64 }
         ensures first { IfOk result (λ s. IsFirstStart (state s)) }
         ensures servers { IfOk result (λ s. length (state s).servers ≡ servers) }
-        ensures agents { IfOk result (λ s. (state s).agents ≡ agents) };
+        ensures agents { IfOk result (λ s. length (state s).agents ≡ agents) };
 
     /// Whether the event fits: what it names is there, and no clock passes its end.
     fn fits(&self, event: &Event) -> Result<(), Misfit>

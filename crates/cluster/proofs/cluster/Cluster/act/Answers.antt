@@ -12,10 +12,6 @@ pub returns-in-Beat-clause-whole : goal.returns-in-Beat-clause-whole
 returns-in-Beat-clause-whole g c =
     subst (λ z. OnOk c.beat.result (ActsWhole c.args.server z c.args.self.now c.beat.new.self)) (as_named c.args.self.now impulse.Beat (λ _. refl) c.args.impulse c.in-Beat.field-0 c.args.server c.in-Beat.is c.requires.goes) c.beat.ensures.whole
 
-pub returns-in-Tick-clause-whole : goal.returns-in-Tick-clause-whole
-returns-in-Tick-clause-whole g c =
-    subst (λ z. OnOk c.tick.result (ActsWhole c.args.server z c.args.self.now c.tick.new.self)) (as_named c.args.self.now (λ n. impulse.Tick n c.in-Tick.milliseconds) (λ _. refl) c.args.impulse c.in-Tick.field-0 c.args.server c.in-Tick.is c.requires.goes) c.tick.ensures.whole
-
 pub returns-in-Deliver-clause-whole : goal.returns-in-Deliver-clause-whole
 returns-in-Deliver-clause-whole g c =
     subst (λ z. OnOk c.deliver.result (ActsWhole c.args.server z c.args.self.now c.deliver.new.self)) (sym (ap event_of c.in-Deliver.is)) c.deliver.ensures.whole
