@@ -77,7 +77,7 @@ pub record Acted (i : ℕ) (made : Event) (c : Cluster) (w' : World) (servers' :
   pub cut : IfErr result (λ cut. ActsCut i made cut c (cluster_of w' servers' r'))
 
 -- the servers once server i has taken office, where it did
-seated_servers : World → World → ℕ → List Server → List Server
+pub seated_servers : World → World → ℕ → List Server → List Server
 seated_servers w w' i servers = cond (took_office w w' i) (set_server servers i (record (server_of servers i) { office = office_from (clock_of w' i) })) servers
 
 cluster_seated : (w w' : World) (i : ℕ) (servers : List Server) (r : Requests) → cluster_of w' (seated_servers w w' i servers) r ≡ seated w i (cluster_of w' servers r)

@@ -57,6 +57,7 @@ anything c i h = record {
   answers = λ _ _ _ _ _ _ _ _ _ _. tt;
   refuses = λ _ _ _ _ _ _ _ _ _ _ _. tt;
   sees = λ _ _ _ _ _ _ _ _ _ _ _. tt;
+  runs = λ _ _ _ _ _ _ _. tt;
   turns = λ _ _ _ _ _ _. tt;
 }
 

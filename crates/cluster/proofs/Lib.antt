@@ -15,6 +15,6 @@ pub mod Proposing
 pub mod Refused
 pub mod Restarts
 pub mod Stores
-pub mod Ticking
+pub mod Clocks
 pub mod Turns
 pub mod Notes

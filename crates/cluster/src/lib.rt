@@ -2,8 +2,6 @@
 #![tactic(auto)]
 
 mod acting;
-#[cfg(test)]
-mod acting_tests;
 mod asking;
 mod cluster;
 mod contact;
@@ -19,8 +17,6 @@ mod playing;
 mod refusing;
 mod starting;
 mod stepping;
-#[cfg(test)]
-mod stepping_tests;
 mod taking;
 mod ticking;
 mod travelling;

@@ -1,14 +1,14 @@
-//! Scripts are played on clusters over stores in memory.
+//! The cluster over stores in memory, as its front ends see it.
 
 use crate::cluster::Cluster;
 use cat_model::{Entry, Event, List, Memory};
 use cat_outside::MemKeeper;
 use open_requests::Out;
-use script_player::{History, Servers};
+use cluster_interface::{ClusterInterface, History};
 use script_runs::Misfit;
 use std::alloc::Global;
 
-impl Servers for Cluster<MemKeeper> {
+impl ClusterInterface for Cluster<MemKeeper> {
     ghost state = { λ c. c };
 
     fn start(alloc: Global, servers: u32, agents: u32) -> Result<Cluster<MemKeeper>, Memory> {

@@ -3,14 +3,14 @@
 ghost use Rattle.std.specs.Prelude.{◌≡◌, ◌≤◌, ◌<◌, IfOk, length, map, reverse};
 ghost use Rattle.cluster_rules.specs.Cluster.{applied_of};
 ghost use Rattle.cluster_rules.specs.Reached.{IsServerNumber};
-ghost use Rattle.script_player.specs.Servers.{TakesFirst};
+ghost use Rattle.cluster_interface.specs.Interface.{TakesFirst};
 ghost use Rattle.cluster.specs.Taking.{Collects};
 
 use crate::cluster::Cluster;
 use cat_model::{Entry, List, Memory};
 use cat_outside::Keeper;
 use open_requests::{Collected, Out};
-use script_player::History;
+use cluster_interface::History;
 use std::alloc::Global;
 
 impl<K: Keeper> Cluster<K> {

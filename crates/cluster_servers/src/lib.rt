@@ -6,7 +6,5 @@ mod servers;
 mod starting;
 mod steps;
 mod terms;
-#[cfg(test)]
-mod tests;
 
 pub use servers::Servers;

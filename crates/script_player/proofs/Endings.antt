@@ -17,7 +17,7 @@ abbrev pub IsRun : Script → Option (List ℕ) → Option (List ℕ) → Option
 IsRun script held held' r = MatchOption r (RefusedRun script held held') (WholeRun script held held')
 
 ended : (opening : Opening) (next : ℕ) (lines : List (List ℕ)) (start c : Cluster) (made : ℕ) (held held' held'' : Option (List ℕ)) (refused : Option Refused) (r : Option Report) →
-    IsFirstStart start → length start.servers ≡ opening.servers → start.agents ≡ opening.agents →
+    IsFirstStart start → length start.servers ≡ opening.servers → length start.agents ≡ opening.agents →
     PlaysTo (said opening.seed) next lines start (ending_of refused) c made held held' → Appends held' held'' (last_text (ending_of refused) c) →
     IfSome r (IsReportOf c made) → MatchOption r ((why : Refused) × (refused ≡ Some why)) (λ _. refused ≡ None) →
     IsRun (Opened opening next lines) held held'' r
@@ -29,7 +29,7 @@ ended opening next lines start c made held held' held'' (Some why) None first se
     refused_from opening next lines start c made _ _ held held' held'' first servers agents p w
 
 pub run_ended : {E : Type 0} (result : Result (Option Report) E) (opening : Opening) (next : ℕ) (lines : List (List ℕ)) (start c : Cluster) (made : ℕ) (held held' held'' : Option (List ℕ)) (refused : Option Refused) →
-    IsFirstStart start → length start.servers ≡ opening.servers → start.agents ≡ opening.agents →
+    IsFirstStart start → length start.servers ≡ opening.servers → length start.agents ≡ opening.agents →
     PlaysTo (said opening.seed) next lines start (ending_of refused) c made held held' → OnOk result (Appends held' held'' (last_text (ending_of refused) c)) →
     IfOk result (λ r. IfSome r (IsReportOf c made)) → IfOk result (λ r. MatchOption r ((why : Refused) × (refused ≡ Some why)) (λ _. refused ≡ None)) →
     IfOk result (IsRun (Opened opening next lines) held held'')
@@ -38,7 +38,7 @@ run_ended (Ok r) opening next lines start c made held held' held'' refused first
 run_ended (Err fail) opening next lines start c made held held' held'' refused first servers agents p w reports whether = tt
 
 pub run_broke : {E : Type 0} (result : Result (Option Report) E) (opening : Opening) (next : ℕ) (lines : List (List ℕ)) (start c : Cluster) (made : ℕ) (held held' held'' : Option (List ℕ)) (refused : Option Refused) →
-    IsFirstStart start → length start.servers ≡ opening.servers → start.agents ≡ opening.agents →
+    IsFirstStart start → length start.servers ≡ opening.servers → length start.agents ≡ opening.agents →
     PlaysTo (said opening.seed) next lines start (ending_of refused) c made held held' → OnErr result (WritesPart held' held'' (last_text (ending_of refused) c)) →
     OnErr result (Appends held held'' [] ⊎ PartOfRun (Opened opening next lines) held held'')
 run_broke (Ok r) opening next lines start c made held held' held'' refused first servers agents p part = tt
@@ -46,6 +46,6 @@ run_broke (Err fail) opening next lines start c made held held' held'' refused f
     inr (part_ending opening next lines start c (ending_of refused) made held held' held'' first servers agents p part)
 
 pub play_broke : (opening : Opening) (next : ℕ) (lines : List (List ℕ)) (start : Cluster) (held held' : Option (List ℕ)) →
-    IsFirstStart start → length start.servers ≡ opening.servers → start.agents ≡ opening.agents →
+    IsFirstStart start → length start.servers ≡ opening.servers → length start.agents ≡ opening.agents →
     PlaysPart (said opening.seed) next lines start held held' → Appends held held' [] ⊎ PartOfRun (Opened opening next lines) held held'
 play_broke opening next lines start held held' first servers agents p = inr (part_playing opening next lines start held held' first servers agents p)

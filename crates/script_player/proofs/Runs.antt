@@ -23,7 +23,7 @@ use Rattle.script_player.proofs.Written.{part_front, part_after}
 
 -- a run of lines that a script opens
 pub played_from : (opening : Opening) (next : ℕ) (lines : List (List ℕ)) (start c : Cluster) (outs : List Out) (end : Ending) →
-    IsFirstStart start → length start.servers ≡ opening.servers → start.agents ≡ opening.agents →
+    IsFirstStart start → length start.servers ≡ opening.servers → length start.agents ≡ opening.agents →
     Plays (said opening.seed) next lines start outs end c → Played (Opened opening next lines) outs end
 played_from opening next lines start c outs end first servers agents p = record {
   opening = opening;
@@ -49,7 +49,7 @@ held_ascend [] a = tt
 held_ascend (h ∷ hs) a = (each_number h.question.number hs a.0, held_ascend hs a.1)
 
 pub whole_from : (opening : Opening) (next : ℕ) (lines : List (List ℕ)) (start c : Cluster) (made : ℕ) (held held' held'' : Option (List ℕ)) (report : Report) →
-    IsFirstStart start → length start.servers ≡ opening.servers → start.agents ≡ opening.agents →
+    IsFirstStart start → length start.servers ≡ opening.servers → length start.agents ≡ opening.agents →
     PlaysTo (said opening.seed) next lines start Whole c made held held' → Appends held' held'' (last_text Whole c) → IsReportOf c made report →
     WholeRun (Opened opening next lines) held held'' report
 unfolding played_from
@@ -67,7 +67,7 @@ whole_from opening next lines start c made held held' held'' report first server
     }
 
 pub refused_from : (opening : Opening) (next : ℕ) (lines : List (List ℕ)) (start c : Cluster) (made line : ℕ) (why : List ℕ) (held held' held'' : Option (List ℕ)) →
-    IsFirstStart start → length start.servers ≡ opening.servers → start.agents ≡ opening.agents →
+    IsFirstStart start → length start.servers ≡ opening.servers → length start.agents ≡ opening.agents →
     PlaysTo (said opening.seed) next lines start (Refused line why) c made held held' → Appends held' held'' (refused_text line why) →
     RefusedRun (Opened opening next lines) held held''
 refused_from opening next lines start c made line why held held' held'' first servers agents p written =
@@ -89,14 +89,14 @@ part_closed script line why held held' e part =
     record { end = Refused line why; text = refused_text line why; writes = closed line why e; part = part }
 
 pub part_playing : (opening : Opening) (next : ℕ) (lines : List (List ℕ)) (start : Cluster) (held held' : Option (List ℕ)) →
-    IsFirstStart start → length start.servers ≡ opening.servers → start.agents ≡ opening.agents →
+    IsFirstStart start → length start.servers ≡ opening.servers → length start.agents ≡ opening.agents →
     PlaysPart (said opening.seed) next lines start held held' → PartOfRun (Opened opening next lines) held held'
 part_playing opening next lines start held held' first servers agents p =
     let run = played_from opening next lines start p.reached p.outs Broken first servers agents p.plays in
     record { end = Broken; text = outs_text p.outs ++ []; writes = played p.outs Broken run; part = part_front held held' (outs_text p.outs) [] p.part }
 
 pub part_ending : (opening : Opening) (next : ℕ) (lines : List (List ℕ)) (start c : Cluster) (end : Ending) (made : ℕ) (held held' held'' : Option (List ℕ)) →
-    IsFirstStart start → length start.servers ≡ opening.servers → start.agents ≡ opening.agents →
+    IsFirstStart start → length start.servers ≡ opening.servers → length start.agents ≡ opening.agents →
     PlaysTo (said opening.seed) next lines start end c made held held' → WritesPart held' held'' (last_text end c) →
     PartOfRun (Opened opening next lines) held held''
 unfolding played_from

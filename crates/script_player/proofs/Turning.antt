@@ -11,7 +11,7 @@ use Rattle.script_lang.specs.Text.{reason_text}
 use Rattle.script_runs.specs.Lines.{Said, Makes, Settles, Refuses, misfit}
 use Rattle.script_runs.specs.Plays.{emptied, settled, taken, all_taken}
 use Rattle.script_player.specs.declared.stage.Turn.TheVariants as turn
-use Rattle.script_player.specs.Servers.{SettlesTo}
+use Rattle.cluster_interface.specs.Interface.{SettlesTo}
 use Rattle.script_player.specs.Stage.{IsMisfit, MakesTo, SettlesAll, Turns, GoesOn, WritesAll, WritesFirst}
 use Rattle.script_player.specs.Run.{WritesPart}
 use Rattle.script_player.specs.Text.{outs_text}

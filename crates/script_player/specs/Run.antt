@@ -13,7 +13,7 @@ use Rattle.script_runs.specs.Legal.{RunIsLegal}
 use Rattle.script_player.specs.declared.opening.Opening.{Opening}
 use Rattle.script_player.specs.declared.report.Report.{Report}
 use Rattle.script_player.specs.Script.{Script, Opened, Closed, said}
-use Rattle.script_player.specs.Servers.{held_numbers, applied_lengths}
+use Rattle.cluster_interface.specs.Interface.{held_numbers, applied_lengths}
 use Rattle.script_player.specs.Text.{outs_text, refused_text, last_text}
 
 -- how many events the lines made, a delivery and a loss for each pair of a settling

@@ -25,7 +25,7 @@ use Rattle.script_player.specs.declared.stage.Turn.{Turn}
 use Rattle.script_player.specs.declared.stage.Turn.TheVariants as turn
 use Rattle.script_player.specs.declared.refused.Refused as refused
 use Rattle.script_player.specs.Script.{Script, Closed}
-use Rattle.script_player.specs.Servers.{IsPlayed}
+use Rattle.cluster_interface.specs.Interface.{IsPlayed}
 use Rattle.script_player.specs.Text.{outs_text}
 use Rattle.script_player.specs.Run.{WritesPart, made_in}
 

@@ -9,7 +9,7 @@ use Rattle.cluster_rules.specs.Cluster.{Cluster}
 use Rattle.reply_body.specs.Contents.{shown_content}
 use Rattle.script_lang.specs.Text.{out_text, end_text}
 use Rattle.script_runs.specs.Plays.{Ending, Whole, Refused, Broken}
-use Rattle.script_player.specs.Servers.{held_numbers}
+use Rattle.cluster_interface.specs.Interface.{held_numbers}
 
 -- a reply with the status, body and form of its content
 abbrev pub given_reply : rules.Reply → Reply

@@ -8,7 +8,6 @@ mod playing;
 mod reading;
 mod refused;
 mod report;
-mod servers;
 mod stage;
 mod text;
 
@@ -16,4 +15,3 @@ pub use line::split_at_byte;
 pub use output::write_all;
 pub use playing::play_script;
 pub use report::Report;
-pub use servers::{History, Servers};

@@ -5,7 +5,7 @@ ghost use Rattle.script_runs.specs.Plays.{Whole};
 ghost use Rattle.script_player.specs.Line.{lines_of};
 ghost use Rattle.script_player.specs.Script as script;
 ghost use Rattle.script_player.specs.Script.{script_of};
-ghost use Rattle.script_player.specs.Servers.{applied_lengths};
+ghost use Rattle.cluster_interface.specs.Interface.{applied_lengths};
 ghost use Rattle.script_player.specs.Run.{WritesPart, WholeRun, RefusedRun, PartOfRun, IsReportOf};
 ghost use Rattle.script_player.specs.Stage.{CountsWrite, IsOpening, ending_of};
 ghost use Rattle.script_player.specs.Text.{last_text, refused_text as refused_text_of};
@@ -14,17 +14,17 @@ use crate::opening::{NotOpened, Opened, open};
 use crate::output::write_all;
 use crate::refused::Refused;
 use crate::report::Report;
-use crate::servers::{History, Servers};
 use crate::stage::{Played, play};
 use crate::text::{end_text, refused_text};
 use cat_model::{Bytes, List, Memory};
 use cat_outside::{KeepFail, Sink};
+use cluster_interface::{ClusterInterface, History};
 use std::alloc::Global;
 
 /// Plays the script on servers of the type `S` that are started as its first line says, writes what its lines give and
 /// then a last line, and reports the run. There is no report where a line is refused: then the last line says which one,
 /// and why. After a failed write, or for want of memory, a first part of the text is written.
-pub fn play_script<S: Servers, Si: Sink>(
+pub fn play_script<S: ClusterInterface, Si: Sink>(
     alloc: Global,
     sink: &mut Si,
     script: &[u8],
@@ -45,7 +45,7 @@ pub fn play_script<S: Servers, Si: Sink>(
 }
 
 // Plays the lines of an opened script.
-fn play_opened<S: Servers, Si: Sink>(
+fn play_opened<S: ClusterInterface, Si: Sink>(
     alloc: Global,
     sink: &mut Si,
     opened: &Opened,
@@ -76,7 +76,7 @@ fn play_opened<S: Servers, Si: Sink>(
 }
 
 // Writes the last line of what was played, and reports it if no line was refused.
-fn finish<S: Servers, Si: Sink>(
+fn finish<S: ClusterInterface, Si: Sink>(
     alloc: Global,
     sink: &mut Si,
     servers: S,
@@ -115,7 +115,7 @@ fn write_refused<Si: Sink>(alloc: Global, sink: &mut Si, why: Refused) -> Result
 
 // Writes the last line of a whole run, and reports the run.
 #[tactic(auto, using(crate::proofs::Written::part_none))]
-fn report<S: Servers, Si: Sink>(
+fn report<S: ClusterInterface, Si: Sink>(
     alloc: Global,
     sink: &mut Si,
     servers: S,
@@ -136,7 +136,7 @@ fn report<S: Servers, Si: Sink>(
 }
 
 // The report of a whole run, and its last line.
-fn close<S: Servers>(alloc: Global, servers: S, events: u64) -> Result<(Report, Bytes), Memory>
+fn close<S: ClusterInterface>(alloc: Global, servers: S, events: u64) -> Result<(Report, Bytes), Memory>
     ensures report { IfOk result (λ c. IsReportOf (S.state servers) events c.0) }
     ensures text { IfOk result (λ c. c.1 ≡ last_text Whole (S.state servers)) }
 {
@@ -158,7 +158,7 @@ fn close<S: Servers>(alloc: Global, servers: S, events: u64) -> Result<(Report, 
 }
 
 // How many entries of the agreed log each server has applied, the first one first.
-fn applied_by_all<S: Servers>(alloc: Global, servers: &S) -> Result<List<u64>, Memory>
+fn applied_by_all<S: ClusterInterface>(alloc: Global, servers: &S) -> Result<List<u64>, Memory>
     ensures { IfOk result (λ lengths. lengths ≡ applied_lengths (S.state servers.now)) }
 {
     let mut lengths = List::new(alloc);

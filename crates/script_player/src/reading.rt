@@ -4,8 +4,8 @@ ghost use Rattle.script_runs.specs.Lines.{Said};
 ghost use Rattle.script_player.specs.Script.{said, bad_of as bad_for};
 ghost use Rattle.script_player.specs.Stage.{IsFine, IsWorded, IsRead};
 
-use crate::servers::Servers;
 use cat_model::{Event, Memory};
+use cluster_interface::ClusterInterface;
 use script_lang::{BadLine, Line, opens_cluster, read_line};
 use script_runs::Misfit;
 use std::alloc::Global;
@@ -66,7 +66,7 @@ fn bad_of(misfit: Misfit) -> BadLine
 }
 
 /// What a line after the opening says where the servers stand so: an event that doesn't fit is refused.
-pub fn said_by<S: Servers>(
+pub fn said_by<S: ClusterInterface>(
     alloc: Global,
     servers: &S,
     seed: u64,
@@ -82,7 +82,7 @@ pub fn said_by<S: Servers>(
 }
 
 // The number of the next request.
-fn next_number<S: Servers>(servers: &S) -> Result<u64, Memory>
+fn next_number<S: ClusterInterface>(servers: &S) -> Result<u64, Memory>
     ensures { IfOk result (λ number. number ≡ (S.state servers.now).asked + 1) }
 {
     match servers.asked().checked_add(1) {
@@ -93,7 +93,7 @@ fn next_number<S: Servers>(servers: &S) -> Result<u64, Memory>
 
 // What the words say where the servers stand so.
 #[tactic(auto, using(crate::proofs::Fine::misfit_told))]
-fn fitted<S: Servers>(servers: &S, says: Says) -> Says
+fn fitted<S: ClusterInterface>(servers: &S, says: Says) -> Says
     ensures { (s : Said) → IsWorded s says → IsRead (S.state servers.now) s result }
 {
     match says {

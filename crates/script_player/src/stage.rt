@@ -5,7 +5,7 @@ ghost use Rattle.script_runs.specs.Lines.{misfit};
 ghost use Rattle.script_runs.specs.Plays.{emptied};
 ghost use Rattle.script_player.specs.Line.{lines_of};
 ghost use Rattle.script_player.specs.Script.{said};
-ghost use Rattle.script_player.specs.Servers.{IsPlayed};
+ghost use Rattle.cluster_interface.specs.Interface.{IsPlayed};
 ghost use Rattle.script_player.specs.Stage.{CountsWrite, MakesTo, SettlesAll, Turns, IsFew, WritesAll, WritesFirst, GoesOn, ending_of, PlaysTo, PlaysPart};
 ghost use Rattle.script_player.specs.Text.{outs_text, line_of_out as line_of};
 ghost use Rattle.script_player.specs.Run.{WritesPart};
@@ -14,10 +14,10 @@ use crate::line::split_at_byte;
 use crate::output::write_all;
 use crate::reading::{Says, said_by};
 use crate::refused::Refused;
-use crate::servers::Servers;
 use crate::text::line_of_out;
 use cat_model::{Bytes, Event, Memory};
 use cat_outside::{KeepFail, Sink};
+use cluster_interface::ClusterInterface;
 use open_requests::Out;
 use script_lang::BadLine;
 use std::alloc::Global;
@@ -37,7 +37,7 @@ pub struct Played {
 }
 
 /// Plays the lines after the opening, the first of them with the number `first`.
-pub fn play<S: Servers, Si: Sink>(
+pub fn play<S: ClusterInterface, Si: Sink>(
     alloc: Global,
     sink: &mut Si,
     servers: &mut S,
@@ -78,7 +78,7 @@ pub fn play<S: Servers, Si: Sink>(
 }
 
 // Plays one line.
-fn play_line<S: Servers, Si: Sink>(
+fn play_line<S: ClusterInterface, Si: Sink>(
     alloc: Global,
     sink: &mut Si,
     servers: &mut S,
@@ -107,7 +107,7 @@ fn play_line<S: Servers, Si: Sink>(
 
 // Makes the event, and writes what it gives.
 #[tactic(auto, using(crate::proofs::Turning::none_first))]
-fn make<S: Servers, Si: Sink>(
+fn make<S: ClusterInterface, Si: Sink>(
     alloc: Global,
     sink: &mut Si,
     servers: &mut S,
@@ -126,7 +126,7 @@ fn make<S: Servers, Si: Sink>(
 }
 
 // Settles, and writes what it gives. Says how many messages were delivered.
-fn settle<S: Servers, Si: Sink>(
+fn settle<S: ClusterInterface, Si: Sink>(
     alloc: Global,
     sink: &mut Si,
     servers: &mut S,
@@ -146,7 +146,7 @@ fn settle<S: Servers, Si: Sink>(
 }
 
 // Takes all outs that wait, and writes them.
-fn write_outs<S: Servers, Si: Sink>(
+fn write_outs<S: ClusterInterface, Si: Sink>(
     alloc: Global,
     sink: &mut Si,
     servers: &mut S,

@@ -9,7 +9,7 @@ invariant-loop-rest g l = record {
   few : l.number + length l.rest ≤ l.fn.first + length l.fn.lines;
   made : l.events ≤ 8589934592 * l.number;
   faults : g.Si.Sink.faults l.sink ≡ g.Si.Sink.faults l.fn.sink;
-  so_far : SoFar (said l.fn.seed) l.fn.first (lines_of l.fn.lines) (g.S.Servers.state l.fn.servers) (g.Si.Sink.held l.fn.sink) (g.Si.Sink.held l.sink) l.events l.number (lines_of l.rest) (g.S.Servers.state l.servers);
+  so_far : SoFar (said l.fn.seed) l.fn.first (lines_of l.fn.lines) (g.S.ClusterInterface.state l.fn.servers) (g.Si.Sink.held l.fn.sink) (g.Si.Sink.held l.sink) l.events l.number (lines_of l.rest) (g.S.ClusterInterface.state l.servers);
 }
 
 abbrev pub decreases-loop-rest : goal.decreases-loop-rest

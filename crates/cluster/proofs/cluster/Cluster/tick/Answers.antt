@@ -1,4 +1,4 @@
-use Rattle.cluster.proofs.Ticking.{tick_goes_on}
+use Rattle.cluster.proofs.Clocks.{tick_goes_on}
 use Rattle.cluster.proofs.cluster.Cluster.tick.Goals as goal
 
 pub invariant_of-self : goal.invariant_of-self

@@ -1,9 +1,9 @@
 ghost use Rattle.cluster_turns.specs.Turns.{IsTaken};
 ghost use Rattle.script_runs.specs.Taken.{IsTakenAsked};
 
-use crate::Cluster;
 use cat_model::{Event, Memory};
 use cat_outside::MemKeeper;
+use cluster::Cluster;
 use script_runs::Misfit;
 use std::alloc::Global;
 use std::process::Abort;

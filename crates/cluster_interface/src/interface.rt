@@ -3,14 +3,14 @@ ghost use Rattle.cluster_rules.specs.Cluster.{Cluster, applied_of};
 ghost use Rattle.cluster_rules.specs.Step.{ClusterStep};
 ghost use Rattle.script_runs.specs.Lines.{misfit};
 ghost use Rattle.script_runs.specs.Holds.{IsFirstStart};
-ghost use Rattle.script_player.specs.Servers.{IsPlayed, SettlesTo, TakesFirst, held_numbers};
+ghost use Rattle.cluster_interface.specs.Interface.{IsPlayed, SettlesTo, TakesFirst, held_numbers};
 
 use cat_model::{Entry, Event, List, Mark, Memory};
 use open_requests::Out;
 use script_runs::Misfit;
 use std::alloc::Global;
 
-/// What servers leave.
+/// What a cluster leaves once it is done with.
 #[derive(Debug, Drop)]
 pub struct History {
     /// The agreed log.
@@ -19,8 +19,10 @@ pub struct History {
     pub marks: List<Mark>,
 }
 
-/// The servers of a cluster, with the outs that wait to be taken and the marks of what has happened.
-pub trait Servers: Drop {
+/// A cluster of servers and agents, numbered from 1, with the outs that wait to be taken and the marks of what has
+/// happened.
+pub trait ClusterInterface: Drop {
+    /// The cluster of the rules.
     ghost state: { Self → Cluster };
 
     /// So many servers and agents that nothing has happened to yet, over empty stores in memory.
@@ -72,7 +74,7 @@ pub trait Servers: Drop {
     fn unanswered(&self, alloc: Global) -> Result<List<u64>, Memory>
         ensures { IfOk result (λ numbers. numbers ≡ held_numbers (state self.now)) };
 
-    /// The agreed log, and what has happened, of servers that are done with.
+    /// The agreed log, and what has happened, of a cluster that is done with.
     fn into_history(self, alloc: Global) -> Result<History, Memory>
         ensures agreed { IfOk result (λ h. h.agreed ≡ (state self).world.agreed) }
         ensures marks { IfOk result (λ h. h.marks ≡ reverse (state self).past) };

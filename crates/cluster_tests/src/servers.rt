@@ -2,9 +2,9 @@ ghost use Rattle.std.specs.Prelude.{◌≡◌, ◌<◌, is_some, true};
 ghost use Rattle.raft_model.specs.World.{numbered};
 ghost use Rattle.raft_world.specs.Steps.{IsNumber};
 
-use crate::Servers;
 use cat_model::{Answer, Bytes, Command, List, Memory, Query, Role, Steps, Text};
 use cat_outside::{KeepFail, SureKeeper};
+use cluster_servers::Servers;
 use raft_model::{Place, Round};
 use raft_node::{ProbeFault, ProposeFault};
 use std::alloc::Global;
@@ -35,14 +35,9 @@ fn is_server(servers: &Servers<SureKeeper>, s: u32) -> bool
 }
 
 fn in_bag(servers: &Servers<SureKeeper>, k: u64) -> bool
-    ensures { result ≡ is_some (numbered k servers.now.world.bag.packets) }
+    ensures { result ≡ true → is_some (numbered k servers.now.world.bag.packets) ≡ true }
 {
-    servers.world.in_bag(k)
-}
-
-// The lowest number of a message on its way.
-fn lowest(servers: &Servers<SureKeeper>) -> Option<u64> {
-    servers.world.lowest()
+    servers.receiver(k).is_some()
 }
 
 // A time-out of a server.
@@ -63,7 +58,7 @@ fn beat(alloc: Global, servers: &mut Servers<SureKeeper>, s: u32) -> Result<(), 
 
 // Loses the message of the lowest number, where there is one.
 fn lose_lowest(servers: &mut Servers<SureKeeper>) -> bool {
-    let Some(k) = lowest(servers) else {
+    let Some(k) = servers.lowest() else {
         return false;
     };
     if in_bag(servers, k) {
@@ -74,13 +69,13 @@ fn lose_lowest(servers: &mut Servers<SureKeeper>) -> bool {
 
 // Delivers the message of the lowest number, where there is one, and takes it out.
 fn deliver_lowest(alloc: Global, servers: &mut Servers<SureKeeper>) -> Result<bool, Memory> {
-    let Some(k) = lowest(servers) else {
+    let Some(k) = servers.lowest() else {
         return Ok(false);
     };
     if in_bag(servers, k) {
         servers.deliver(alloc, k)?;
     }
-    Ok(lose_lowest(servers))
+    Ok(lose_servers.lowest())
 }
 
 // Delivers messages, up to so many, and tells how many there were.
@@ -118,6 +113,14 @@ fn wait(servers: &mut Servers<SureKeeper>, s: u32) {
     }
 }
 
+// A server takes office, and looks for what is to be reaped.
+fn take_office(servers: &mut Servers<SureKeeper>, s: u32) {
+    if is_server(servers, s) {
+        servers.lead(s);
+        servers.look(s);
+    }
+}
+
 // A server begins again.
 fn restart(alloc: Global, servers: &mut Servers<SureKeeper>, s: u32) -> Result<(), Memory> {
     if is_server(servers, s) {
@@ -132,6 +135,7 @@ fn a_leader_applies_its_noop(rt: HostRuntime) -> Result<(), Fail> {
     let mut servers = empty(rt.alloc(), false)?;
     assert_eq!(rt; apply_next(rt.alloc(), &mut servers, 1)?, false);
     time_out(rt.alloc(), &mut servers, 1)?;
+    take_office(&mut servers, 1);
     wait(&mut servers, 1);
     assert_eq!(rt; apply_next(rt.alloc(), &mut servers, 1)?, true);
     assert_eq!(rt; apply_next(rt.alloc(), &mut servers, 1)?, false);

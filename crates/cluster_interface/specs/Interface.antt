@@ -1,4 +1,4 @@
--- What the calls of a cluster of servers do, of those that the program makes.
+-- What the calls of a cluster do, of those that its front ends make.
 use Rattle.std.specs.Prelude.{◌≡◌, ◌⊎◌, ◌≤◌, ℕ, List, [], ◌∷◌, map, length, Option, None, Some}
 use Rattle.cat_model.specs.declared.request.Event.{Event}
 use Rattle.cat_model.specs.declared.request.Event.TheVariants as event
