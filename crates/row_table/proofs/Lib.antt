@@ -5,3 +5,4 @@ pub mod Edits
 pub mod Settled
 pub mod Whole
 pub mod NextRows
+pub mod Spans

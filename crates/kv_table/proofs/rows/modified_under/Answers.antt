@@ -2,7 +2,8 @@ use Rattle.std.proofs.Common.{◌≡◌, true, false, [], ◌∷◌, ◌∙◌, 
 use Rattle.cat_model.specs.Keys.{has_prefix}
 use Rattle.cat_model.specs.Catalog.{kv_key}
 use Rattle.cat_model.specs.KvIndexes.{last_modify}
-use Rattle.kv_table.proofs.Prefixes.{leading, under, leading_is}
+use Rattle.row_table.proofs.Spans.{leading}
+use Rattle.kv_table.proofs.Prefixes.{under, leading_is}
 use Rattle.kv_table.proofs.Modifies.{modify_step, modify_filter}
 use Rattle.kv_table.proofs.rows.modified_under.Goals as goal
 

@@ -4,7 +4,8 @@ use Rattle.cat_model.specs.Keys.{text_cmp, has_prefix}
 use Rattle.cat_model.specs.Catalog.{kv_key}
 use Rattle.cat_model.specs.Tables.{Ascends}
 use Rattle.cat_model.proofs.TableLemmas.{Ascends-filter}
-use Rattle.kv_table.proofs.Prefixes.{leading, under, leading_is}
+use Rattle.row_table.proofs.Spans.{leading}
+use Rattle.kv_table.proofs.Prefixes.{under, leading_is}
 use Rattle.kv_table.proofs.rows.under.Goals.{in-None, in-Some+then-not-begins}
 use Rattle.kv_table.proofs.rows.under.Goals as goal
 

@@ -1,6 +1,7 @@
 use Rattle.std.proofs.Common.{◌≡◌, ◌++◌}
 use Rattle.cat_model.specs.Catalog.{kv_key}
-use Rattle.kv_table.proofs.Prefixes.{leading, under, onward}
+use Rattle.row_table.proofs.Spans.{leading}
+use Rattle.kv_table.proofs.Prefixes.{under, onward}
 use Rattle.kv_table.proofs.rows.under.Given as goal
 
 abbrev pub invariant-loop-row : goal.invariant-loop-row

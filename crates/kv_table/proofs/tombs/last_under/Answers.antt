@@ -1,7 +1,8 @@
 use Rattle.std.proofs.Common.{◌≡◌, true, false, [], ◌∷◌, ◌∙◌, cond, sym, ap, max}
 use Rattle.cat_model.specs.Keys.{has_prefix}
 use Rattle.cat_model.specs.KvIndexes.{last_tomb}
-use Rattle.kv_table.proofs.Prefixes.{leading, under, leading_is}
+use Rattle.row_table.proofs.Spans.{leading}
+use Rattle.kv_table.proofs.Prefixes.{under, leading_is}
 use Rattle.kv_table.proofs.TombLemmas.{tomb_key, tomb_step, tomb_filter}
 use Rattle.kv_table.proofs.tombs.last_under.Goals as goal
 

@@ -1,7 +1,8 @@
 use Rattle.std.proofs.Common.{◌≡◌}
 use Rattle.cat_model.specs.Keys.{has_prefix}
 use Rattle.cat_model.specs.KvIndexes.{last_tomb}
-use Rattle.kv_table.proofs.Prefixes.{leading, under, onward}
+use Rattle.row_table.proofs.Spans.{leading}
+use Rattle.kv_table.proofs.Prefixes.{under, onward}
 use Rattle.kv_table.proofs.TombLemmas.{tomb_key}
 use Rattle.kv_table.proofs.tombs.last_under.Given as goal
 
