@@ -1,3 +1,3 @@
-pub mod Placing
-pub mod Walking
+pub mod Prefixes
+pub mod Modifies
 pub mod TombLemmas

@@ -2,11 +2,9 @@
 //! sets. It can be taken back to how it stood at the last `keep`.
 #![tactic(auto)]
 
+mod prefix;
 mod rows;
-mod slot;
 mod table;
-#[cfg(test)]
-mod tests;
 mod tombs;
 
 pub use table::KvTable;

@@ -6,9 +6,10 @@ ghost use Rattle.cat_model.specs.Catalog.{kv_at, kv_key};
 ghost use Rattle.cat_model.specs.KvIndexes.{key_index, prefix_index};
 ghost use Rattle.kv_table.specs.States.{empty_state, SetsRow, RemovesRow, AddsTomb, Reaps};
 
-use crate::rows::Rows;
+use crate::rows::{keys_under, modified_under, under};
 use crate::tombs::Tombs;
 use cat_model::{KvRow, List, Memory, Text, Texts};
+use row_table::{ByKey, RowTable};
 use std::alloc::Global;
 use std::marker::Model;
 
@@ -16,7 +17,7 @@ use std::marker::Model;
 /// is now and as it stood at the last `keep`, or at `new` where there was none. Positions are those of the log.
 #[derive(Drop)]
 pub struct KvTable {
-    rows: Rows,
+    rows: RowTable<KvRow>,
     tombs: Tombs,
 }
 
@@ -34,7 +35,7 @@ impl KvTable {
         ensures { IfOk result (λ t. t ≡ record { now = empty_state; before = empty_state }) }
     {
         Ok(KvTable {
-            rows: Rows::new(alloc),
+            rows: RowTable::new(alloc),
             tombs: Tombs::new(alloc),
         })
     }
@@ -44,7 +45,8 @@ impl KvTable {
         ensures row { option_copied result ≡ kv_at key.now self.now.now.rows }
         ensures order { Ascends text_cmp kv_key self.now.now.rows }
     {
-        self.rows.get(key)
+        self.rows.in_order();
+        self.rows.get(&ByKey(key))
     }
 
     /// Puts the row in the place of the one of its key. After want of memory it comes back.
@@ -62,7 +64,7 @@ impl KvTable {
         ensures ok { OnOk result (RemovesRow key.now self.old self.new) }
         ensures err { OnErr result (self.new ≡ self.old) }
     {
-        Ok(self.rows.remove(key))
+        Ok(self.rows.remove(&ByKey(key)))
     }
 
     /// Copies of the rows whose key begins with the prefix, in byte order.
@@ -70,7 +72,7 @@ impl KvTable {
         ensures rows { IfOk result (λ rows. rows ≡ filter (λ r. has_prefix prefix.now r.key) self.now.now.rows) }
         ensures order { IfOk result (Ascends text_cmp kv_key) }
     {
-        Ok(List::from(self.rows.under(alloc, prefix)?))
+        Ok(List::from(under(alloc, &self.rows, prefix)?))
     }
 
     /// The keys that begin with the prefix, in byte order.
@@ -78,7 +80,7 @@ impl KvTable {
         ensures keys { IfOk result (λ keys. keys ≡ map kv_key (filter (λ r. has_prefix prefix.now r.key) self.now.now.rows)) }
         ensures order { IfOk result (Ascends text_cmp (λ key. key)) }
     {
-        Ok(List::from(self.rows.keys_under(alloc, prefix)?))
+        Ok(List::from(keys_under(alloc, &self.rows, prefix)?))
     }
 
     /// Marks that the key was removed at the position.
@@ -101,7 +103,7 @@ impl KvTable {
     pub fn index_key(&self, key: &str) -> u64
         ensures { result ≡ key_index key.now self.now.now.rows self.now.now.tombs self.now.now.floor }
     {
-        match self.rows.get(key) {
+        match self.rows.get(&ByKey(key)) {
             Some(row) => row.modify,
             None => self.tombs.last_at(key),
         }
@@ -111,8 +113,7 @@ impl KvTable {
     pub fn index_prefix(&self, prefix: &str) -> u64
         ensures { result ≡ prefix_index prefix.now self.now.now.rows self.now.now.tombs self.now.now.floor }
     {
-        self.rows
-            .modified_under(prefix, self.tombs.last_under(prefix))
+        modified_under(&self.rows, prefix, self.tombs.last_under(prefix))
     }
 
     /// Makes the table as it is now that to which `undo` goes back.

@@ -1,8 +1,8 @@
 -- The rows that pass a test, and those that fail it.
-use Rattle.std.proofs.Common.{◌≡◌, ℕ, ◌+◌, ◌<◌, Bool, true, false, not, cond, List, [], ◌∷◌, ◌++◌, refl, sym, ◌∙◌, ap, Option, Some, None, ◌||◌, filter, length, get_or, take, drop}
-use Rattle.std.specs.List.{filter_map, cons_option, list_any}
-use Rattle.std.proofs.lemmas.List.{take_more, drop_more}
+use Rattle.std.proofs.Common.{◌≡◌, Bool, true, false, not, cond, List, ◌∷◌, ◌++◌, refl, sym, ◌∙◌, ap, Option, Some, None, ◌||◌, filter}
+use Rattle.std.specs.List.{cons_option, list_any}
 use Rattle.std.proofs.lemmas.List.Elements.{filter-append, filter_map-append}
+use Rattle.std.proofs.lemmas.List.Folds.{list_any-append}
 use Rattle.cat_model.specs.Tables.{without}
 use Rattle.row_table.specs.Slots.{now_of, rows_now}
 use Rattle.row_table.specs.Tests.{passes, passing, failing}
@@ -17,54 +17,34 @@ module _ {R : Type 0} (test : R → Bool) where
   failing_failed None h = refl
   failing_failed (Some r) h = ap (λ b. cond b None (Some r)) h
 
-  pub failing_twice : (o : Option R) → failing test (failing test o) ≡ failing test o
-  failing_twice None = refl
-  failing_twice (Some r) = go (test r) refl
+  -- the rows that fail among slots around one
+  left_cons : (o : Option R) (rows : List R) → cons_option (failing test o) (without test rows) ≡ without test (cons_option o rows)
+  left_cons None rows = refl
+  left_cons (Some r) rows = go (test r)
     where
-      go : (b : Bool) → test r ≡ b → failing test (cond b None (Some r)) ≡ cond b None (Some r)
-      go true e = refl
-      go false e = ap (λ b. cond b None (Some r)) e
-
-  -- what stays of a slot's row
-  abbrev pub left : Slot R → Option R
-  left s = failing test (now_of s)
-
-  pub left_all : (slots : List (Slot R)) → filter_map left slots ≡ without test (rows_now slots)
-  left_all [] = refl
-  left_all (s ∷ slots) = ap (cons_option (left s)) (left_all slots) ∙ go (now_of s)
-    where
-      rest : List R
-      rest = without test (rows_now slots)
-
-      there : (r : R) (b : Bool) → cons_option (cond b None (Some r)) rest ≡ cond (not b) (r ∷ rest) rest
-      there r true = refl
-      there r false = refl
-
-      go : (o : Option R) → cons_option (failing test o) rest ≡ without test (cons_option o (rows_now slots))
-      go None = refl
-      go (Some r) = there r (test r)
-
-  -- one more row that passes, or none
-  one_more : (o : Option R) → filter test (cons_option o []) ≡ cons_option (passing test o) []
-  one_more None = refl
-  one_more (Some r) = go (test r)
-    where
-      go : (b : Bool) → cond b (r ∷ []) [] ≡ cons_option (cond b (Some r) None) []
+      go : (b : Bool) → cons_option (cond b None (Some r)) (without test rows) ≡ cond (not b) (r ∷ without test rows) (without test rows)
       go true = refl
       go false = refl
 
-  pub next_rows : (slots : List (Slot R)) (i : ℕ) (s : Slot R) → i < length slots → s ≡ get_or slots i s → filter test (rows_now (take (i + 1) slots)) ≡ filter test (rows_now (take i slots)) ++ cons_option (passing test (now_of s)) []
-  next_rows slots i s low is =
-      ap (λ l. filter test (rows_now l)) (take_more slots i s low) ∙ ap (λ x. filter test (rows_now (take i slots ++ x ∷ []))) (sym is)
-      ∙ ap (filter test) (filter_map-append now_of (take i slots) (s ∷ [])) ∙ filter-append test (rows_now (take i slots)) (cons_option (now_of s) [])
-      ∙ ap (λ l. filter test (rows_now (take i slots)) ++ l) (one_more (now_of s))
+  pub left_around : (a a' : List (Slot R)) (s s' : Slot R) (b b' : List (Slot R)) → rows_now a' ≡ without test (rows_now a) → now_of s' ≡ failing test (now_of s) → rows_now b' ≡ without test (rows_now b) → rows_now (a' ++ s' ∷ b') ≡ without test (rows_now (a ++ s ∷ b))
+  left_around a a' s s' b b' low mid high =
+      filter_map-append now_of a' (s' ∷ b') ∙ (λ i. low i ++ cons_option (mid i) (high i)) ∙ ap (λ l. without test (rows_now a) ++ l) (left_cons (now_of s) (rows_now b)) ∙ sym (filter-append _ (rows_now a) (cons_option (now_of s) (rows_now b))) ∙ ap (without test) (sym (filter_map-append now_of a (s ∷ b)))
 
-  -- one row that passes, or none
-  one_passes : (o : Option R) (rows : List R) → list_any test (cons_option o rows) ≡ (passes test o || list_any test rows)
-  one_passes None rows = refl
-  one_passes (Some r) rows = refl
+  any_cons : (o : Option R) (rows : List R) → list_any test (cons_option o rows) ≡ (passes test o || list_any test rows)
+  any_cons None rows = refl
+  any_cons (Some r) rows = refl
 
-  pub next_any : (slots : List (Slot R)) (i : ℕ) (s : Slot R) → i < length slots → s ≡ get_or slots i s → list_any test (rows_now (drop i slots)) ≡ (passes test (now_of s) || list_any test (rows_now (drop (i + 1) slots)))
-  next_any slots i s low is =
-      ap (λ l. list_any test (rows_now l)) (drop_more slots i s low) ∙ ap (λ x. list_any test (rows_now (x ∷ drop (i + 1) slots))) (sym is)
-      ∙ one_passes (now_of s) (rows_now (drop (i + 1) slots))
+  -- whether a row passes among slots around one
+  pub any_around : (a : List (Slot R)) (s : Slot R) (b : List (Slot R)) → list_any test (rows_now (a ++ s ∷ b)) ≡ (list_any test (rows_now a) || (passes test (now_of s) || list_any test (rows_now b)))
+  any_around a s b = ap (list_any test) (filter_map-append now_of a (s ∷ b)) ∙ list_any-append test (rows_now a) (cons_option (now_of s) (rows_now b)) ∙ ap (λ x. list_any test (rows_now a) || x) (any_cons (now_of s) (rows_now b))
+
+  passing_cons : (o : Option R) (rows : List R) → filter test (cons_option o rows) ≡ cons_option (passing test o) (filter test rows)
+  passing_cons None rows = refl
+  passing_cons (Some r) rows = go (test r)
+    where
+      go : (b : Bool) → cond b (r ∷ filter test rows) (filter test rows) ≡ cons_option (cond b (Some r) None) (filter test rows)
+      go true = refl
+      go false = refl
+
+  pub passing_around : (a : List (Slot R)) (s : Slot R) (b : List (Slot R)) → filter test (rows_now (a ++ s ∷ b)) ≡ filter test (rows_now a) ++ cons_option (passing test (now_of s)) (filter test (rows_now b))
+  passing_around a s b = ap (filter test) (filter_map-append now_of a (s ∷ b)) ∙ filter-append test (rows_now a) (cons_option (now_of s) (rows_now b)) ∙ ap (λ l. filter test (rows_now a) ++ l) (passing_cons (now_of s) (rows_now b))

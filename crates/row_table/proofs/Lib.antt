@@ -1,4 +1,8 @@
-pub mod Searching
-pub mod Ties
 pub mod Choices
-pub mod Placing
+pub mod SlotRows
+pub mod Sides
+pub mod Edits
+pub mod Settled
+pub mod Whole
+pub mod NextRows
+pub mod Spans

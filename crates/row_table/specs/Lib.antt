@@ -1,4 +1,6 @@
 pub mod Slots
-pub mod Places
 pub mod Tests
 pub mod Versions
+pub mod Trees
+pub mod Edits
+pub mod Walks

@@ -1,17 +1,21 @@
-//! The catalog's rows by their keys: a node by its name, a service and a check by its node and its ID there, a session
-//! and a prepared query by its identifier.
+//! The catalog's rows by their keys: a key's row by the key, a node by its name, a service and a check by its node and its
+//! ID there, a session and a prepared query by its identifier.
 
 ghost use Rattle.std.specs.Prelude.{◌≡◌};
 ghost use Rattle.std.specs.Ordering.{nat_cmp};
 ghost use Rattle.std.proofs.lemmas.Cmp.{nat_cmp_total, nat_list_cmp_total};
 ghost use Rattle.std.proofs.lemmas.Map.Lookups.{exact_bytes, exact_unsigned};
 ghost use Rattle.cat_model.specs.Keys.{text_cmp, pair_cmp};
-ghost use Rattle.cat_model.specs.Catalog.{node_key, service_key, check_key, session_key, query_key};
+ghost use Rattle.cat_model.specs.Catalog.{kv_key, node_key, service_key, check_key, session_key, query_key};
 ghost use Rattle.cat_model.proofs.Pairs.{pair_cmp_total, exact_pair};
 
 use crate::{Probe, Row};
-use cat_model::{CheckRow, Memory, NodeRow, QueryRow, ServiceRow, SessionRow, Text};
+use cat_model::{CheckRow, KvRow, Memory, NodeRow, QueryRow, ServiceRow, SessionRow, Text};
 use std::cmp::Ordering;
+
+/// Looks for the row of this key.
+#[derive(Clone, Copy)]
+pub struct ByKey<'a>(pub &'a str);
 
 /// Looks for the node of this name.
 #[derive(Clone, Copy)]
@@ -50,6 +54,26 @@ fn check_pair(row: &CheckRow) -> ByPair<'_>
     ByPair {
         node: row.node.as_str(),
         id: row.id.as_str(),
+    }
+}
+
+impl Row for KvRow {
+    type Key = Text;
+
+    ghost key = { kv_key };
+
+    ghost cmp = { text_cmp };
+
+    ghost total = { nat_list_cmp_total };
+
+    ghost exact = { exact_bytes };
+
+    fn order(&self, other: &KvRow) -> Ordering {
+        self.key.as_str().cmp(other.key.as_str())
+    }
+
+    fn copy(&self) -> Result<KvRow, Memory> {
+        Ok(self.clone()?)
     }
 }
 
@@ -150,6 +174,14 @@ impl Row for QueryRow {
 
     fn copy(&self) -> Result<QueryRow, Memory> {
         Ok(self.clone()?)
+    }
+}
+
+impl<'a> Probe<KvRow> for ByKey<'a> {
+    ghost sought = { λ p. p.0.now };
+
+    fn place(&self, row: &KvRow) -> Ordering {
+        row.key.as_str().cmp(self.0)
     }
 }
 

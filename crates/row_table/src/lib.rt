@@ -1,17 +1,18 @@
-//! A table of rows in the order of their keys, which can be taken back to how it stood at the last `keep`. A row that is
-//! removed leaves its place until the next `keep`, so going back inserts nothing and takes no memory.
+//! A table of rows in the order of their keys, which can be taken back to how it stood at the last `keep`. It is a
+//! balanced tree, so a look-up, a change, a `keep` and an `undo` cost a logarithm for each row that they come to. A row
+//! that is removed leaves its place until the next `keep`, so going back inserts nothing and takes no memory.
 #![tactic(auto)]
 
+mod edit;
 mod impls;
 mod iter;
 mod row;
 mod slot;
-mod slots;
 mod table;
-#[cfg(test)]
-mod tests;
+mod tree;
+mod walk;
 
-pub use impls::{ById, ByNode, ByPair};
+pub use impls::{ById, ByKey, ByNode, ByPair};
 pub use iter::Rows;
 pub use row::{Probe, Row};
 pub use table::RowTable;

@@ -1,14 +1,13 @@
 ghost use Rattle.std.specs.Prelude.{◌≡◌, [], Bool, filter, IfOk, IfErr, OnOk, OnErr, is_some};
 ghost use Rattle.std.specs.Option.{option_copied};
-ghost use Rattle.std.specs.Ordering.{is_eq};
+ghost use Rattle.std.specs.Ordering.{is_eq, is_ge};
 ghost use Rattle.std.specs.List.{list_any};
 ghost use Rattle.cat_model.specs.Tables.{row_at, put, without, Ascends};
 ghost use Rattle.row_table.specs.Tests.{Tells};
 
-use crate::slot::Slot;
-use crate::slots::{
-    any_row, copies, find, keep_slots, put_row, remove_each, remove_row, undo_slots,
-};
+use crate::edit::{keep, put_row, remove, remove_where, undo};
+use crate::tree::{Tree, take};
+use crate::walk::{Start, all_copies, any_row, find, first, first_from};
 use crate::{Probe, Row, Rows};
 use cat_model::Memory;
 use std::alloc::Global;
@@ -18,18 +17,20 @@ use std::marker::Model;
 /// last `keep`, or at `new` where there was none.
 #[derive(Drop)]
 pub struct RowTable<R: Row> {
-    slots: Vec<Slot<R>>,
+    alloc: Global,
+    tree: Tree<R>,
 }
 
 impl<R: Row> Model for RowTable<R> {
     ghost use Rattle.row_table.specs.Versions.{Versions};
     ghost use Rattle.row_table.specs.Slots.{InOrder, rows_now, rows_before};
+    ghost use Rattle.row_table.specs.Trees.{tree_slots, MarksHold};
 
     ghost Value = { Versions R };
 
-    ghost view = { λ r. record { now = rows_now r.slots.items; before = rows_before r.slots.items } };
+    ghost view = { λ r. record { now = rows_now (tree_slots r.tree); before = rows_before (tree_slots r.tree) } };
 
-    ghost invariant = { λ r. InOrder R.cmp R.key r.slots.items };
+    ghost invariant = { λ r. InOrder R.cmp R.key (tree_slots r.tree) × MarksHold r.tree };
 }
 
 impl<R: Row> RowTable<R> {
@@ -39,7 +40,8 @@ impl<R: Row> RowTable<R> {
         ensures before { result.before ≡ [] }
     {
         RowTable {
-            slots: Vec::new(alloc),
+            alloc,
+            tree: Tree::Leaf,
         }
     }
 
@@ -47,10 +49,7 @@ impl<R: Row> RowTable<R> {
     pub fn get<P: Probe<R>>(&self, probe: &P) -> Option<&R>
         ensures { option_copied result ≡ row_at R.cmp R.key (P.sought probe.now) self.now.now }
     {
-        match find(&self.slots, probe) {
-            Ok(at) => self.slots[at].now(),
-            Err(_) => None,
-        }
+        find(&self.tree, probe)
     }
 
     /// Puts the row in the place of the one of its key. After want of memory it comes back.
@@ -60,7 +59,7 @@ impl<R: Row> RowTable<R> {
         ensures err { IfErr result (λ e. e.0 ≡ row) }
         ensures same { OnErr result (self.new.now ≡ self.old.now) }
     {
-        put_row(&mut self.slots, row)
+        put_row(self.alloc, &mut self.tree, row)
     }
 
     /// Removes the row of a key, and tells whether there was one.
@@ -69,7 +68,7 @@ impl<R: Row> RowTable<R> {
         ensures before { self.new.before ≡ self.old.before }
         ensures there { result ≡ is_some (row_at R.cmp R.key (P.sought probe.now) self.old.now) }
     {
-        remove_row(&mut self.slots, probe)
+        remove(&mut self.tree, probe)
     }
 
     /// Removes each row that passes the test.
@@ -78,7 +77,7 @@ impl<R: Row> RowTable<R> {
         ensures rows { (t : R → Bool) → Tells F.Fn test t → self.new.now ≡ without t self.old.now }
         ensures before { self.new.before ≡ self.old.before }
     {
-        remove_each(self.slots.as_mut_slice(), &test);
+        remove_where(&mut self.tree, &test);
     }
 
     /// Whether a row passes the test.
@@ -86,14 +85,27 @@ impl<R: Row> RowTable<R> {
         requires { F.IsAlwaysCallable test }
         ensures { (t : R → Bool) → Tells F.Fn test t → result ≡ list_any t self.now.now }
     {
-        any_row(&self.slots, &test)
+        any_row(&self.tree, &test)
     }
 
     /// The rows one after another, in the order of their keys.
     pub fn rows(&self) -> Rows<'_, R>
         ensures { result ≡ self.now.now }
     {
-        Rows { slots: &self.slots }
+        Rows {
+            tree: &self.tree,
+            next: first(&self.tree),
+        }
+    }
+
+    /// The rows from a key on, in the order of their keys.
+    pub fn rows_from<P: Probe<R>>(&self, probe: &P) -> Rows<'_, R>
+        ensures { result ≡ filter (λ r. is_ge (R.cmp (R.key r) (P.sought probe.now))) self.now.now }
+    {
+        Rows {
+            tree: &self.tree,
+            next: first_from(&self.tree, probe, Start::At),
+        }
     }
 
     /// Copies of the rows that pass the test, in the order of their keys.
@@ -102,14 +114,14 @@ impl<R: Row> RowTable<R> {
         ensures rows { (t : R → Bool) → Tells F.Fn test t → IfOk result (λ v. v.items ≡ filter t self.now.now) }
         ensures order { (t : R → Bool) → Tells F.Fn test t → IfOk result (λ v. Ascends R.cmp R.key v.items) }
     {
-        copies(alloc, &self.slots, &test)
+        all_copies(alloc, &self.tree, &test)
     }
 
     /// Tells a proof that the rows are in the order of their keys.
     pub fn in_order(&self)
         ensures { Ascends R.cmp R.key self.now.now }
     {
-        let _ = &self.slots;
+        let _ = &self.tree;
     }
 
     /// Makes the rows that are there those to which `undo` goes back.
@@ -117,7 +129,7 @@ impl<R: Row> RowTable<R> {
         ensures now { self.new.now ≡ self.old.now }
         ensures before { self.new.before ≡ self.old.now }
     {
-        keep_slots(&mut self.slots);
+        self.tree = keep(take(&mut self.tree));
     }
 
     /// Makes the rows again those of the last `keep`, or of `new` where there was none.
@@ -125,6 +137,6 @@ impl<R: Row> RowTable<R> {
         ensures now { self.new.now ≡ self.old.before }
         ensures before { self.new.before ≡ self.old.before }
     {
-        undo_slots(&mut self.slots);
+        self.tree = undo(take(&mut self.tree));
     }
 }

@@ -1,21 +1,27 @@
-use Rattle.std.proofs.Common.{◌≡◌, ◌∙◌, ◌++◌, [], ◌∷◌, sym, ap, filter, map, take, append-nil}
-use Rattle.std.specs.List.{cons_option}
-use Rattle.std.proofs.lemmas.List.{map_push}
-use Rattle.cat_model.specs.Keys.{has_prefix}
+use Rattle.std.proofs.Common.{◌≡◌, false, [], ◌∷◌, ◌++◌, ◌∙◌, cond, sym, ap, subst, append-nil, map, filter}
+use Rattle.std.proofs.lemmas.Cmp.{nat_list_cmp_total}
+use Rattle.cat_model.specs.Keys.{text_cmp, has_prefix}
 use Rattle.cat_model.specs.Catalog.{kv_key}
-use Rattle.kv_table.specs.Slots.{rows_now}
-use Rattle.kv_table.proofs.Walking.{next_rows}
-use Rattle.kv_table.proofs.rows.keys_under.Goals.{in-Some+in_ok-new+in_ok-push, in_default}
+use Rattle.cat_model.specs.Tables.{Ascends}
+use Rattle.cat_model.proofs.Elements.{Ascends-map}
+use Rattle.cat_model.proofs.TableLemmas.{Ascends-filter}
+use Rattle.row_table.proofs.Spans.{leading}
+use Rattle.kv_table.proofs.Prefixes.{under, leading_is}
+use Rattle.kv_table.proofs.rows.keys_under.Goals.{in-None, in-Some+then-not-begins}
 use Rattle.kv_table.proofs.rows.keys_under.Goals as goal
 
-pub loop-slot-preserved : goal.loop-slot-preserved
-loop-slot-preserved c =
-    elim c.match-under.branch [
-      | in-Some+in_ok-new+in_ok-push w ↦
-          ap (λ v. v.items) w.found-is ∙ w.in_ok-push.ensures.items ∙ (λ k. c.loop-slot.invariant k ++ ((w.in_ok-new.ensures ∙ w.as_str.ensures) k ∷ []))
-          ∙ sym (map_push kv_key (filter (λ r. has_prefix c.args.prefix.now r.key) (rows_now (take c.loop-slot.slot-index c.args.slots.now))) w.in-Some.row.now)
-          ∙ ap (λ o. map kv_key (filter (λ r. has_prefix c.args.prefix.now r.key) (rows_now (take c.loop-slot.slot-index c.args.slots.now)) ++ cons_option o [])) w.in-Some.ensures ∙ ap (map kv_key) (sym (next_rows c.args.prefix.now c.args.slots.now c.loop-slot.slot-index c.slot-item.result c.loop-slot-test.true c.slot-item.is))
-      | in_default w ↦
-          ap (λ v. v.items) w.found-is ∙ c.loop-slot.invariant ∙ ap (map kv_key) (sym (append-nil (filter (λ r. has_prefix c.args.prefix.now r.key) (rows_now (take c.loop-slot.slot-index c.args.slots.now)))))
-          ∙ ap (λ o. map kv_key (filter (λ r. has_prefix c.args.prefix.now r.key) (rows_now (take c.loop-slot.slot-index c.args.slots.now)) ++ cons_option o [])) w.in_default.ensures ∙ ap (map kv_key) (sym (next_rows c.args.prefix.now c.args.slots.now c.loop-slot.slot-index c.slot-item.result c.loop-slot-test.true c.slot-item.is))
-    ]
+pub returns-clause-keys : goal.returns-clause-keys
+returns-clause-keys c =
+    let p = c.args.prefix.now in
+    let done : leading (under kv_key p) c.loop-row.row-iterator ≡ [] =
+    elim c.match-next.branch [
+      | in-None w ↦ ap (leading (under kv_key p)) w.in-None.ensures.steps.0
+      | in-Some+then-not-begins w ↦
+          let fails : has_prefix p w.in-Some.row.now.key ≡ false = ap (has_prefix p) (sym w.as_str.ensures) ∙ sym w.begins.ensures ∙ w.if-not-begins.true in
+          ap (leading (under kv_key p)) w.in-Some.ensures.steps ∙ ap (λ b. cond b (w.in-Some.row.now ∷ leading (under kv_key p) c.next.new.self) []) fails
+    ] in
+    sym (append-nil c.loop-row.found.items) ∙ ap (λ l. c.loop-row.found.items ++ map kv_key l) (sym done) ∙ c.loop-row.invariant ∙ ap (map kv_key) (leading_is kv_key p c.args.rows.now.now c.in_order.ensures)
+
+pub returns-clause-order : goal.returns-clause-order
+returns-clause-order c =
+    subst (Ascends text_cmp (λ key. key)) (sym (returns-clause-keys c)) (Ascends-map text_cmp kv_key (filter (λ r. has_prefix c.args.prefix.now r.key) c.args.rows.now.now) (Ascends-filter text_cmp kv_key nat_list_cmp_total (λ r. has_prefix c.args.prefix.now r.key) c.args.rows.now.now c.in_order.ensures))

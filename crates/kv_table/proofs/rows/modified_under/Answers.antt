@@ -1,18 +1,30 @@
-use Rattle.std.proofs.Common.{◌≡◌, ◌∙◌, ◌+◌, sym, ap, drop}
+use Rattle.std.proofs.Common.{◌≡◌, true, false, [], ◌∷◌, ◌∙◌, cond, sym, ap}
 use Rattle.cat_model.specs.Keys.{has_prefix}
+use Rattle.cat_model.specs.Catalog.{kv_key}
 use Rattle.cat_model.specs.KvIndexes.{last_modify}
-use Rattle.kv_table.specs.Slots.{rows_now}
-use Rattle.kv_table.proofs.Walking.{next_modify, raised}
-use Rattle.kv_table.proofs.rows.modified_under.Goals.{in-Some, in_default}
+use Rattle.row_table.proofs.Spans.{leading}
+use Rattle.kv_table.proofs.Prefixes.{under, leading_is}
+use Rattle.kv_table.proofs.Modifies.{modify_step, modify_filter}
 use Rattle.kv_table.proofs.rows.modified_under.Goals as goal
 
-pub loop-slot-preserved : goal.loop-slot-preserved
-loop-slot-preserved c =
-    elim c.match-under.branch [
-      | in-Some w ↦
-          ap (λ n. last_modify (has_prefix c.args.prefix.now) n (rows_now (drop (c.loop-slot.slot-index + 1) c.args.slots.now))) (w.last-is ∙ w.max-last.ensures)
-          ∙ ap (λ o. last_modify (has_prefix c.args.prefix.now) (raised o c.loop-slot.last) (rows_now (drop (c.loop-slot.slot-index + 1) c.args.slots.now))) w.in-Some.ensures ∙ sym (next_modify c.args.prefix.now c.args.slots.now c.loop-slot.slot-index c.loop-slot.last c.slot-item.result c.loop-slot-test.true c.slot-item.is) ∙ c.loop-slot.invariant
-      | in_default w ↦
-          ap (λ n. last_modify (has_prefix c.args.prefix.now) n (rows_now (drop (c.loop-slot.slot-index + 1) c.args.slots.now))) w.last-is
-          ∙ ap (λ o. last_modify (has_prefix c.args.prefix.now) (raised o c.loop-slot.last) (rows_now (drop (c.loop-slot.slot-index + 1) c.args.slots.now))) w.in_default.ensures ∙ sym (next_modify c.args.prefix.now c.args.slots.now c.loop-slot.slot-index c.loop-slot.last c.slot-item.result c.loop-slot-test.true c.slot-item.is) ∙ c.loop-slot.invariant
-    ]
+pub loop-row-preserved : goal.loop-row-preserved
+loop-row-preserved c =
+    let p = c.args.prefix.now in
+    let rest = leading (under kv_key p) c.next.new.self in
+    let passes : has_prefix p c.in-Some.row.now.key ≡ true = ap (has_prefix p) (sym c.as_str.ensures) ∙ sym c.begins.ensures ∙ c.if-not-begins.false in
+    ap (λ n. last_modify (has_prefix p) n rest) c.max-last.ensures ∙ sym (modify_step (has_prefix p) c.loop-row.last c.in-Some.row.now rest passes)
+    ∙ ap (last_modify (has_prefix p) c.loop-row.last) (sym (ap (leading (under kv_key p)) c.in-Some.ensures.steps ∙ ap (λ b. cond b (c.in-Some.row.now ∷ rest) []) passes)) ∙ c.loop-row.invariant
+
+pub returns-in-None : goal.returns-in-None
+returns-in-None c =
+    let p = c.args.prefix.now in
+    sym (ap (λ l. last_modify (has_prefix p) c.loop-row.last (leading (under kv_key p) l)) c.in-None.ensures.steps.0) ∙ c.loop-row.invariant
+    ∙ ap (last_modify (has_prefix p) c.args.least) (leading_is kv_key p c.args.rows.now.now c.in_order.ensures) ∙ modify_filter (has_prefix p) c.args.least c.args.rows.now.now
+
+pub returns-then-not-begins : goal.returns-then-not-begins
+returns-then-not-begins c =
+    let p = c.args.prefix.now in
+    let fails : has_prefix p c.in-Some.row.now.key ≡ false = ap (has_prefix p) (sym c.as_str.ensures) ∙ sym c.begins.ensures ∙ c.if-not-begins.true in
+    let done : leading (under kv_key p) c.loop-row.row-iterator ≡ [] = ap (leading (under kv_key p)) c.in-Some.ensures.steps ∙ ap (λ b. cond b (c.in-Some.row.now ∷ leading (under kv_key p) c.next.new.self) []) fails in
+    sym (ap (last_modify (has_prefix p) c.loop-row.last) done) ∙ c.loop-row.invariant
+    ∙ ap (last_modify (has_prefix p) c.args.least) (leading_is kv_key p c.args.rows.now.now c.in_order.ensures) ∙ modify_filter (has_prefix p) c.args.least c.args.rows.now.now

@@ -1,7 +1,8 @@
-use Rattle.std.proofs.Common.{◌≡◌, filter, take}
-use Rattle.cat_model.specs.Keys.{has_prefix}
-use Rattle.kv_table.specs.Slots.{rows_now}
+use Rattle.std.proofs.Common.{◌≡◌, ◌++◌}
+use Rattle.cat_model.specs.Catalog.{kv_key}
+use Rattle.row_table.proofs.Spans.{leading}
+use Rattle.kv_table.proofs.Prefixes.{under, onward}
 use Rattle.kv_table.proofs.rows.under.Given as goal
 
-abbrev pub invariant-loop-slot : goal.invariant-loop-slot
-invariant-loop-slot l = l.found.items ≡ filter (λ r. has_prefix l.prefix r.key) (rows_now (take l.slot-index l.slots))
+abbrev pub invariant-loop-row : goal.invariant-loop-row
+invariant-loop-row l = l.found.items ++ leading (under kv_key l.prefix) l.row-iterator ≡ leading (under kv_key l.prefix) (onward kv_key l.prefix l.rows.now)

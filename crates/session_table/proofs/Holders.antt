@@ -1,0 +1,36 @@
+-- The keys of one session stand one after another, from the session's identifier on.
+use Rattle.std.proofs.Common.{◌≡◌, ℕ, true, List, [], ◌∷◌, refl, sym, ◌∙◌, ap, filter}
+use Rattle.std.specs.declared.cmp.Ordering.{Ordering}
+use Rattle.std.specs.declared.cmp.Ordering.TheVariants.{Less, Equal, Greater}
+use Rattle.std.specs.Ordering.{is_ge, is_gt, nat_cmp, ordering_then}
+use Rattle.std.proofs.lemmas.Bool.{false≢true}
+use Rattle.std.proofs.lemmas.Bool.Decides.{Decides-eqb}
+use Rattle.std.proofs.lemmas.Cmp.{tied_itself, nat_cmp_total}
+use Rattle.std.proofs.lemmas.Map.Lookups.{exact_unsigned}
+use Rattle.cat_model.specs.Keys.{text_cmp}
+use Rattle.cat_model.specs.Tables.{Ascends}
+use Rattle.row_table.proofs.Spans.{leading, leading_is}
+use Rattle.session_table.specs.Holdings.{held_cmp, held_key, is_held_by}
+
+least : (t : List ℕ) → is_ge (text_cmp t []) ≡ true
+least [] = refl
+least (y ∷ t) = refl
+
+module _ (id : ℕ) where
+  held_low : (h : ℕ × List ℕ) → is_held_by id h ≡ true → is_ge (held_cmp h (id, [])) ≡ true
+  held_low h e = ap (λ o. is_ge (ordering_then o (text_cmp h.1 []))) (ap (λ j. nat_cmp j id) ((Decides-eqb h.0 id).0 e) ∙ tied_itself nat_cmp_total id) ∙ least h.1
+
+  held_between : (r s : ℕ × List ℕ) → is_held_by id s ≡ true → is_ge (held_cmp r (id, [])) ≡ true → held_cmp r s ≡ Less → is_held_by id r ≡ true
+  held_between r s h g l = go (nat_cmp r.0 id) refl
+    where
+      go : (o : Ordering) → nat_cmp r.0 id ≡ o → is_held_by id r ≡ true
+      go Less e = absurd (false≢true (sym (ap (λ o. is_ge (ordering_then o (text_cmp r.1 []))) e) ∙ g))
+      go Equal e = (Decides-eqb r.0 id).1 (exact_unsigned r.0 id e)
+      go Greater e = absurd (false≢true (sym (ap is_gt l) ∙ ap (λ o. is_gt (ordering_then o (text_cmp r.1 s.1))) (ap (nat_cmp r.0) ((Decides-eqb s.0 id).0 h) ∙ e)))
+
+  -- the pairs from the session's identifier on
+  abbrev pub onward : List (ℕ × List ℕ) → List (ℕ × List ℕ)
+  onward held = filter (λ h. is_ge (held_cmp h (id, []))) held
+
+  pub of_session : (held : List (ℕ × List ℕ)) → Ascends held_cmp held_key held → leading (is_held_by id) (onward held) ≡ filter (is_held_by id) held
+  of_session held asc = leading_is held_cmp held_key (is_held_by id) (λ h. is_ge (held_cmp h (id, []))) held_low held_between held asc
