@@ -1,0 +1,15 @@
+//! Items in numbered nodes, each on one list of each of two families. The lists are doubly linked by number, so a node is
+//! appended and taken out in a fixed number of steps, and taking one out needs no memory.
+#![tactic(auto)]
+
+mod chain;
+mod family;
+mod lists;
+mod memory;
+mod nodes;
+mod walk;
+
+pub use family::Family;
+pub use memory::Memory;
+pub use nodes::{IndexList, LinkFault};
+pub use walk::Walk;
