@@ -4,7 +4,5 @@
 mod copies;
 pub mod laws;
 mod replica;
-#[cfg(test)]
-mod tests;
 
 pub use replica::Replica;

@@ -1,13 +1,10 @@
 //! Commands drawn by a generator over few words, so that they meet the same rows.
 
-use crate::commands::{
-    cas, check, delete, delete_cas, delete_tree, deregister, register, service, set,
-};
-use cat_model::{Command, List, Memory, NewCheck, NewService, Status};
+use crate::changes::{Change, Checking, Registering, Serving};
+use cat_model::Status;
 use catalog_store::Store;
 use rand_core::Rng;
 use rand_pcg::Pcg32;
-use std::alloc::Global;
 
 #[derive(Drop)]
 pub(crate) struct Draws {
@@ -49,76 +46,86 @@ fn status(draws: &mut Draws) -> Status {
     )
 }
 
-fn drawn_service(alloc: Global, draws: &mut Draws) -> Result<Option<NewService>, Memory> {
+fn drawn_service(draws: &mut Draws) -> Option<Serving> {
     let id = draws.word(&["", "s1", "s2"]);
     if id.is_empty() {
-        return Ok(None);
+        return None;
     }
     let name = draws.word(&["web", "db"]);
     let tag = draws.word(&["", "t"]);
-    Ok(Some(service(alloc, id, name, tag)?))
+    Some(Serving { id, name, tag })
 }
 
-fn drawn_check(alloc: Global, draws: &mut Draws) -> Result<NewCheck, Memory> {
+fn drawn_check(draws: &mut Draws) -> Checking {
     let id = draws.word(&["c1", "c2"]);
     let service = draws.word(&["", "s1", "s2"]);
-    check(alloc, id, status(draws), service)
+    let status = status(draws);
+    Checking {
+        id,
+        status,
+        service,
+    }
 }
 
 /// Up to two checks, which may have the same ID.
-fn drawn_checks(alloc: Global, draws: &mut Draws) -> Result<List<NewCheck>, Memory> {
-    let mut all = List::new(alloc);
-    for _ in 0..draws.one_of(&[0, 1, 2], 0) {
-        all.push(drawn_check(alloc, draws)?)?;
+fn drawn_checks(draws: &mut Draws) -> [Option<Checking>; 2] {
+    match draws.one_of(&[0, 1, 2], 0) {
+        0 => [None, None],
+        1 => [Some(drawn_check(draws)), None],
+        _ => [Some(drawn_check(draws)), Some(drawn_check(draws))],
     }
-    Ok(all)
 }
 
-fn drawn_register(alloc: Global, draws: &mut Draws) -> Result<Command, Memory> {
+fn drawn_register(draws: &mut Draws) -> Change {
     let node = draws.word(&["n1", "n2"]);
     let address = draws.word(&["10.0.0.1", "10.0.0.2"]);
-    let service = drawn_service(alloc, draws)?;
-    let checks = drawn_checks(alloc, draws)?;
-    register(alloc, node, address, service, checks)
+    let service = drawn_service(draws);
+    let checks = drawn_checks(draws);
+    Change::Register(Registering {
+        node,
+        address,
+        service,
+        checks,
+    })
 }
 
-fn drawn_deregister(alloc: Global, draws: &mut Draws) -> Result<Command, Memory> {
+fn drawn_deregister(draws: &mut Draws) -> Change {
     let node = draws.word(&["n1", "n2"]);
     let service = draws.word(&["", "s1", "s2"]);
     let check = draws.word(&["", "c1", "c2"]);
-    deregister(alloc, node, service, check)
+    Change::Deregister(node, service, check)
 }
 
-fn drawn_write(alloc: Global, draws: &mut Draws, store: &Store) -> Result<Command, Memory> {
+fn drawn_write(draws: &mut Draws, store: &Store) -> Change {
     let key = draws.word(&KEYS);
     let value = draws.word(&["x", "y"]);
     let index = draws.index_for(store, key);
     if draws.one_of(&[true, false], true) {
-        set(alloc, key, value)
+        Change::Set(key, value)
     } else {
-        cas(alloc, key, value, index)
+        Change::Cas(key, value, index)
     }
 }
 
-fn drawn_removal(alloc: Global, draws: &mut Draws, store: &Store) -> Result<Command, Memory> {
+fn drawn_removal(draws: &mut Draws, store: &Store) -> Change {
     let key = draws.word(&KEYS);
     let index = draws.index_for(store, key);
     if draws.one_of(&[true, false], true) {
-        delete(alloc, key)
+        Change::Delete(key)
     } else {
-        delete_cas(alloc, key, index)
+        Change::DeleteCas(key, index)
     }
 }
 
 /// A command of the nine kinds that a store takes, for this one.
-pub(crate) fn command(alloc: Global, draws: &mut Draws, store: &Store) -> Result<Command, Memory> {
+pub(crate) fn change(draws: &mut Draws, store: &Store) -> Change {
     match draws.one_of(&[0, 1, 1, 1, 2, 2, 3, 3, 3, 3, 4, 4, 5, 6], 0) {
-        1 => drawn_register(alloc, draws),
-        2 => drawn_deregister(alloc, draws),
-        3 => drawn_write(alloc, draws, store),
-        4 => drawn_removal(alloc, draws, store),
-        5 => delete_tree(alloc, draws.word(&["a", "a/", "a/b", "c"])),
-        6 => Ok(Command::Reap),
-        _ => Ok(Command::Noop),
+        1 => drawn_register(draws),
+        2 => drawn_deregister(draws),
+        3 => drawn_write(draws, store),
+        4 => drawn_removal(draws, store),
+        5 => Change::DeleteTree(draws.word(&["a", "a/", "a/b", "c"])),
+        6 => Change::Reap,
+        _ => Change::Noop,
     }
 }
