@@ -11,8 +11,6 @@ pub mod laws;
 mod names;
 mod nodes;
 mod reads;
-#[cfg(test)]
-mod tests;
 mod texts;
 mod view;
 

@@ -18,6 +18,3 @@ mod table;
 pub use changed::Changed;
 pub use fault::RegisterFault;
 pub use table::CatalogTable;
-
-#[cfg(test)]
-mod tests;

@@ -3,8 +3,6 @@
 
 mod filters;
 mod instances;
-#[cfg(test)]
-mod tests;
 mod texts;
 
 pub use filters::{not_critical, only_passing, with_tags};

@@ -5,7 +5,5 @@ mod copies;
 pub mod laws;
 mod office;
 mod replica;
-#[cfg(test)]
-mod tests;
 
 pub use replica::Replica;

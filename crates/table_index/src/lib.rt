@@ -5,8 +5,6 @@
 mod index;
 mod names;
 mod positions;
-#[cfg(test)]
-mod tests;
 
 pub use index::TableIndex;
 pub use positions::Table;

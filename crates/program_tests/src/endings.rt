@@ -1,0 +1,104 @@
+//! How runs end, and what they write.
+
+use crate::playing::{Failing, NONE_FAILS, play};
+use cat_model::Bytes;
+use std::alloc::Global;
+use std::process::Abort;
+use std::test::Fail;
+
+/// The words of a run, the calls that fail, and the status and the text that are wanted.
+#[derive(Clone, Copy)]
+struct Ending {
+    words: &'static str,
+    failing: Failing,
+    status: u8,
+    text: &'static str,
+}
+
+const PUT_AND_GET: &str =
+    "cluster 1 1 7\ntimeout 1\nhttp 1 PUT /v1/kv/a =hello\nhttp 1 GET /v1/kv/a\n";
+
+const USAGE: &str =
+    "usage: catalogd script / load SEED SIZE / serve --servers S --agents A --port P --connections N [--keep DIR]\n";
+
+// Words that are no form, and a source and a sink that fail at a call.
+static ENDINGS: [Ending; 4] = [
+    Ending {
+        words: "script now",
+        failing: NONE_FAILS,
+        status: 2,
+        text: USAGE,
+    },
+    Ending {
+        words: "script",
+        failing: Failing {
+            read: Some(1),
+            write: None,
+        },
+        status: 4,
+        text: "",
+    },
+    Ending {
+        words: "script",
+        failing: Failing {
+            read: None,
+            write: Some(1),
+        },
+        status: 5,
+        text: "",
+    },
+    Ending {
+        words: "script",
+        failing: Failing {
+            read: None,
+            write: Some(2),
+        },
+        status: 5,
+        text: "#1 200 - true\n",
+    },
+];
+
+static PAST_A_LIMIT: Ending = Ending {
+    words: "script",
+    failing: NONE_FAILS,
+    status: 7,
+    text: "limit: script\n",
+};
+
+// Runs over this script, and expects this ending, which has a report only at status 0.
+fn expect_ending(
+    rt: &impl Abort,
+    alloc: Global,
+    script: Bytes,
+    ending: &Ending,
+) -> Result<(), Fail> {
+    let played = play(alloc, ending.words, script, ending.failing)?;
+    assert_eq!(rt;
+        played.outcome.status,
+        ending.status,
+        "of {:?}",
+        ending.text
+    );
+    assert_eq!(rt; played.bytes(), ending.text.as_bytes());
+    assert_eq!(rt; played.outcome.report.is_some(), ending.status == 0);
+    Ok(())
+}
+
+#[test]
+fn wrong_words_and_faults(rt: HostRuntime) -> Result<(), Fail> {
+    for ending in &ENDINGS {
+        let script = Bytes::new(rt.alloc(), PUT_AND_GET.as_bytes())?;
+        expect_ending(&rt, rt.alloc(), script, ending)?;
+    }
+    Ok(())
+}
+
+// A byte and a line more than a script may have.
+#[test]
+fn scripts_past_a_limit(rt: HostRuntime) -> Result<(), Fail> {
+    for (byte, count) in [(b';', 16_777_217), (b'\n', 1_048_577)] {
+        let script = Bytes::from(vec![in rt.alloc(); byte; count]?);
+        expect_ending(&rt, rt.alloc(), script, &PAST_A_LIMIT)?;
+    }
+    Ok(())
+}

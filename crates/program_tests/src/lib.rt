@@ -1,0 +1,10 @@
+//! Tests of the program's one call, of what no script in a file can say: wrong words, a source and a sink that fail,
+//! scripts past a limit, and the numbers of a report. There is no code beside them.
+#![tactic(auto)]
+
+#[cfg(test)]
+mod endings;
+#[cfg(test)]
+mod playing;
+#[cfg(test)]
+mod reports;

@@ -1,0 +1,115 @@
+//! The numbers of reports.
+
+use crate::playing::{NONE_FAILS, play};
+use cat_model::Bytes;
+use catalog_top::Report;
+use std::alloc::Global;
+use std::process::Abort;
+use std::test::Fail;
+
+/// A script, and the numbers of its report: of its events, of its requests, of the entries of the agreed log and of
+/// those that each server has applied, and the requests without a reply.
+#[derive(Clone, Copy)]
+struct Reported {
+    script: &'static str,
+    events: u64,
+    requests: u64,
+    agreed: u64,
+    applied: &'static [u64],
+    unanswered: &'static [u64],
+}
+
+// A store that fails, a write that is lost, one that is held at the end, and messages that are repeated.
+static REPORTED: [Reported; 4] = [
+    Reported {
+        script: "cluster 1 1 7
+timeout 1
+failkeep 1 1
+http 1 PUT /v1/kv/a =x
+http 1 GET /v1/kv/a
+restart 1
+timeout 1
+http 1 GET /v1/kv/a
+",
+        events: 7,
+        requests: 3,
+        agreed: 2,
+        applied: &[2],
+        unanswered: &[],
+    },
+    Reported {
+        script: "cluster 3 1 7
+timeout 1
+settle 100
+http 1 PUT /v1/kv/a =x
+drop 13
+drop 14
+timeout 2
+settle 100
+http 1 GET /v1/kv/a
+",
+        events: 54,
+        requests: 2,
+        agreed: 2,
+        applied: &[2, 2, 2],
+        unanswered: &[],
+    },
+    Reported {
+        script: "cluster 3 1 7
+timeout 1
+settle 100
+http 1 PUT /v1/kv/a =x
+",
+        events: 26,
+        requests: 1,
+        agreed: 1,
+        applied: &[1, 1, 1],
+        unanswered: &[1],
+    },
+    Reported {
+        script: "cluster 3 1 7
+timeout 1
+settle 100
+http 1 PUT /v1/kv/a =x
+deliver 13
+deliver 13
+deliver 13
+deliver 16
+deliver 15
+deliver 17
+",
+        events: 32,
+        requests: 1,
+        agreed: 2,
+        applied: &[2, 1, 1],
+        unanswered: &[],
+    },
+];
+
+fn expect_numbers(rt: &impl Abort, report: &Report, wanted: &Reported) {
+    assert_eq!(rt; report.events, wanted.events, "of {:?}", wanted.script);
+    assert_eq!(rt; report.requests, wanted.requests, "of {:?}", wanted.script);
+    assert_eq!(rt; report.agreed.len() as u64, wanted.agreed);
+    assert_eq!(rt; report.applied.as_slice(), wanted.applied);
+    assert_eq!(rt; report.unanswered.as_slice(), wanted.unanswered);
+    assert!(rt; !report.marks.as_slice().is_empty());
+}
+
+fn expect_report(rt: &impl Abort, alloc: Global, wanted: &Reported) -> Result<(), Fail> {
+    let script = Bytes::new(alloc, wanted.script.as_bytes())?;
+    let played = play(alloc, "script", script, NONE_FAILS)?;
+    assert_eq!(rt; played.outcome.status, 0, "of {:?}", wanted.script);
+    match &played.outcome.report {
+        Some(report) => expect_numbers(rt, report, wanted),
+        None => assert!(rt; false),
+    }
+    Ok(())
+}
+
+#[test]
+fn reports_have_their_numbers(rt: HostRuntime) -> Result<(), Fail> {
+    for wanted in &REPORTED {
+        expect_report(&rt, rt.alloc(), wanted)?;
+    }
+    Ok(())
+}
