@@ -19,7 +19,6 @@ at_bool : (P : Bool → Type 0) (b : Bool) → (b ≡ true → P true) → (b �
 at_bool P true f g = f refl
 at_bool P false f g = g refl
 
-
 -- what changes no ID keeps it
 mapped : (f : Watched → Watched) → ((w : Watched) → (f w).row.id ≡ w.row.id) → (ws : List Watched) → Each (λ w. same_text w.row.id serf_id ≡ false) ws → Each (λ w. same_text w.row.id serf_id ≡ false) (map f ws)
 mapped f same [] x = tt

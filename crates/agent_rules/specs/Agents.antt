@@ -111,8 +111,10 @@ change a (op.AddCheck check) g =
 change a (op.DropCheck id) g = if has_check a id g then Some (record g { checks = without (λ (w : Watched). same_text w.row.id id) g.checks }) else None
 change a (op.Mark id status output) g = if has_check a id g then Some (record g { checks = map (noted_check id status output g.clock) g.checks }) else None
 
--- what it doesn't know
+-- What it doesn't know, where it refuses: its own check, under whose ID no other is added, counts as unknown.
 abbrev pub unknown : AgentOp → List ℕ
+unknown (op.AddService service checks) = codes "Unknown check"
+unknown (op.AddCheck check) = if same_text check.id serf_id then codes "Unknown check" else codes "Unknown service"
 unknown (op.DropCheck id) = codes "Unknown check"
 unknown (op.Mark id status output) = codes "Unknown check"
 unknown other = codes "Unknown service"

@@ -3,8 +3,8 @@
 use crate::cluster::Cluster;
 use cat_model::{Entry, Event, List, Memory};
 use cat_outside::MemKeeper;
-use open_requests::Out;
 use cluster_interface::{ClusterInterface, History};
+use open_requests::Out;
 use script_runs::Misfit;
 use std::alloc::Global;
 

@@ -9,8 +9,8 @@ ghost use Rattle.cluster.specs.Taking.{Collects};
 use crate::cluster::Cluster;
 use cat_model::{Entry, List, Memory};
 use cat_outside::Keeper;
-use open_requests::{Collected, Out};
 use cluster_interface::History;
+use open_requests::{Collected, Out};
 use std::alloc::Global;
 
 impl<K: Keeper> Cluster<K> {

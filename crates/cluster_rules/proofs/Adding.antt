@@ -150,8 +150,11 @@ marked_past (event.AgentTick a ms) c = refl
 
 whole_event : (made : Event) (c a c' : Cluster) → Grows (marked made c) a → c'.past ≡ a.past → AddsEvent made c c'
 whole_event made c a c' g e = record {
-  own = event_mark made c.asked; more = g.more; own_is = inl refl;
-  are = e ∙ (g.are ∙ ap (λ (l : List Mark). g.more ++ l) (marked_past made c)); quiet = g.quiet;
+  own = event_mark made c.asked;
+  more = g.more;
+  own_is = inl refl;
+  are = e ∙ (g.are ∙ ap (λ (l : List Mark). g.more ++ l) (marked_past made c));
+  quiet = g.quiet;
 }
 
 pub step_adds : (c c' : Cluster) (made : Event) (whole : Bool) → ClusterStep c made c' whole → AddsEvent made c c'

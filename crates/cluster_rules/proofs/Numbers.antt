@@ -102,10 +102,10 @@ sound_kept c s =
       once = asked_once c.world c.starts c.past m;
       only = answered_once c.world c.starts c.past m;
       taken = λ n a.
-        let some = taken_some n c.past a in
-        let whole = s.none_lost n in
-        let k = counted n c.asked (omega (arith, some, whole)) in
-        all_asked c.world c.starts c.past m n k.0 (omega (arith, k.1, e));
+          let some = taken_some n c.past a in
+          let whole = s.none_lost n in
+          let k = counted n c.asked (omega (arith, some, whole)) in
+          all_asked c.world c.starts c.past m n k.0 (omega (arith, k.1, e));
     }
 
 -- Deliveries and losses.
@@ -171,9 +171,9 @@ mark_takes other asked x = refl
 step_quiet : (c c' : Cluster) (made : Event) (whole : Bool) → AsksNothing made → ClusterStep c made c' whole → AddsQuiet c.past c'.past
 step_quiet c c' made whole x s = let a = step_adds c c' made whole s in
     event_quiet a.own a.more c.past c'.past
-      (⊎_elim (λ (e : a.own ≡ event_mark made c.asked). ap (λ (z : Mark). asked_of (z ∷ [])) e ∙ mark_asks made c.asked x) (λ (e : a.own ≡ mark.Made made). ap (λ (z : Mark). asked_of (z ∷ [])) e) a.own_is)
-      (⊎_elim (λ (e : a.own ≡ event_mark made c.asked). ap (λ (z : Mark). taken_of (z ∷ [])) e ∙ mark_takes made c.asked x) (λ (e : a.own ≡ mark.Made made). ap (λ (z : Mark). taken_of (z ∷ [])) e) a.own_is)
-      a.are a.quiet
+    (⊎_elim (λ (e : a.own ≡ event_mark made c.asked). ap (λ (z : Mark). asked_of (z ∷ [])) e ∙ mark_asks made c.asked x) (λ (e : a.own ≡ mark.Made made). ap (λ (z : Mark). asked_of (z ∷ [])) e) a.own_is)
+    (⊎_elim (λ (e : a.own ≡ event_mark made c.asked). ap (λ (z : Mark). taken_of (z ∷ [])) e ∙ mark_takes made c.asked x) (λ (e : a.own ≡ mark.Made made). ap (λ (z : Mark). taken_of (z ∷ [])) e) a.own_is)
+    a.are a.quiet
 
 pub settling_adds : (n : ℕ) (c c' : Cluster) → Settling n c c' → AddsQuiet c.past c'.past
 settling_adds n c c' none = record { more = []; are = refl; asked = refl; taken = refl }

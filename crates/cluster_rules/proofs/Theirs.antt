@@ -74,9 +74,9 @@ theirs c s before after r e =
     let o = each_at (OutIsSound c.world c.past) before after (Replied r) (subst (Each (OutIsSound c.world c.past)) e s.parts.tray) in (
       o.marked,
       λ q a n.
-        let number : r.number ≡ o.question.number = ap (λ (z : Reply). z.number) o.is in
-        let same : o.question ≡ q = same_question c.world c.starts c.past s.parts.marks o.question q o.asked a (sym number ∙ sym n) in
-        subst (λ (z : Question). (r ≡ reply_of z r.kind r.known r.contact c.world.agreed) × Lasting z r.kind c.world.agreed) same (o.is, o.lasts),
+          let number : r.number ≡ o.question.number = ap (λ (z : Reply). z.number) o.is in
+          let same : o.question ≡ q = same_question c.world c.starts c.past s.parts.marks o.question q o.asked a (sym number ∙ sym n) in
+          subst (λ (z : Question). (r ≡ reply_of z r.kind r.known r.contact c.world.agreed) × Lasting z r.kind c.world.agreed) same (o.is, o.lasts),
     )
 
 -- what is nowhere else was taken

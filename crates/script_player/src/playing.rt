@@ -136,7 +136,11 @@ fn report<S: ClusterInterface, Si: Sink>(
 }
 
 // The report of a whole run, and its last line.
-fn close<S: ClusterInterface>(alloc: Global, servers: S, events: u64) -> Result<(Report, Bytes), Memory>
+fn close<S: ClusterInterface>(
+    alloc: Global,
+    servers: S,
+    events: u64,
+) -> Result<(Report, Bytes), Memory>
     ensures report { IfOk result (λ c. IsReportOf (S.state servers) events c.0) }
     ensures text { IfOk result (λ c. c.1 ≡ last_text Whole (S.state servers)) }
 {
