@@ -19,13 +19,14 @@ pub(crate) struct Checking {
     pub(crate) service: &'static str,
 }
 
-/// A Register.
+/// A Register of up to two checks. They are two fields, since the borrow checker takes no array in an enum's variant.
 #[derive(Clone, Copy)]
 pub(crate) struct Registering {
     pub(crate) node: &'static str,
     pub(crate) address: &'static str,
     pub(crate) service: Option<Serving>,
-    pub(crate) checks: [Option<Checking>; 2],
+    pub(crate) check: Option<Checking>,
+    pub(crate) other_check: Option<Checking>,
 }
 
 /// A command of a kind that a store takes: of a key and its value, at an index, of a prefix, and of a node, a service and
@@ -74,12 +75,13 @@ fn check(alloc: Global, checking: Checking) -> Result<NewCheck, Memory> {
     })
 }
 
-fn checks(alloc: Global, all: &[Option<Checking>]) -> Result<List<NewCheck>, Memory> {
+fn checks(alloc: Global, registering: Registering) -> Result<List<NewCheck>, Memory> {
     let mut list = List::new(alloc);
-    for checking in all {
-        if let Some(checking) = checking {
-            list.push(check(alloc, *checking)?)?;
-        }
+    if let Some(checking) = registering.check {
+        list.push(check(alloc, checking)?)?;
+    }
+    if let Some(checking) = registering.other_check {
+        list.push(check(alloc, checking)?)?;
     }
     Ok(list)
 }
@@ -93,7 +95,7 @@ fn register(alloc: Global, registering: Registering) -> Result<Command, Memory> 
         node: Text::new(alloc, registering.node)?,
         address: Text::new(alloc, registering.address)?,
         service,
-        checks: checks(alloc, &registering.checks)?,
+        checks: checks(alloc, registering)?,
     })
 }
 

@@ -68,11 +68,11 @@ fn drawn_check(draws: &mut Draws) -> Checking {
 }
 
 /// Up to two checks, which may have the same ID.
-fn drawn_checks(draws: &mut Draws) -> [Option<Checking>; 2] {
+fn drawn_checks(draws: &mut Draws) -> (Option<Checking>, Option<Checking>) {
     match draws.one_of(&[0, 1, 2], 0) {
-        0 => [None, None],
-        1 => [Some(drawn_check(draws)), None],
-        _ => [Some(drawn_check(draws)), Some(drawn_check(draws))],
+        0 => (None, None),
+        1 => (Some(drawn_check(draws)), None),
+        _ => (Some(drawn_check(draws)), Some(drawn_check(draws))),
     }
 }
 
@@ -80,12 +80,13 @@ fn drawn_register(draws: &mut Draws) -> Change {
     let node = draws.word(&["n1", "n2"]);
     let address = draws.word(&["10.0.0.1", "10.0.0.2"]);
     let service = drawn_service(draws);
-    let checks = drawn_checks(draws);
+    let (check, other_check) = drawn_checks(draws);
     Change::Register(Registering {
         node,
         address,
         service,
-        checks,
+        check,
+        other_check,
     })
 }
 

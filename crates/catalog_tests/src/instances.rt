@@ -12,7 +12,8 @@ const N1: Registering = Registering {
     node: "n1",
     address: "10.0.0.1",
     service: None,
-    checks: [None, None],
+    check: None,
+    other_check: None,
 };
 
 const DB: Serving = Serving {
@@ -63,7 +64,8 @@ fn instances(
 fn checked(alloc: Global, status: Status) -> Result<List<Instance>, Memory> {
     let with_db = Registering {
         service: Some(DB),
-        checks: [Some(own(status)), Some(DB_DOWN)],
+        check: Some(own(status)),
+        other_check: Some(DB_DOWN),
         ..N1
     };
     let with_web = Registering {

@@ -24,7 +24,8 @@ const WEB: Registering = Registering {
         name: "web",
         tag: "",
     }),
-    checks: [None, None],
+    check: None,
+    other_check: None,
 };
 
 static ROWS: [(Change, u64); 2] = [(Change::Noop, 3), (Change::Register(WEB), 8)];

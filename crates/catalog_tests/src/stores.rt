@@ -89,14 +89,16 @@ const WEB_UP: Registering = Registering {
     node: "n1",
     address: "10.0.0.1",
     service: Some(WEB),
-    checks: [Some(UP), None],
+    check: Some(UP),
+    other_check: None,
 };
 
 const WEB_DOWN: Registering = Registering {
     node: "n1",
     address: "10.0.0.1",
     service: Some(WEB),
-    checks: [Some(DOWN), None],
+    check: Some(DOWN),
+    other_check: None,
 };
 
 // A service comes with its node and check, comes again, has its check changed, and goes.

@@ -79,14 +79,12 @@ const WEB: Registering = Registering {
         name: "web",
         tag: "",
     }),
-    checks: [
-        Some(Checking {
-            id: "up",
-            status: Status::Passing,
-            service: "web",
-        }),
-        None,
-    ],
+    check: Some(Checking {
+        id: "up",
+        status: Status::Passing,
+        service: "web",
+    }),
+    other_check: None,
 };
 
 // Whether the change names `web` alone, and how many names vanish.

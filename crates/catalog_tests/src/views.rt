@@ -83,7 +83,8 @@ const PLAIN_WEB: Registering = Registering {
         name: "web",
         tag: "",
     }),
-    checks: [None, None],
+    check: None,
+    other_check: None,
 };
 
 // A node with a service is registered at 2 and, equal, at 3, and removed at 4.
@@ -131,18 +132,16 @@ const CHECKED_WEB: Registering = Registering {
         name: "web",
         tag: "t",
     }),
-    checks: [
-        Some(Checking {
-            id: "own",
-            status: Status::Passing,
-            service: "",
-        }),
-        Some(Checking {
-            id: "up",
-            status: Status::Warning,
-            service: "w1",
-        }),
-    ],
+    check: Some(Checking {
+        id: "own",
+        status: Status::Passing,
+        service: "",
+    }),
+    other_check: Some(Checking {
+        id: "up",
+        status: Status::Warning,
+        service: "w1",
+    }),
 };
 
 // What is shown where the nodes were last written at 4, the services at 5, the checks at 6, and what is read of `web` at 7.
