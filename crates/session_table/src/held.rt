@@ -6,6 +6,7 @@ ghost use Rattle.std.proofs.lemmas.Cmp.{nat_cmp_total, nat_list_cmp_total};
 ghost use Rattle.std.proofs.lemmas.Map.Lookups.{exact_bytes, exact_pairs, exact_unsigned};
 ghost use Rattle.cat_model.proofs.Pairs.{both_total};
 ghost use Rattle.cat_model.specs.Keys.{text_cmp};
+ghost use Rattle.cat_model.specs.Tables.{Ascends};
 ghost use Rattle.session_table.specs.Holdings.{held_cmp, held_key, keys_held};
 
 use cat_model::{Memory, Text};
@@ -77,7 +78,8 @@ pub(crate) fn keys_of(
     held: &RowTable<Held>,
     session: u128,
 ) -> Result<Vec<Text>, Memory>
-    ensures { IfOk result (λ v. v.items ≡ keys_held session held.now.now) }
+    ensures keys { IfOk result (λ v. v.items ≡ keys_held session held.now.now) }
+    ensures order { IfOk result (λ v. Ascends text_cmp (λ key. key) v.items) }
 {
     held.in_order();
     let mut found = Vec::new(alloc);

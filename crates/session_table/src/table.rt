@@ -2,6 +2,7 @@ ghost use Rattle.std.specs.Prelude.{◌≡◌, None, IfOk, OnErr, OnOk, filter, 
 ghost use Rattle.std.specs.Option.{option_copied};
 ghost use Rattle.std.specs.Ordering.{is_eq, nat_cmp};
 ghost use Rattle.cat_model.specs.Catalog.{session_at, session_key};
+ghost use Rattle.cat_model.specs.Keys.{text_cmp};
 ghost use Rattle.cat_model.specs.Tables.{put, row_at, without, Ascends};
 ghost use Rattle.session_table.specs.Holdings.{held_cmp, held_key, keys_held, let_go_of, is_of_node, is_on};
 ghost use Rattle.session_table.specs.States.{empty_state};
@@ -121,7 +122,8 @@ impl SessionTable {
 
     /// The keys that the session holds, in byte order.
     pub fn held(&self, alloc: Global, id: u128) -> Result<Texts, Memory>
-        ensures { IfOk result (λ keys. keys ≡ keys_held id self.now.now.held) }
+        ensures keys { IfOk result (λ keys. keys ≡ keys_held id self.now.now.held) }
+        ensures order { IfOk result (Ascends text_cmp (λ key. key)) }
     {
         Ok(List::from(keys_of(alloc, &self.held, id)?))
     }
