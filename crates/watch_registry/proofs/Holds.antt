@@ -44,6 +44,15 @@ shown_none t (e ∷ es) h = go (shown_none t es) (t e.0) h
     go more true k = cc
     go more false k = more k
 
+-- a waiter is there where callers see it
+pub shown_lookup : (t : ℕ → Bool) (es : List (ℕ × Waiting)) → is_some (lookup t es) ≡ is_some (lookup t (map shown es))
+shown_lookup t [] = refl
+shown_lookup t (e ∷ es) = go (shown_lookup t es) (t e.0)
+  where
+    go : is_some (lookup t es) ≡ is_some (lookup t (map shown es)) → (b : Bool) → is_some (cond b (Some e.1) (lookup t es)) ≡ is_some (cond b (Some e.1.chans) (lookup t (map shown es)))
+    go more true = refl
+    go more false = more
+
 pub shown_long : (es : List (ℕ × Waiting)) → length (map shown es) ≡ length es
 shown_long [] = refl
 shown_long (e ∷ es) = ap suc (shown_long es)

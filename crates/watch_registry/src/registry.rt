@@ -1,6 +1,6 @@
 //! The registry.
 
-ghost use Rattle.std.specs.Prelude.{◌≡◌, ◌<◌, ◌≤◌, [], length, None, OnOk, OnErr, IfOk, map, filter, not};
+ghost use Rattle.std.specs.Prelude.{◌≡◌, ◌<◌, ◌≤◌, [], length, None, is_some, OnOk, OnErr, IfOk, map, filter, not};
 ghost use Rattle.std.specs.BTreeMap.{is_at, insert_entry, IsOrdered};
 ghost use Rattle.std.specs.List.Sorted.{IsStrictlySortedBy};
 ghost use Rattle.std.specs.Map.{lookup, remove_entry};
@@ -62,6 +62,13 @@ impl WatchRegistry {
         ensures { result ≡ length self.now }
     {
         self.waiters.len()
+    }
+
+    /// Whether the waiter is there.
+    pub fn contains(&self, waiter: u64) -> bool
+        ensures { result ≡ is_some (lookup (is_at (nat_cmp waiter)) self.now) }
+    {
+        self.waiters.contains_key(&waiter)
     }
 
     /// Adds a new waiter on its channels.
