@@ -1,0 +1,4 @@
+pub mod Holds
+pub mod Buckets
+pub mod Hits
+pub mod Leaves

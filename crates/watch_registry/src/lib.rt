@@ -1,0 +1,12 @@
+//! Waiters on channels. Each waiter is a node on the lists of its channels, so that what a fired channel reaches is found
+//! on few lists, and not by a search over all waiters.
+#![tactic(auto)]
+
+mod bucket;
+mod copy;
+mod hit;
+mod reach;
+mod registry;
+mod waiting;
+
+pub use registry::WatchRegistry;
