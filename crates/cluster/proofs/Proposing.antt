@@ -249,3 +249,14 @@ done_write s s' r p r' i write command c before now number proposed result stand
     (ended s.world s'.world s.servers r r' i write command is keeps before now proposed result p prepared was seen
     (subst (λ k. Proposes s.world i k command s'.world proposed) n made)
     (subst (λ (o : Requests). EndsWrite write before now i proposed result o r') prepared ends)))
+
+-- Each part of it, for a cluster that is seen so afterwards.
+pub write_handled : (s s' : Servers) (r p r' : Requests) (i : ℕ) (write : Write) (command : Command) (c c' : Cluster) (before now : Seen) (number : ℕ) (proposed : Result Place ProposeFault) (result : Result Unit memory.Memory) →
+    Stands s.world s.servers r → cluster_of s.world s.servers r ≡ c → IsCome write.question.agent write.asked write.question.draw c.past → IsCopied c i write.question.agent write.asked write.question.draw command write
+    → write.asked ≡ Good (Writes command) → IsPut command → IsTakenAsked write.asked → runs_leading c.world i ≡ true → is_ready c i ≡ true
+    → p ≡ record r { room = 4 } → number ≡ write.question.number → before ≡ seen_of s.world i → now ≡ seen_of s'.world i
+    → Proposes s.world i number command s'.world proposed → KeepsAgreement s.world s'.world → s'.servers ≡ s.servers → EndsWrite write before now i proposed result p r' → cluster_of s'.world s'.servers r' ≡ c'
+    → OnOk result (HandlesNewest i write.question.agent write.asked write.question.draw c c') × OnErr result (c' ≡ c)
+write_handled s s' r p r' i write command c c' before now number proposed result stands view come copied asked put taken leads ready prepared n was seen made keeps same ends shown =
+    let t = done_write s s' r p r' i write command c before now number proposed result stands view come copied asked put taken leads ready prepared n was seen made keeps same ends in
+    subst (λ (d : Cluster). OnOk result (HandlesNewest i write.question.agent write.asked write.question.draw c d) × OnErr result (d ≡ c)) shown (t.0, t.1)
