@@ -75,7 +75,7 @@ fn deliver_lowest(alloc: Global, servers: &mut Servers<SureKeeper>) -> Result<bo
     if in_bag(servers, k) {
         servers.deliver(alloc, k)?;
     }
-    Ok(lose_servers.lowest())
+    Ok(lose_lowest(servers))
 }
 
 // Delivers messages, up to so many, and tells how many there were.
