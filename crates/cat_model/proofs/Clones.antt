@@ -3,7 +3,7 @@ use Rattle.std.proofs.Common.{refl, ◌≡◌, ℕ, Option, None, Some, List, �
 use Rattle.std.specs.Prelude.{⊤}
 use Rattle.std.proofs.lemmas.List.Elements.{same_from_all_zip}
 use Rattle.cat_model.specs.declared.command.Command.{Command}
-use Rattle.cat_model.specs.declared.command.Command.TheVariants.{Noop, Register, Deregister, KvSet, KvCas, KvLock, KvUnlock, KvDelete, KvDeleteCas, KvDeleteTree, Txn, SessionCreate, SessionDestroy, QuerySet, QueryDelete, Reap}
+use Rattle.cat_model.specs.declared.command.Command.TheVariants.{Noop, Register, Deregister, KvSet, KvCas, KvLock, KvUnlock, KvDelete, KvDeleteCas, KvDeleteTree, Txn, SessionCreate, SessionDestroy, QuerySet, QueryDelete, Reap, Upgrade}
 use Rattle.cat_model.specs.contracts.command.CommandClone.TheImpl as command
 use Rattle.cat_model.specs.contracts.command.TxnOpClone.TheImpl as op
 use Rattle.cat_model.specs.contracts.command.NewCheckClone.TheImpl as check
@@ -109,6 +109,7 @@ command_same (QuerySet d c n s v p ts w) (QuerySet d' c' n' s' v' p' ts' w') h =
     λ i. QuerySet (id i) (create i) (name i) (session i) (service i) (passing i) (same_tags i) (ttl i)
 command_same (QueryDelete d) (QueryDelete d') h = let id : d' ≡ d = h in ap (λ n. QueryDelete n) id
 command_same Reap Reap h = refl
+command_same Upgrade Upgrade h = refl
 command_same x y h = absurd h
 
 -- a copy of an entry equals it

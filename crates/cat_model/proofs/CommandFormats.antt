@@ -6,7 +6,7 @@ use Rattle.cat_model.specs.declared.command.NewService.{NewService}
 use Rattle.cat_model.specs.declared.command.NewCheck.{NewCheck}
 use Rattle.cat_model.specs.declared.command.TxnOp.{TxnOp}
 use Rattle.cat_model.specs.declared.command.Command.{Command}
-use Rattle.cat_model.specs.declared.command.Command.TheVariants.{Noop, Register, Deregister, KvSet, KvCas, KvLock, KvUnlock, KvDelete, KvDeleteCas, KvDeleteTree, Txn, SessionCreate, SessionDestroy, QuerySet, QueryDelete, Reap}
+use Rattle.cat_model.specs.declared.command.Command.TheVariants.{Noop, Register, Deregister, KvSet, KvCas, KvLock, KvUnlock, KvDelete, KvDeleteCas, KvDeleteTree, Txn, SessionCreate, SessionDestroy, QuerySet, QueryDelete, Reap, Upgrade}
 use Rattle.cat_model.specs.Spelling.{number_bytes, text_bytes, list_bytes, option_bytes, flag_bytes, id_bytes, status_bytes, behavior_bytes, verb_bytes, service_bytes, check_bytes, op_bytes, tag_of, fields_of, spelling}
 use Rattle.cat_model.specs.Bounds.{IsNumber, IsId, IsKey, IsPrefixKey, IsText, IsValue, IsList, IsListOf, IsKeyOf, IsService, IsCheck, IsOp, InBounds, Spells}
 use Rattle.cat_model.proofs.Formats.{Field, Then, Done, Unique, done_unique, then_unique, field_from_unique}
@@ -86,7 +86,7 @@ op_spelled s v = also _ s.verb tt (also _ s.key v.key (also _ s.value v.value (a
 pub op_field : Field op_bytes IsOp
 op_field = field_from_unique op_bytes IsOp OpFormat op_spelled op_unique
 
--- the fields of the sixteen commands, by the tag
+-- the fields of the seventeen commands, by the tag
 abbrev pub RegisterFormat : Command → List ℕ → Type 0
 RegisterFormat =
     Then text_bytes IsText (λ node. Then text_bytes IsText (λ address. Then (option_bytes service_bytes) (IsNoOr IsService) (λ service.
@@ -155,7 +155,8 @@ format_from_8 (suc (suc (suc (suc zero)))) = SessionDestroyFormat
 format_from_8 (suc (suc (suc (suc (suc zero))))) = QuerySetFormat
 format_from_8 (suc (suc (suc (suc (suc (suc zero)))))) = QueryDeleteFormat
 format_from_8 (suc (suc (suc (suc (suc (suc (suc zero))))))) = Done Reap
-format_from_8 (suc (suc (suc (suc (suc (suc (suc (suc n)))))))) = NoFormat
+format_from_8 (suc (suc (suc (suc (suc (suc (suc (suc zero)))))))) = Done Upgrade
+format_from_8 (suc (suc (suc (suc (suc (suc (suc (suc (suc n))))))))) = NoFormat
 
 abbrev pub format_after : ℕ → Command → List ℕ → Type 0
 format_after zero = Done Noop
@@ -184,7 +185,8 @@ unique_from_8 (suc (suc (suc (suc (suc zero))))) =
     next (text_field IsText) (λ service _. next (flag_field Any) (λ only_passing _. next texts (λ tags _. next (number_field (UpTo (2 ^ 53))) (λ dns_ttl_ms _. done_unique _))))))))
 unique_from_8 (suc (suc (suc (suc (suc (suc zero)))))) = next id_field (λ id _. done_unique _)
 unique_from_8 (suc (suc (suc (suc (suc (suc (suc zero))))))) = done_unique Reap
-unique_from_8 (suc (suc (suc (suc (suc (suc (suc (suc n)))))))) = record { law = λ c d s t r q a b e. absurd a.none }
+unique_from_8 (suc (suc (suc (suc (suc (suc (suc (suc zero)))))))) = done_unique Upgrade
+unique_from_8 (suc (suc (suc (suc (suc (suc (suc (suc (suc n))))))))) = record { law = λ c d s t r q a b e. absurd a.none }
 
 set_unique : {G : List ℕ → ℕ → List ℕ → Command → List ℕ → Type 0} → ((key : List ℕ) (flags : ℕ) (value : List ℕ) → Unique (G key flags value)) →
     Unique (Then text_bytes IsKey (λ key. Then number_bytes IsNumber (λ flags. Then text_bytes IsValue (λ value. G key flags value))))
@@ -223,6 +225,7 @@ spelled_after (QuerySet id create name session service only_passing tags dns_ttl
     also _ id v.0 (also _ create tt (also _ name v.1 (also _ session v.2 (also _ service v.3 (also _ only_passing tt (also _ tags v.4 (also _ dns_ttl_ms v.5 (end _))))))))
 spelled_after (QueryDelete id) v = also _ id v (end _)
 spelled_after Reap v = end Reap
+spelled_after Upgrade v = end Upgrade
 
 -- a spelling says the command and where it ends
 pub spelling_unique : (c d : Command) (r s : List ℕ) → InBounds c → InBounds d → spelling c ++ r ≡ spelling d ++ s → (c ≡ d) × (r ≡ s)

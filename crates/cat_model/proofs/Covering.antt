@@ -10,19 +10,21 @@ use Rattle.cat_model.specs.Keys.{text_cmp, has_prefix, same_text}
 use Rattle.cat_model.specs.Tables.{row_at, same_found}
 use Rattle.cat_model.specs.Same.{same_node, same_service, same_check, same_kv}
 use Rattle.cat_model.specs.Catalog.{Catalog, empty_catalog, same_catalog, kv_key, kv_at}
-use Rattle.cat_model.specs.Queries.{reads, service_rows}
+use Rattle.cat_model.specs.Queries.{reads, service_rows, node_rows, checks_of}
 use Rattle.cat_model.specs.Machine.{catalog_at}
-use Rattle.cat_model.specs.Indexes.{touches, is_reaped, is_reap, lacks_service, some_vanishes, has_name}
+use Rattle.cat_model.specs.Indexes.{touches, is_reaped, is_reap, lacks_service, some_vanishes, has_name, lacks_node, some_node_goes, has_node}
 use Rattle.cat_model.specs.Channels.{chans, fires, Reaches, IsReached, CoveringLaw}
 use Rattle.cat_model.specs.declared.row.KvRow.{KvRow}
+use Rattle.cat_model.specs.declared.row.CheckRow.{CheckRow}
 use Rattle.cat_model.specs.declared.query.Query.{Query}
 use Rattle.cat_model.specs.declared.query.Query.TheVariants as q
 use Rattle.cat_model.specs.declared.command.Command.{Command}
 use Rattle.cat_model.specs.declared.query.Chan.{Chan}
-use Rattle.cat_model.specs.declared.query.Chan.TheVariants.{Nodes, Services, Checks, Sessions, Queries, Service, Vanished, Key, Prefix, Reaped}
+use Rattle.cat_model.specs.declared.query.Chan.TheVariants.{Nodes, Services, Checks, Sessions, Queries, Service, Vanished, Node, NodeChecks, NodeGone, Key, Prefix, Reaped}
 use Rattle.cat_model.proofs.SameLemmas.{text_decides, kv_decides, catalog_decides}
 use Rattle.cat_model.proofs.TableLemmas.{equal_or_differs, Differs, row_at-filter, Ascends-filter, All-filter_test}
 use Rattle.cat_model.proofs.KvOrder.{KvAscends, kv_ascends}
+use Rattle.cat_model.proofs.NodesStand.{NodesStand, nodes_stand, no_checks}
 
 -- a channel that fires and stands first, or second, in the list
 first_reached : (before : Catalog) (c : Command) (after : Catalog) (chan : Chan) (rest : List Chan) → fires before c after chan ≡ true → Reaches chan chan → IsReached before c after (chan ∷ rest)
@@ -124,34 +126,66 @@ checks_reached before after c h =
     let checks : Bool = pointwise same_check before.checks after.checks in
     either_reached before c after Checks Services checks services (both_middle services checks h) refl refl refl refl
 
-nodes_reached : (before after : Catalog) (c : Command)
-    → not (same_catalog (record empty_catalog { nodes = before.nodes; services = before.services }) (record empty_catalog { nodes = after.nodes; services = after.services })) ≡ true
-    → IsReached before c after (Nodes ∷ Services ∷ [])
-unfolding same_catalog fires
-nodes_reached before after c h =
-    let services : Bool = pointwise same_service before.services after.services in
-    let nodes : Bool = pointwise same_node before.nodes after.nodes in
-    either_reached before c after Nodes Services nodes services (both_front nodes services h) refl refl refl refl
+-- a list has an element that passes exactly where what passes has one
+pub any_filter : {A : Type 0} (test : A → Bool) (xs : List A) → list_any test (filter test xs) ≡ list_any test xs
+any_filter test [] = refl
+any_filter test (x ∷ xs) = go (test x) refl (any_filter test xs)
+  where
+    go : (b : Bool) → test x ≡ b → list_any test (filter test xs) ≡ list_any test xs → list_any test (cond b (x ∷ filter test xs) (filter test xs)) ≡ (b || list_any test xs)
+    go true e rest = ap (λ t. t || list_any test (filter test xs)) e
+    go false e rest = rest
+
+-- a node is there where its reads have a row
+pub same_host : (node : List ℕ) (before after : Catalog) → filter (λ r. same_text r.node node) before.nodes ≡ filter (λ r. same_text r.node node) after.nodes → has_node node before ≡ has_node node after
+same_host node before after e = sym (any_filter (λ r. same_text r.node node) before.nodes) ∙ ap (list_any (λ r. same_text r.node node)) e ∙ any_filter (λ r. same_text r.node node) after.nodes
+
+-- of three lists the third differs, where the first two are equal
+third_differs : (a b c : Bool) → not (a && b && c && true && true && true) ≡ true → (a && b && true && true && true && true) ≡ true → not c ≡ true
+third_differs true true false h e = refl
+third_differs true true true h e = h
+third_differs true false c h e = absurd (false≢true e)
+third_differs false b c h e = absurd (false≢true e)
+
+-- A node's row, services or checks differ. An absent node has no checks, so they can only come with its row.
+health_reached : (node : List ℕ) (before after : Catalog) (c : Command) → NodesStand before → NodesStand after → not (same_catalog (reads (q.HealthNode node) before) (reads (q.HealthNode node) after)) ≡ true
+    → (b : Bool) → has_node node before ≡ b → IsReached before c after (Node node ∷ cond b (NodeChecks node) NodeGone ∷ [])
+unfolding reads same_catalog fires
+health_reached node before after c sb sa h b was = go (same_catalog (node_rows node before) (node_rows node after)) refl b was
+  where
+    checks_differ : same_catalog (node_rows node before) (node_rows node after) ≡ true → not (pointwise same_check (checks_of node before) (checks_of node after)) ≡ true
+    checks_differ e =
+        third_differs (pointwise same_node (node_rows node before).nodes (node_rows node after).nodes) (pointwise same_service (node_rows node before).services (node_rows node after).services)
+        (pointwise same_check (checks_of node before) (checks_of node after)) h e
+
+    none_differ : (xs ys : List CheckRow) → xs ≡ [] → ys ≡ [] → not (pointwise same_check xs ys) ≡ false
+    none_differ xs ys e f = λ i. not (pointwise same_check (e i) (f i))
+
+    go : (s : Bool) → same_catalog (node_rows node before) (node_rows node after) ≡ s → (b : Bool) → has_node node before ≡ b → IsReached before c after (Node node ∷ cond b (NodeChecks node) NodeGone ∷ [])
+    go false e b was = first_reached before c after (Node node) (cond b (NodeChecks node) NodeGone ∷ []) (ap not e) refl
+    go true e true was = second_reached before c after (Node node) (NodeChecks node) [] (checks_differ e) refl
+    go true e false was =
+        let is : has_node node after ≡ false = sym (same_host node before after (ap (λ k. k.nodes) ((catalog_decides (node_rows node before) (node_rows node after)).0 e))) ∙ was in
+        absurd (false≢true (sym (none_differ (checks_of node before) (checks_of node after) (no_checks node before sb was) (no_checks node after sa is)) ∙ checks_differ e))
 
 -- what the query reads differs
-reads_reached : (q : Query) (before after : Catalog) (c : Command) → KvAscends before.kv → KvAscends after.kv → not (same_catalog (reads q before) (reads q after)) ≡ true → IsReached before c after (chans q before)
+reads_reached : (q : Query) (before after : Catalog) (c : Command) → KvAscends before.kv → KvAscends after.kv → NodesStand before → NodesStand after → not (same_catalog (reads q before) (reads q after)) ≡ true → IsReached before c after (chans q before)
 unfolding reads chans fires same_catalog
-reads_reached q.Nodes before after c ab aa h = first_reached before c after Nodes [] (five _ h) refl
-reads_reached q.Services before after c ab aa h = first_reached before c after Services [] (four _ h) refl
-reads_reached (q.Service name tags) before after c ab aa h = first_reached before c after (Service name) _ h refl
-reads_reached (q.NodeServices node) before after c ab aa h = nodes_reached before after c h
-reads_reached (q.HealthService name tags passing) before after c ab aa h = first_reached before c after (Service name) _ h refl
-reads_reached (q.HealthChecks name) before after c ab aa h = checks_reached before after c h
-reads_reached (q.HealthNode node) before after c ab aa h = checks_reached before after c h
-reads_reached (q.HealthState state) before after c ab aa h = checks_reached before after c h
-reads_reached (q.Key key) before after c ab aa h = first_reached before c after (Key key) _ (key_fires key before after c ab aa h) refl
-reads_reached (q.Prefix prefix) before after c ab aa h = prefix_reached prefix before after c (Reaped ∷ []) ab aa h
-reads_reached (q.Keys prefix separator) before after c ab aa h = prefix_reached prefix before after c (Reaped ∷ []) ab aa h
-reads_reached (q.SessionInfo id) before after c ab aa h = first_reached before c after Sessions [] (one _ h) refl
-reads_reached (q.SessionsOf node) before after c ab aa h = first_reached before c after Sessions [] (one _ h) refl
-reads_reached q.Sessions before after c ab aa h = first_reached before c after Sessions [] (one _ h) refl
-reads_reached (q.QueryInfo id) before after c ab aa h = first_reached before c after Queries [] h refl
-reads_reached q.Queries before after c ab aa h = first_reached before c after Queries [] h refl
+reads_reached q.Nodes before after c ab aa sb sa h = first_reached before c after Nodes [] (five _ h) refl
+reads_reached q.Services before after c ab aa sb sa h = first_reached before c after Services [] (four _ h) refl
+reads_reached (q.Service name tags) before after c ab aa sb sa h = first_reached before c after (Service name) _ h refl
+reads_reached (q.NodeServices node) before after c ab aa sb sa h = first_reached before c after (Node node) _ h refl
+reads_reached (q.HealthService name tags passing) before after c ab aa sb sa h = first_reached before c after (Service name) _ h refl
+reads_reached (q.HealthChecks name) before after c ab aa sb sa h = checks_reached before after c h
+reads_reached (q.HealthNode node) before after c ab aa sb sa h = health_reached node before after c sb sa h (has_node node before) refl
+reads_reached (q.HealthState state) before after c ab aa sb sa h = checks_reached before after c h
+reads_reached (q.Key key) before after c ab aa sb sa h = first_reached before c after (Key key) _ (key_fires key before after c ab aa h) refl
+reads_reached (q.Prefix prefix) before after c ab aa sb sa h = prefix_reached prefix before after c (Reaped ∷ []) ab aa h
+reads_reached (q.Keys prefix separator) before after c ab aa sb sa h = prefix_reached prefix before after c (Reaped ∷ []) ab aa h
+reads_reached (q.SessionInfo id) before after c ab aa sb sa h = first_reached before c after Sessions [] (one _ h) refl
+reads_reached (q.SessionsOf node) before after c ab aa sb sa h = first_reached before c after Sessions [] (one _ h) refl
+reads_reached q.Sessions before after c ab aa sb sa h = first_reached before c after Sessions [] (one _ h) refl
+reads_reached (q.QueryInfo id) before after c ab aa sb sa h = first_reached before c after Queries [] h refl
+reads_reached q.Queries before after c ab aa sb sa h = first_reached before c after Queries [] h refl
 
 -- a key that is absent after a reap: it was absent before, or its row went
 reaped_key : (key : List ℕ) (before after : Catalog) (c : Command) → is_reap c ≡ true → (found : Option KvRow) → kv_at key before.kv ≡ found → not (is_some (kv_at key after.kv)) ≡ true
@@ -183,15 +217,6 @@ reap_reached (q.SessionsOf node) before after c r h = absurd (false≢true h)
 reap_reached q.Sessions before after c r h = absurd (false≢true h)
 reap_reached (q.QueryInfo id) before after c r h = absurd (false≢true h)
 reap_reached q.Queries before after c r h = absurd (false≢true h)
-
--- a list has an element that passes exactly where what passes has one
-pub any_filter : {A : Type 0} (test : A → Bool) (xs : List A) → list_any test (filter test xs) ≡ list_any test xs
-any_filter test [] = refl
-any_filter test (x ∷ xs) = go (test x) refl (any_filter test xs)
-  where
-    go : (b : Bool) → test x ≡ b → list_any test (filter test xs) ≡ list_any test xs → list_any test (cond b (x ∷ filter test xs) (filter test xs)) ≡ (b || list_any test xs)
-    go true e rest = ap (λ t. t || list_any test (filter test xs)) e
-    go false e rest = rest
 
 -- a name that had rows and has none has other rows
 name_fires : (name : List ℕ) (before after : Catalog) (c : Command) → has_name name before ≡ true → not (has_name name after) ≡ true → fires before c after (Service name) ≡ true
@@ -234,12 +259,58 @@ vanish_reached q.Sessions before after c v h = absurd (false≢true h)
 vanish_reached (q.QueryInfo id) before after c v h = absurd (false≢true h)
 vanish_reached q.Queries before after c v h = absurd (false≢true h)
 
-covers : (q : Query) (before after : Catalog) (c : Command) → KvAscends before.kv → KvAscends after.kv → touches q before c after ≡ true → IsReached before c after (chans q before)
+-- a node that was there and is not has other rows
+host_fires : (node : List ℕ) (before after : Catalog) (c : Command) → has_node node before ≡ true → not (has_node node after) ≡ true → fires before c after (Node node) ≡ true
+unfolding fires
+host_fires node before after c was gone = go (same_catalog (node_rows node before) (node_rows node after)) refl
+  where
+    go : (b : Bool) → same_catalog (node_rows node before) (node_rows node after) ≡ b → not b ≡ true
+    go false e = refl
+    go true e =
+        let there : has_node node after ≡ true = sym (same_host node before after (ap (λ k. k.nodes) ((catalog_decides _ _).0 e))) ∙ was in
+        absurd (false≢true (sym (ap not there) ∙ gone))
+
+host_reached : (node : List ℕ) (before after : Catalog) (c : Command) → some_node_goes before after ≡ true → not (has_node node after) ≡ true → (b : Bool) → has_node node before ≡ b
+    → IsReached before c after (Node node ∷ cond b [] (NodeGone ∷ []))
+unfolding fires
+host_reached node before after c goes gone true was = first_reached before c after (Node node) [] (host_fires node before after c was gone) refl
+host_reached node before after c goes gone false was = second_reached before c after (Node node) NodeGone [] goes refl
+
+health_gone : (node : List ℕ) (before after : Catalog) (c : Command) → some_node_goes before after ≡ true → not (has_node node after) ≡ true → (b : Bool) → has_node node before ≡ b
+    → IsReached before c after (Node node ∷ cond b (NodeChecks node) NodeGone ∷ [])
+unfolding fires
+health_gone node before after c goes gone true was = first_reached before c after (Node node) (NodeChecks node ∷ []) (host_fires node before after c was gone) refl
+health_gone node before after c goes gone false was = second_reached before c after (Node node) NodeGone [] goes refl
+
+-- what a node that goes touches
+gone_reached : (q : Query) (before after : Catalog) (c : Command) → lacks_node q after ≡ true → some_node_goes before after ≡ true → IsReached before c after (chans q before)
+unfolding chans
+gone_reached (q.NodeServices node) before after c h g = host_reached node before after c g h (has_node node before) refl
+gone_reached (q.HealthNode node) before after c h g = health_gone node before after c g h (has_node node before) refl
+gone_reached (q.Service name tags) before after c h g = absurd (false≢true h)
+gone_reached (q.HealthService name tags passing) before after c h g = absurd (false≢true h)
+gone_reached (q.Prefix prefix) before after c h g = absurd (false≢true h)
+gone_reached (q.Keys prefix separator) before after c h g = absurd (false≢true h)
+gone_reached (q.Key key) before after c h g = absurd (false≢true h)
+gone_reached q.Nodes before after c h g = absurd (false≢true h)
+gone_reached q.Services before after c h g = absurd (false≢true h)
+gone_reached (q.HealthChecks name) before after c h g = absurd (false≢true h)
+gone_reached (q.HealthState state) before after c h g = absurd (false≢true h)
+gone_reached (q.SessionInfo id) before after c h g = absurd (false≢true h)
+gone_reached (q.SessionsOf node) before after c h g = absurd (false≢true h)
+gone_reached q.Sessions before after c h g = absurd (false≢true h)
+gone_reached (q.QueryInfo id) before after c h g = absurd (false≢true h)
+gone_reached q.Queries before after c h g = absurd (false≢true h)
+
+covers : (q : Query) (before after : Catalog) (c : Command) → KvAscends before.kv → KvAscends after.kv → NodesStand before → NodesStand after → touches q before c after ≡ true → IsReached before c after (chans q before)
 unfolding touches
-covers q before after c ab aa h =
+covers q before after c ab aa sb sa h =
     elim (or_cases _ _ h) [
       | inl first ↦ elim (or_cases _ _ first) [
-        | inl differ ↦ reads_reached q before after c ab aa differ
+        | inl either ↦ elim (or_cases _ _ either) [
+          | inl goes ↦ (let parts = and_parts _ _ goes in gone_reached q before after c parts.0 parts.1)
+          | inr differ ↦ reads_reached q before after c ab aa sb sa differ
+        ]
         | inr reap ↦ (let parts = and_parts _ _ reap in reap_reached q before after c parts.0 parts.1)
       ]
       | inr vanish ↦ (let parts = and_parts _ _ vanish in vanish_reached q before after c parts.0 parts.1)
@@ -247,4 +318,7 @@ covers q before after c ab aa h =
 
 -- the covering law of any query, log and command
 pub covering_law : (q : Query) (log : List Command) (c : Command) → CoveringLaw q log c
-covering_law q log c h = covers q (catalog_at log) (catalog_at (log ++ c ∷ [])) c (kv_ascends (reverse log)) (kv_ascends (reverse (log ++ c ∷ []))) h
+covering_law q log c h =
+    let past : List Command = reverse log in
+    let more : List Command = reverse (log ++ c ∷ []) in
+    covers q (catalog_at log) (catalog_at (log ++ c ∷ [])) c (kv_ascends past) (kv_ascends more) (nodes_stand past) (nodes_stand more) h

@@ -78,7 +78,7 @@ module _ {K R : Type 0} (cmp : K → K → Ordering) (key : R → K) (total : Is
   row_at-in_order k [] = refl
   row_at-in_order k (r ∷ rows) = row_at-put cmp key total exact k r (in_order cmp key rows) ∙ ap (cond (is_eq (cmp k (key r))) (Some r)) (row_at-in_order k rows)
 
-  All-put : (P : R → Type 0) (r : R) (rows : List R) → P r → AllByRecursion P rows → AllByRecursion P (put cmp key r rows)
+  pub All-put : (P : R → Type 0) (r : R) (rows : List R) → P r → AllByRecursion P rows → AllByRecursion P (put cmp key r rows)
   unfolding put
   All-put P r rows p h = All-append P _ (r ∷ _) (All-filter P _ rows h) (p, All-filter P _ rows h)
 

@@ -1,6 +1,6 @@
 -- The index law, for every query at once: an index is the last position that touched, and what did not touch left the reads equal.
 use Rattle.std.proofs.Common.{◌≡◌, ◌≢◌, ℕ, ◌+◌, ◌<◌, ◌≤◌, Bool, true, false, cond, ◌||◌, List, [], ◌∷◌, ◌++◌, length, refl, sym, ◌∙◌, ap, subst, arith, reverse, ◌⊎◌, inl, inr}
-use Rattle.std.proofs.lemmas.Bool.{not-false, cases_lt}
+use Rattle.std.proofs.lemmas.Bool.{not-false, cases_lt, true≢false}
 use Rattle.std.proofs.lemmas.List.{reverse-append, length-append, length-reverse}
 use Rattle.cat_model.specs.Catalog.{Catalog}
 use Rattle.cat_model.specs.Queries.{reads, answer, answer_from}
@@ -14,8 +14,12 @@ use Rattle.cat_model.proofs.SameLemmas.{catalog_decides}
 -- a step that does not touch leaves the reads as they were
 pub untouched : (q : Query) (before : Catalog) (c : Command) (after : Catalog) → touches q before c after ≡ false → reads q before ≡ reads q after
 unfolding touches
-untouched q before c after h = (catalog_decides _ _).0 (not-false _ (first_of_or _ _ (first_of_or _ _ h)))
+untouched q before c after h = (catalog_decides _ _).0 (not-false _ (second_of_or _ _ (first_of_or _ _ (first_of_or _ _ h))))
   where
+    second_of_or : (x y : Bool) → (x || y) ≡ false → y ≡ false
+    second_of_or false y h = h
+    second_of_or true y h = absurd (true≢false h)
+
     first_of_or : (x y : Bool) → (x || y) ≡ false → x ≡ false
     first_of_or false y h = refl
     first_of_or true y h = h

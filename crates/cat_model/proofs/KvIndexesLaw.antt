@@ -11,7 +11,7 @@ use Rattle.cat_model.specs.Keys.{text_cmp, same_text, has_prefix, is_empty}
 use Rattle.cat_model.specs.Tables.{same_found}
 use Rattle.cat_model.specs.Same.{same_kv}
 use Rattle.cat_model.specs.Catalog.{Catalog, empty_catalog, same_catalog, kv_key, kv_at}
-use Rattle.cat_model.specs.Kv.{write_kv, written}
+use Rattle.cat_model.specs.Kv.{put_kv, write_kv, written}
 use Rattle.cat_model.specs.Machine.{Step, act, apply, end_sessions, at_past, register, deregister, create_session, set_query, freed_row, ended_holder, yes_or_no, txn_end, unless, deregister_service, deregister_check, deregister_node}
 use Rattle.cat_model.specs.Kv.{TxnRun, Went, Failed_at}
 use Rattle.cat_model.specs.Indexes.{past_index, touches, is_reap, some_vanishes}
@@ -27,9 +27,10 @@ use Rattle.cat_model.specs.declared.applied.Refuse.{Refuse}
 use Rattle.cat_model.specs.declared.row.Behavior.{Behavior}
 use Rattle.cat_model.specs.declared.row.Behavior.TheVariants as behaviors
 use Rattle.cat_model.specs.declared.command.Command.{Command}
-use Rattle.cat_model.specs.declared.command.Command.TheVariants.{Noop, Register, Deregister, KvSet, KvCas, KvLock, KvUnlock, KvDelete, KvDeleteCas, KvDeleteTree, Txn, SessionCreate, SessionDestroy, QuerySet, QueryDelete, Reap}
+use Rattle.cat_model.specs.declared.command.Command.TheVariants.{Noop, Register, Deregister, KvSet, KvCas, KvLock, KvUnlock, KvDelete, KvDeleteCas, KvDeleteTree, Txn, SessionCreate, SessionDestroy, QuerySet, QueryDelete, Reap, Upgrade}
 use Rattle.cat_model.proofs.TableLemmas.{row_at-filter, row_at-below, All-weaker, All-filter, eq_is}
 use Rattle.cat_model.proofs.Lookups.{row_at-put, row_at-filter_none, row_at-filter_map, row_then}
+use Rattle.cat_model.proofs.Writes.{left_by_write}
 use Rattle.cat_model.proofs.KvOrder.{KvAscends, kv_ascends, act_ascends}
 use Rattle.cat_model.proofs.KvKept.{IsKept, IfKept, WentKept, set_kept, cas_kept, lock_kept, unlock_kept, delete_kept, delete_tree_kept, delete_cas_kept, ops_kept}
 use Rattle.cat_model.proofs.LockLaw.{freed_key}
@@ -49,9 +50,8 @@ record Stamped (i : ℕ) (before after : List KvRow) : Type 0 where
 stamped_same : (i : ℕ) (rows : List KvRow) → Stamped i rows rows
 stamped_same i rows = record { at = λ key. same_stamp i (kv_at key rows) }
 
-stamped_write : (i : ℕ) (before : List KvRow) (key value : List ℕ) (flags : ℕ) (session : Option ℕ) (lock : ℕ) (rows : List KvRow) → Unit {0} → Stamped i before rows → Stamped i before (write_kv i key value flags session lock rows)
-unfolding write_kv
-stamped_write i before key value flags session lock rows may h = record { at = λ q. subst (λ o. Stamp i (kv_at q before) o) (sym (row_at-put text_cmp kv_key nat_list_cmp_total exact_bytes q new rows)) (go q (is_eq (text_cmp q (kv_key new)))) }
+stamped_put : (i : ℕ) (before : List KvRow) (key value : List ℕ) (flags : ℕ) (session : Option ℕ) (lock : ℕ) (rows : List KvRow) → Stamped i before rows → Stamped i before (put_kv (written i key value flags session lock (kv_at key rows)) rows)
+stamped_put i before key value flags session lock rows h = record { at = λ q. subst (λ o. Stamp i (kv_at q before) o) (sym (row_at-put text_cmp kv_key nat_list_cmp_total exact_bytes q new rows)) (go q (is_eq (text_cmp q (kv_key new)))) }
   where
     new : KvRow
     new = written i key value flags session lock (kv_at key rows)
@@ -63,6 +63,9 @@ stamped_write i before key value flags session lock rows may h = record { at = �
     go : (q : List ℕ) (b : Bool) → Stamp i (kv_at q before) (cond b (Some new) (kv_at q rows))
     go q true = inr (stamp (kv_at key rows))
     go q false = h.at q
+
+stamped_write : (i : ℕ) (before : List KvRow) (version : ℕ) (key value : List ℕ) (flags : ℕ) (session : Option ℕ) (lock : ℕ) (rows : List KvRow) → Unit {0} → Stamped i before rows → Stamped i before (write_kv version i key value flags session lock rows)
+stamped_write i before version key value flags session lock rows may h = left_by_write (Stamped i before) version i key value flags session lock rows h (stamped_put i before key value flags session lock rows h)
 
 stamped_removal : (i : ℕ) (before : List KvRow) (test : List ℕ → Bool) (rows : List KvRow) → Stamped i before rows → Stamped i before (filter (λ r. test r.key) rows)
 stamped_removal i before test rows h = record { at = λ q. go q (test q) refl }
@@ -103,19 +106,20 @@ act_stamped i (Deregister node service check) k = record { at = go (not (is_empt
     go true d = stamped_same i k.kv
     go false true = stamped_same i k.kv
     go false false = stamped_same i k.kv
-act_stamped i (KvSet key flags value) k = record { at = set_kept i (Stamped i k.kv) Any (stamped_kept i k.kv) key value flags k.kv (stamped_same i k.kv) }
-act_stamped i (KvCas key flags value index) k = yes_or_no_stamped i k _ (cas_kept i (Stamped i k.kv) Any (stamped_kept i k.kv) key value flags index k.kv (stamped_same i k.kv))
-act_stamped i (KvLock key flags value session) k = unless_stamped i _ k _ (yes_or_no_stamped i k _ (lock_kept i (Stamped i k.kv) Any (stamped_kept i k.kv) key value flags session k.kv tt (stamped_same i k.kv)))
-act_stamped i (KvUnlock key flags value session) k = yes_or_no_stamped i k _ (unlock_kept i (Stamped i k.kv) Any (stamped_kept i k.kv) key value flags session k.kv (stamped_same i k.kv))
+act_stamped i (KvSet key flags value) k = record { at = set_kept i (Stamped i k.kv) Any (stamped_kept i k.kv) k.version key value flags k.kv (stamped_same i k.kv) }
+act_stamped i (KvCas key flags value index) k = yes_or_no_stamped i k _ (cas_kept i (Stamped i k.kv) Any (stamped_kept i k.kv) k.version key value flags index k.kv (stamped_same i k.kv))
+act_stamped i (KvLock key flags value session) k = unless_stamped i _ k _ (yes_or_no_stamped i k _ (lock_kept i (Stamped i k.kv) Any (stamped_kept i k.kv) k.version key value flags session k.kv tt (stamped_same i k.kv)))
+act_stamped i (KvUnlock key flags value session) k = yes_or_no_stamped i k _ (unlock_kept i (Stamped i k.kv) Any (stamped_kept i k.kv) k.version key value flags session k.kv (stamped_same i k.kv))
 act_stamped i (KvDelete key) k = record { at = delete_kept i (Stamped i k.kv) Any (stamped_kept i k.kv) key k.kv (stamped_same i k.kv) }
 act_stamped i (KvDeleteCas key index) k = yes_or_no_stamped i k _ (delete_cas_kept i (Stamped i k.kv) Any (stamped_kept i k.kv) key index k.kv (stamped_same i k.kv))
 act_stamped i (KvDeleteTree prefix) k = record { at = delete_tree_kept i (Stamped i k.kv) Any (stamped_kept i k.kv) prefix k.kv (stamped_same i k.kv) }
-act_stamped i (Txn ops) k = txn_stamped i k _ (ops_kept i (Stamped i k.kv) Any (stamped_kept i k.kv) k.sessions (λ id e. tt) 0 ops k.kv [] (stamped_same i k.kv))
+act_stamped i (Txn ops) k = txn_stamped i k _ (ops_kept i (Stamped i k.kv) Any (stamped_kept i k.kv) k.version k.sessions (λ id e. tt) 0 ops k.kv [] (stamped_same i k.kv))
 act_stamped i (SessionCreate id name node checks behavior delay_ms ttl_ms) k = unless_stamped i _ k _ (record { at = stamped_same i k.kv })
 act_stamped i (SessionDestroy id) k = record { at = stamped_same i k.kv }
 act_stamped i (QuerySet id create name session service only_passing tags dns_ttl_ms) k = unless_stamped i _ k _ (record { at = stamped_same i k.kv })
 act_stamped i (QueryDelete id) k = record { at = stamped_same i k.kv }
 act_stamped i Reap k = record { at = stamped_same i k.kv }
+act_stamped i Upgrade k = record { at = stamped_same i k.kv }
 
 end_stamped : (i : ℕ) (gone : List SessionRow) (before : List KvRow) (k : Catalog) → KvAscends k.kv → Stamped i before k.kv → Stamped i before (end_sessions i gone k).kv
 unfolding end_sessions

@@ -17,8 +17,9 @@ use Rattle.cat_model.specs.declared.command.Verb.TheVariants.{Set, Cas, Lock, Un
 use Rattle.cat_model.specs.declared.row.Behavior.{Behavior}
 use Rattle.cat_model.specs.declared.row.Behavior.TheVariants as behaviors
 use Rattle.cat_model.specs.declared.command.Command.{Command}
-use Rattle.cat_model.specs.declared.command.Command.TheVariants.{Noop, Register, Deregister, KvSet, KvCas, KvLock, KvUnlock, KvDelete, KvDeleteCas, KvDeleteTree, Txn, SessionCreate, SessionDestroy, QuerySet, QueryDelete, Reap}
+use Rattle.cat_model.specs.declared.command.Command.TheVariants.{Noop, Register, Deregister, KvSet, KvCas, KvLock, KvUnlock, KvDelete, KvDeleteCas, KvDeleteTree, Txn, SessionCreate, SessionDestroy, QuerySet, QueryDelete, Reap, Upgrade}
 use Rattle.cat_model.proofs.TableLemmas.{Ascends-put, Ascends-filter, Ascends-filter_map}
+use Rattle.cat_model.proofs.Writes.{left_by_write}
 
 abbrev pub KvAscends : List KvRow → Type 0
 KvAscends = Ascends text_cmp kv_key
@@ -39,29 +40,29 @@ if_rows false rows h = tt
 pub put_ascends : (new : KvRow) (rows : List KvRow) → KvAscends rows → KvAscends (put_kv new rows)
 put_ascends = Ascends-put text_cmp kv_key nat_list_cmp_total
 
-write_ascends : (i : ℕ) (key value : List ℕ) (flags : ℕ) (session : Option ℕ) (lock_index : ℕ) (rows : List KvRow) → KvAscends rows → KvAscends (write_kv i key value flags session lock_index rows)
-unfolding write_kv
-write_ascends i key value flags session lock_index rows h = Ascends-put text_cmp kv_key nat_list_cmp_total (written i key value flags session lock_index (kv_at key rows)) rows h
+write_ascends : (version i : ℕ) (key value : List ℕ) (flags : ℕ) (session : Option ℕ) (lock_index : ℕ) (rows : List KvRow) → KvAscends rows → KvAscends (write_kv version i key value flags session lock_index rows)
+write_ascends version i key value flags session lock_index rows h =
+    left_by_write KvAscends version i key value flags session lock_index rows h (put_ascends (written i key value flags session lock_index (kv_at key rows)) rows h)
 
-set_ascends : (i : ℕ) (key value : List ℕ) (flags : ℕ) (rows : List KvRow) → KvAscends rows → KvAscends (kv_set i key value flags rows)
+set_ascends : (version i : ℕ) (key value : List ℕ) (flags : ℕ) (rows : List KvRow) → KvAscends rows → KvAscends (kv_set version i key value flags rows)
 unfolding kv_set
-set_ascends i key value flags rows h = write_ascends i key value flags _ _ rows h
+set_ascends version i key value flags rows h = write_ascends version i key value flags _ _ rows h
 
-cas_ascends : (i : ℕ) (key value : List ℕ) (flags n : ℕ) (rows : List KvRow) → KvAscends rows → IfRows (kv_cas i key value flags n rows)
+cas_ascends : (version i : ℕ) (key value : List ℕ) (flags n : ℕ) (rows : List KvRow) → KvAscends rows → IfRows (kv_cas version i key value flags n rows)
 unfolding kv_cas
-cas_ascends i key value flags n rows h = if_rows _ _ (set_ascends i key value flags rows h)
+cas_ascends version i key value flags n rows h = if_rows _ _ (set_ascends version i key value flags rows h)
 
-lock_ascends : (i : ℕ) (key value : List ℕ) (flags id : ℕ) (rows : List KvRow) → KvAscends rows → IfRows (kv_lock i key value flags id rows)
+lock_ascends : (version i : ℕ) (key value : List ℕ) (flags id : ℕ) (rows : List KvRow) → KvAscends rows → IfRows (kv_lock version i key value flags id rows)
 unfolding kv_lock
-lock_ascends i key value flags id rows h = go (same_option (holder (kv_at key rows)) None)
+lock_ascends version i key value flags id rows h = go (same_option (holder (kv_at key rows)) None)
   where
-    go : (b : Bool) → IfRows (cond b (Some (write_kv i key value flags (Some id) (locks (kv_at key rows) + 1) rows)) (cond (same_option (holder (kv_at key rows)) (Some id)) (Some (write_kv i key value flags (Some id) (locks (kv_at key rows)) rows)) None))
-    go true = write_ascends i key value flags _ _ rows h
-    go false = if_rows _ _ (write_ascends i key value flags _ _ rows h)
+    go : (b : Bool) → IfRows (cond b (Some (write_kv version i key value flags (Some id) (locks (kv_at key rows) + 1) rows)) (cond (same_option (holder (kv_at key rows)) (Some id)) (Some (write_kv version i key value flags (Some id) (locks (kv_at key rows)) rows)) None))
+    go true = write_ascends version i key value flags _ _ rows h
+    go false = if_rows _ _ (write_ascends version i key value flags _ _ rows h)
 
-unlock_ascends : (i : ℕ) (key value : List ℕ) (flags id : ℕ) (rows : List KvRow) → KvAscends rows → IfRows (kv_unlock i key value flags id rows)
+unlock_ascends : (version i : ℕ) (key value : List ℕ) (flags id : ℕ) (rows : List KvRow) → KvAscends rows → IfRows (kv_unlock version i key value flags id rows)
 unfolding kv_unlock
-unlock_ascends i key value flags id rows h = if_rows _ _ (write_ascends i key value flags _ _ rows h)
+unlock_ascends version i key value flags id rows h = if_rows _ _ (write_ascends version i key value flags _ _ rows h)
 
 pub delete_ascends : (key : List ℕ) (rows : List KvRow) → KvAscends rows → KvAscends (kv_delete key rows)
 unfolding kv_delete
@@ -92,44 +93,44 @@ if_outcome true x y h g = h
 if_outcome false x y h g = g
 
 -- each operation of a transaction keeps the order
-operate_ascends : (i : ℕ) (sessions : List SessionRow) (verb : Verb) (op : TxnOp) (rows : List KvRow) → KvAscends rows → IfOutcome (operate i sessions verb op rows)
-operate_ascends i sessions Set op rows h = set_ascends i op.key op.value op.flags rows h
-operate_ascends i sessions Cas op rows h = giving_ascends op.key _ (cas_ascends i op.key op.value op.flags op.index rows h)
-operate_ascends i sessions Lock op rows h = go op.session
+operate_ascends : (version i : ℕ) (sessions : List SessionRow) (verb : Verb) (op : TxnOp) (rows : List KvRow) → KvAscends rows → IfOutcome (operate version i sessions verb op rows)
+operate_ascends version i sessions Set op rows h = set_ascends version i op.key op.value op.flags rows h
+operate_ascends version i sessions Cas op rows h = giving_ascends op.key _ (cas_ascends version i op.key op.value op.flags op.index rows h)
+operate_ascends version i sessions Lock op rows h = go op.session
   where
-    go : (s : Option ℕ) → IfOutcome (by_session sessions s (λ id. giving op.key (kv_lock i op.key op.value op.flags id rows)))
+    go : (s : Option ℕ) → IfOutcome (by_session sessions s (λ id. giving op.key (kv_lock version i op.key op.value op.flags id rows)))
     go None = tt
-    go (Some id) = if_outcome (is_some (session_at id sessions)) (giving op.key (kv_lock i op.key op.value op.flags id rows)) None (giving_ascends op.key (kv_lock i op.key op.value op.flags id rows) (lock_ascends i op.key op.value op.flags id rows h)) tt
-operate_ascends i sessions Unlock op rows h = giving_ascends op.key _ (elim op.session as (λ s. IfRows (elim s as (λ _. Option (List KvRow)) [ None ↦ None | Some id ↦ kv_unlock i op.key op.value op.flags id rows ])) [ None ↦ tt | Some id ↦ unlock_ascends i op.key op.value op.flags id rows h ])
-operate_ascends i sessions Get op rows h = go (kv_at op.key rows)
+    go (Some id) = if_outcome (is_some (session_at id sessions)) (giving op.key (kv_lock version i op.key op.value op.flags id rows)) None (giving_ascends op.key (kv_lock version i op.key op.value op.flags id rows) (lock_ascends version i op.key op.value op.flags id rows h)) tt
+operate_ascends version i sessions Unlock op rows h = giving_ascends op.key _ (elim op.session as (λ s. IfRows (elim s as (λ _. Option (List KvRow)) [ None ↦ None | Some id ↦ kv_unlock version i op.key op.value op.flags id rows ])) [ None ↦ tt | Some id ↦ unlock_ascends version i op.key op.value op.flags id rows h ])
+operate_ascends version i sessions Get op rows h = go (kv_at op.key rows)
   where
     go : (o : Option KvRow) → IfOutcome (got rows o)
     go None = tt
     go (Some r) = h
-operate_ascends i sessions GetOrEmpty op rows h = go (kv_at op.key rows)
+operate_ascends version i sessions GetOrEmpty op rows h = go (kv_at op.key rows)
   where
     go : (o : Option KvRow) → IfOutcome (got_or_empty op.key rows o)
     go None = h
     go (Some r) = h
-operate_ascends i sessions GetTree op rows h = h
-operate_ascends i sessions CheckIndex op rows h = if_outcome _ (giving op.key (Some rows)) None h tt
-operate_ascends i sessions CheckSession op rows h = if_outcome (held_by op.session (kv_at op.key rows)) (giving op.key (Some rows)) None h tt
-operate_ascends i sessions CheckNotExists op rows h = if_outcome (is_some (kv_at op.key rows)) None (Some (rows, [])) tt h
-operate_ascends i sessions Delete op rows h = delete_ascends op.key rows h
-operate_ascends i sessions DeleteTree op rows h = delete_tree_ascends op.key rows h
-operate_ascends i sessions DeleteCas op rows h = giving_nothing_ascends _ (delete_cas_ascends op.key op.index rows h)
+operate_ascends version i sessions GetTree op rows h = h
+operate_ascends version i sessions CheckIndex op rows h = if_outcome _ (giving op.key (Some rows)) None h tt
+operate_ascends version i sessions CheckSession op rows h = if_outcome (held_by op.session (kv_at op.key rows)) (giving op.key (Some rows)) None h tt
+operate_ascends version i sessions CheckNotExists op rows h = if_outcome (is_some (kv_at op.key rows)) None (Some (rows, [])) tt h
+operate_ascends version i sessions Delete op rows h = delete_ascends op.key rows h
+operate_ascends version i sessions DeleteTree op rows h = delete_tree_ascends op.key rows h
+operate_ascends version i sessions DeleteCas op rows h = giving_nothing_ascends _ (delete_cas_ascends op.key op.index rows h)
 
 abbrev IfWent : TxnRun → Type 0
 IfWent (Went rows results) = KvAscends rows
 IfWent (Failed_at at verb) = Unit {0}
 
-ops_ascend : (i : ℕ) (sessions : List SessionRow) (at : ℕ) (ops : List TxnOp) (rows : List KvRow) (results : List TxnResult) → KvAscends rows → IfWent (run_ops i sessions at ops rows results)
+ops_ascend : (version i : ℕ) (sessions : List SessionRow) (at : ℕ) (ops : List TxnOp) (rows : List KvRow) (results : List TxnResult) → KvAscends rows → IfWent (run_ops version i sessions at ops rows results)
 unfolding run_ops
-ops_ascend i sessions at [] rows results h = h
-ops_ascend i sessions at (op ∷ ops) rows results h = go (operate i sessions op.verb op rows) (operate_ascends i sessions op.verb op rows h) (λ rows' results' h'. ops_ascend i sessions (at + 1) ops rows' results' h')
+ops_ascend version i sessions at [] rows results h = h
+ops_ascend version i sessions at (op ∷ ops) rows results h = go (operate version i sessions op.verb op rows) (operate_ascends version i sessions op.verb op rows h) (λ rows' results' h'. ops_ascend version i sessions (at + 1) ops rows' results' h')
   where
-    go : (o : Outcome) → IfOutcome o → ((rows' : List KvRow) (results' : List TxnResult) → KvAscends rows' → IfWent (run_ops i sessions (at + 1) ops rows' results'))
-        → IfWent (goes_on o (Failed_at at op.verb) (λ done. run_ops i sessions (at + 1) ops done.0 (results ++ done.1)))
+    go : (o : Outcome) → IfOutcome o → ((rows' : List KvRow) (results' : List TxnResult) → KvAscends rows' → IfWent (run_ops version i sessions (at + 1) ops rows' results'))
+        → IfWent (goes_on o (Failed_at at op.verb) (λ done. run_ops version i sessions (at + 1) ops done.0 (results ++ done.1)))
     go None k rest = tt
     go (Some done) k rest = rest done.0 (results ++ done.1) k
 
@@ -165,19 +166,20 @@ unfolding act register create_session set_query
 act_ascends i Noop k h = h
 act_ascends i (Register node address service checks) k h = unless_ascends _ k _ h h
 act_ascends i (Deregister node service check) k h = deregister_ascends node service check k h
-act_ascends i (KvSet key flags value) k h = set_ascends i key value flags k.kv h
-act_ascends i (KvCas key flags value index) k h = yes_or_no_ascends k _ h (cas_ascends i key value flags index k.kv h)
-act_ascends i (KvLock key flags value session) k h = unless_ascends _ k _ h (yes_or_no_ascends k _ h (lock_ascends i key value flags session k.kv h))
-act_ascends i (KvUnlock key flags value session) k h = yes_or_no_ascends k _ h (unlock_ascends i key value flags session k.kv h)
+act_ascends i (KvSet key flags value) k h = set_ascends k.version i key value flags k.kv h
+act_ascends i (KvCas key flags value index) k h = yes_or_no_ascends k _ h (cas_ascends k.version i key value flags index k.kv h)
+act_ascends i (KvLock key flags value session) k h = unless_ascends _ k _ h (yes_or_no_ascends k _ h (lock_ascends k.version i key value flags session k.kv h))
+act_ascends i (KvUnlock key flags value session) k h = yes_or_no_ascends k _ h (unlock_ascends k.version i key value flags session k.kv h)
 act_ascends i (KvDelete key) k h = delete_ascends key k.kv h
 act_ascends i (KvDeleteCas key index) k h = yes_or_no_ascends k _ h (delete_cas_ascends key index k.kv h)
 act_ascends i (KvDeleteTree prefix) k h = delete_tree_ascends prefix k.kv h
-act_ascends i (Txn ops) k h = txn_ascends k _ h (ops_ascend i k.sessions 0 ops k.kv [] h)
+act_ascends i (Txn ops) k h = txn_ascends k _ h (ops_ascend k.version i k.sessions 0 ops k.kv [] h)
 act_ascends i (SessionCreate id name node checks behavior delay_ms ttl_ms) k h = unless_ascends _ k _ h h
 act_ascends i (SessionDestroy id) k h = h
 act_ascends i (QuerySet id create name session service only_passing tags dns_ttl_ms) k h = unless_ascends _ k _ h h
 act_ascends i (QueryDelete id) k h = h
 act_ascends i Reap k h = h
+act_ascends i Upgrade k h = h
 
 -- and so do the sessions that end
 end_ascends : (i : ℕ) (gone : List SessionRow) (k : Catalog) → KvAscends k.kv → KvAscends (end_sessions i gone k).kv

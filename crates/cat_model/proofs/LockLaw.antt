@@ -9,7 +9,7 @@ use Rattle.std.proofs.lemmas.List.{reverse-append, length-reverse}
 use Rattle.cat_model.specs.Keys.{text_cmp, is_empty}
 use Rattle.cat_model.specs.Tables.{put, without}
 use Rattle.cat_model.specs.Catalog.{Catalog, kv_key, kv_at, session_at, session_key}
-use Rattle.cat_model.specs.Kv.{write_kv, kv_set, kv_lock, kv_delete, kv_delete_tree, run_ops, TxnRun, Went, Failed_at, written, holder}
+use Rattle.cat_model.specs.Kv.{put_kv, write_kv, kv_set, kv_lock, kv_delete, kv_delete_tree, run_ops, TxnRun, Went, Failed_at, written, holder}
 use Rattle.cat_model.specs.Machine.{Step, act, apply, end_sessions, at_past, catalog_at, register, deregister, create_session, set_query, freed_row, ended_holder, ends, names, broken, yes_or_no, txn_end, unless, refusal_of, deregister_service, deregister_check, deregister_node}
 use Rattle.cat_model.specs.Locks.{LockMove, IsLockStep, known, HoldersStand, is_txn, LockLaw}
 use Rattle.cat_model.specs.declared.row.KvRow.{KvRow}
@@ -20,8 +20,9 @@ use Rattle.cat_model.specs.declared.applied.Refuse.TheVariants as refusals
 use Rattle.cat_model.specs.declared.row.Behavior.{Behavior}
 use Rattle.cat_model.specs.declared.row.Behavior.TheVariants as behaviors
 use Rattle.cat_model.specs.declared.command.Command.{Command}
-use Rattle.cat_model.specs.declared.command.Command.TheVariants.{Noop, Register, Deregister, KvSet, KvCas, KvLock, KvUnlock, KvDelete, KvDeleteCas, KvDeleteTree, Txn, SessionCreate, SessionDestroy, QuerySet, QueryDelete, Reap}
+use Rattle.cat_model.specs.declared.command.Command.TheVariants.{Noop, Register, Deregister, KvSet, KvCas, KvLock, KvUnlock, KvDelete, KvDeleteCas, KvDeleteTree, Txn, SessionCreate, SessionDestroy, QuerySet, QueryDelete, Reap, Upgrade}
 use Rattle.cat_model.proofs.TableLemmas.{All-filter, All-weaker, All-append, row_at-filter}
+use Rattle.cat_model.proofs.Writes.{left_by_write}
 use Rattle.cat_model.proofs.KvOrder.{KvAscends, kv_ascends, act_ascends}
 use Rattle.cat_model.proofs.Lookups.{row_at-put, row_at-filter_map, row_then}
 use Rattle.cat_model.proofs.KvKept.{IsKept, IfKept, WentKept, set_kept, cas_kept, lock_kept, unlock_kept, delete_kept, delete_tree_kept, delete_cas_kept, ops_kept}
@@ -122,10 +123,10 @@ act_keys i (Deregister node service check) k t = inr (record { same = go (not (i
     go true d = refl
     go false true = refl
     go false false = refl
-act_keys i (KvSet key flags value) k t = inl (record { rows = kv_set i key value flags k.kv; same = refl; step = set_step i key value flags k.kv }, λ s. refl)
-act_keys i (KvCas key flags value index) k t = inl (yes_or_no_keys k _ (cas_step i key value flags index k.kv), λ s. refl)
-act_keys i (KvLock key flags value session) k t = inl (unless_keys _ k _ (yes_or_no_keys k _ (lock_step i key value flags session k.kv)), λ s. refl)
-act_keys i (KvUnlock key flags value session) k t = inl (yes_or_no_keys k _ (unlock_step i key value flags session k.kv), λ s. refl)
+act_keys i (KvSet key flags value) k t = inl (record { rows = kv_set k.version i key value flags k.kv; same = refl; step = set_step k.version i key value flags k.kv }, λ s. refl)
+act_keys i (KvCas key flags value index) k t = inl (yes_or_no_keys k _ (cas_step k.version i key value flags index k.kv), λ s. refl)
+act_keys i (KvLock key flags value session) k t = inl (unless_keys _ k _ (yes_or_no_keys k _ (lock_step k.version i key value flags session k.kv)), λ s. refl)
+act_keys i (KvUnlock key flags value session) k t = inl (yes_or_no_keys k _ (unlock_step k.version i key value flags session k.kv), λ s. refl)
 act_keys i (KvDelete key) k t = inl (record { rows = kv_delete key k.kv; same = refl; step = delete_step key k.kv }, λ s. refl)
 act_keys i (KvDeleteCas key index) k t = inl (yes_or_no_keys k _ (delete_cas_step key index k.kv), λ s. refl)
 act_keys i (KvDeleteTree prefix) k t = inl (record { rows = kv_delete_tree prefix k.kv; same = refl; step = delete_tree_step prefix k.kv }, λ s. refl)
@@ -135,6 +136,7 @@ act_keys i (SessionDestroy id) k t = inr (record { same = refl })
 act_keys i (QuerySet id create name session service only_passing tags dns_ttl_ms) k t = inr (unless_off _ k _ (record { same = refl }))
 act_keys i (QueryDelete id) k t = inr (record { same = refl })
 act_keys i Reap k t = inr (record { same = refl })
+act_keys i Upgrade k t = inr (record { same = refl })
 
 or_false : (b : Bool) → (b || false) ≡ b
 or_false true = refl
@@ -195,14 +197,17 @@ held_old sessions key rows h = go (kv_at key rows) refl
     go None e = refl
     go (Some r) e = found_in (λ x. known sessions x.session ≡ true) (λ x. is_eq (text_cmp key x.key)) rows h r e
 
-held_write : (sessions : List SessionRow) (i : ℕ) (key value : List ℕ) (flags : ℕ) (session : Option ℕ) (lock : ℕ) (rows : List KvRow) → known sessions session ≡ true → Held sessions rows → Held sessions (write_kv i key value flags session lock rows)
-unfolding write_kv put
-held_write sessions i key value flags session lock rows may h =
+held_put : (sessions : List SessionRow) (i : ℕ) (key value : List ℕ) (flags : ℕ) (session : Option ℕ) (lock : ℕ) (rows : List KvRow) → known sessions session ≡ true → Held sessions rows → Held sessions (put_kv (written i key value flags session lock (kv_at key rows)) rows)
+unfolding put
+held_put sessions i key value flags session lock rows may h =
     All-append (λ r. known sessions r.session ≡ true) _ _ (All-filter _ _ rows h) (go (kv_at key rows), All-filter _ _ rows h)
   where
     go : (o : Option KvRow) → known sessions (written i key value flags session lock o).session ≡ true
     go None = may
     go (Some r) = may
+
+held_write : (sessions : List SessionRow) (i version : ℕ) (key value : List ℕ) (flags : ℕ) (session : Option ℕ) (lock : ℕ) (rows : List KvRow) → known sessions session ≡ true → Held sessions rows → Held sessions (write_kv version i key value flags session lock rows)
+held_write sessions i version key value flags session lock rows may h = left_by_write (Held sessions) version i key value flags session lock rows h (held_put sessions i key value flags session lock rows may h)
 
 held_kept : (i : ℕ) (sessions : List SessionRow) → IsKept i (Held sessions) (λ o. known sessions o ≡ true)
 held_kept i sessions = record {
@@ -258,18 +263,18 @@ act_held i (Deregister node service check) k h = record { at = go (not (is_empty
     go true d = h
     go false true = h
     go false false = h
-act_held i (KvSet key flags value) k h = record { at = set_kept i (Held k.sessions) (λ o. known k.sessions o ≡ true) (held_kept i k.sessions) key value flags k.kv h }
-act_held i (KvCas key flags value index) k h = yes_or_no_held i k _ h (cas_kept i (Held k.sessions) (λ o. known k.sessions o ≡ true) (held_kept i k.sessions) key value flags index k.kv h)
+act_held i (KvSet key flags value) k h = record { at = set_kept i (Held k.sessions) (λ o. known k.sessions o ≡ true) (held_kept i k.sessions) k.version key value flags k.kv h }
+act_held i (KvCas key flags value index) k h = yes_or_no_held i k _ h (cas_kept i (Held k.sessions) (λ o. known k.sessions o ≡ true) (held_kept i k.sessions) k.version key value flags index k.kv h)
 act_held i (KvLock key flags value session) k h = go (is_some (session_at session k.sessions)) refl
   where
-    go : (b : Bool) → is_some (session_at session k.sessions) ≡ b → StepHeld (unless (refusal_of ((not b, refusals.UnknownSession) ∷ [])) k (yes_or_no k (kv_lock i key value flags session k.kv)))
-    go true e = unless_held _ k _ h (yes_or_no_held i k _ h (lock_kept i (Held k.sessions) (λ o. known k.sessions o ≡ true) (held_kept i k.sessions) key value flags session k.kv e h))
+    go : (b : Bool) → is_some (session_at session k.sessions) ≡ b → StepHeld (unless (refusal_of ((not b, refusals.UnknownSession) ∷ [])) k (yes_or_no k (kv_lock k.version i key value flags session k.kv)))
+    go true e = unless_held _ k _ h (yes_or_no_held i k _ h (lock_kept i (Held k.sessions) (λ o. known k.sessions o ≡ true) (held_kept i k.sessions) k.version key value flags session k.kv e h))
     go false e = refused_held refusals.UnknownSession k _ h
-act_held i (KvUnlock key flags value session) k h = yes_or_no_held i k _ h (unlock_kept i (Held k.sessions) (λ o. known k.sessions o ≡ true) (held_kept i k.sessions) key value flags session k.kv h)
+act_held i (KvUnlock key flags value session) k h = yes_or_no_held i k _ h (unlock_kept i (Held k.sessions) (λ o. known k.sessions o ≡ true) (held_kept i k.sessions) k.version key value flags session k.kv h)
 act_held i (KvDelete key) k h = record { at = delete_kept i (Held k.sessions) (λ o. known k.sessions o ≡ true) (held_kept i k.sessions) key k.kv h }
 act_held i (KvDeleteCas key index) k h = yes_or_no_held i k _ h (delete_cas_kept i (Held k.sessions) (λ o. known k.sessions o ≡ true) (held_kept i k.sessions) key index k.kv h)
 act_held i (KvDeleteTree prefix) k h = record { at = delete_tree_kept i (Held k.sessions) (λ o. known k.sessions o ≡ true) (held_kept i k.sessions) prefix k.kv h }
-act_held i (Txn ops) k h = txn_held i k _ h (ops_kept i (Held k.sessions) (λ o. known k.sessions o ≡ true) (held_kept i k.sessions) k.sessions (λ id e. e) 0 ops k.kv [] h)
+act_held i (Txn ops) k h = txn_held i k _ h (ops_kept i (Held k.sessions) (λ o. known k.sessions o ≡ true) (held_kept i k.sessions) k.version k.sessions (λ id e. e) 0 ops k.kv [] h)
 act_held i (SessionCreate id name node checks behavior delay_ms ttl_ms) k h =
     unless_held _ k _ h (record { at = held_more k.sessions (put nat_cmp session_key new k.sessions) (session_more new k.sessions) k.kv h })
   where
@@ -279,6 +284,7 @@ act_held i (SessionDestroy id) k h = record { at = h }
 act_held i (QuerySet id create name session service only_passing tags dns_ttl_ms) k h = unless_held _ k _ h (record { at = h })
 act_held i (QueryDelete id) k h = record { at = h }
 act_held i Reap k h = record { at = h }
+act_held i Upgrade k h = record { at = h }
 
 All-filter_map : {R : Type 0} (P Q : R → Type 0) (f : R → Option R) → ((r s : R) → P r → f r ≡ Some s → Q s) → (rows : List R) → AllByRecursion P rows → AllByRecursion Q (filter_map f rows)
 All-filter_map {R = R} P Q f gives [] h = tt
@@ -382,7 +388,7 @@ txn_keys k (Failed_at at verb) = refl
 -- a transaction leaves the keys that its operations made
 txn_step : (i : ℕ) (ops : List TxnOp) (k : Catalog) → HoldersStand k → (apply i (Txn ops) k).0.kv ≡ (act i (Txn ops) k).0.kv
 unfolding act
-txn_step i ops k stand = keys_after i (Txn ops) k _ stand (txn_keys k (run_ops i k.sessions 0 ops k.kv [])) (λ s. refl)
+txn_step i ops k stand = keys_after i (Txn ops) k _ stand (txn_keys k (run_ops k.version i k.sessions 0 ops k.kv [])) (λ s. refl)
 
 -- the lock law
 pub lock_law : (log : List Command) → LockLaw log

@@ -17,7 +17,7 @@ use Rattle.cat_model.specs.declared.command.NewService.{NewService}
 use Rattle.cat_model.specs.declared.command.NewCheck.{NewCheck}
 use Rattle.cat_model.specs.declared.applied.Refuse.{Refuse}
 use Rattle.cat_model.specs.declared.command.Command.{Command}
-use Rattle.cat_model.specs.declared.command.Command.TheVariants.{Noop, Register, Deregister, KvSet, KvCas, KvLock, KvUnlock, KvDelete, KvDeleteCas, KvDeleteTree, Txn, SessionCreate, SessionDestroy, QuerySet, QueryDelete, Reap}
+use Rattle.cat_model.specs.declared.command.Command.TheVariants.{Noop, Register, Deregister, KvSet, KvCas, KvLock, KvUnlock, KvDelete, KvDeleteCas, KvDeleteTree, Txn, SessionCreate, SessionDestroy, QuerySet, QueryDelete, Reap, Upgrade}
 use Rattle.cat_model.proofs.TableLemmas.{Ascends-put, Ascends-filter}
 use Rattle.cat_model.proofs.Pairs.{pair_cmp_total}
 use Rattle.cat_model.proofs.KvOrder.{kv_ascends}
@@ -145,6 +145,7 @@ act_others i (QuerySet id create name session service only_passing tags dns_ttl_
     unless_others _ k _ h (record { at = record { nodes_ascend = h.nodes_ascend; services_ascend = h.services_ascend; checks_ascend = h.checks_ascend; sessions_ascend = h.sessions_ascend; queries_ascend = Ascends-put nat_cmp query_key nat_cmp_total _ k.queries h.queries_ascend } })
 act_others i (QueryDelete id) k h = record { at = record { nodes_ascend = h.nodes_ascend; services_ascend = h.services_ascend; checks_ascend = h.checks_ascend; sessions_ascend = h.sessions_ascend; queries_ascend = Ascends-filter nat_cmp query_key nat_cmp_total _ k.queries h.queries_ascend } }
 act_others i Reap k h = record { at = h }
+act_others i Upgrade k h = record { at = h }
 
 end_others : (i : ℕ) (gone : List SessionRow) (k : Catalog) → OthersOf k → OthersOf (end_sessions i gone k)
 unfolding end_sessions

@@ -18,10 +18,10 @@ use Rattle.cat_model.specs.declared.query.Query.{Query}
 use Rattle.cat_model.specs.declared.query.Query.TheVariants as q
 use Rattle.cat_model.specs.declared.command.Command.{Command}
 use Rattle.cat_model.specs.declared.query.Chan.{Chan}
-use Rattle.cat_model.specs.declared.query.Chan.TheVariants.{Nodes, Services, Checks, Sessions, Queries, Service, Vanished, Key, Prefix, Reaped}
+use Rattle.cat_model.specs.declared.query.Chan.TheVariants.{Nodes, Services, Checks, Sessions, Queries, Service, Vanished, Node, NodeChecks, NodeGone, Key, Prefix, Reaped}
 use Rattle.cat_model.proofs.SameLemmas.{text_decides}
 use Rattle.cat_model.proofs.TableLemmas.{row_at-filter}
-use Rattle.cat_model.proofs.Covering.{covering_law, any_filter}
+use Rattle.cat_model.proofs.Covering.{covering_law, any_filter, same_host}
 
 -- a name has rows where its reads have
 pub same_name : (name : List ℕ) (before after : Catalog) → filter (λ s. same_text s.name name) before.services ≡ filter (λ s. same_text s.name name) after.services → has_name name before ≡ has_name name after
@@ -37,16 +37,22 @@ same_key key before after e = sym (found before) ∙ ap (row_at text_cmp kv_key 
 abbrev on_name : List ℕ → Bool → List Chan
 on_name name b = Service name ∷ cond b [] (Vanished ∷ [])
 
+abbrev on_node : List ℕ → Bool → List Chan
+on_node node b = Node node ∷ cond b [] (NodeGone ∷ [])
+
+abbrev on_health : List ℕ → Bool → List Chan
+on_health node b = Node node ∷ cond b (NodeChecks node) NodeGone ∷ []
+
 -- equal reads give equal channels
 pub same_chans : (q : Query) (before after : Catalog) → reads q before ≡ reads q after → chans q before ≡ chans q after
 unfolding chans reads
 same_chans q.Nodes before after e = refl
 same_chans q.Services before after e = refl
 same_chans (q.Service name tags) before after e = ap (on_name name) (same_name name before after (ap (λ k. k.services) e))
-same_chans (q.NodeServices node) before after e = refl
+same_chans (q.NodeServices node) before after e = ap (on_node node) (same_host node before after (ap (λ k. k.nodes) e))
 same_chans (q.HealthService name tags passing) before after e = ap (on_name name) (same_name name before after (ap (λ k. k.services) e))
 same_chans (q.HealthChecks name) before after e = refl
-same_chans (q.HealthNode node) before after e = refl
+same_chans (q.HealthNode node) before after e = ap (on_health node) (same_host node before after (ap (λ k. k.nodes) e))
 same_chans (q.HealthState state) before after e = refl
 same_chans (q.Key key) before after e = ap (λ o. Key key ∷ cond (is_some o) [] (Reaped ∷ [])) (same_key key before after (ap (λ k. k.kv) e))
 same_chans (q.Prefix prefix) before after e = refl
@@ -71,6 +77,9 @@ reaches_itself Sessions = refl
 reaches_itself Queries = refl
 reaches_itself (Service name) = (text_decides name name).1 refl
 reaches_itself Vanished = refl
+reaches_itself (Node node) = (text_decides node node).1 refl
+reaches_itself (NodeChecks node) = (text_decides node node).1 refl
+reaches_itself NodeGone = refl
 reaches_itself (Key key) = (text_decides key key).1 refl
 reaches_itself (Prefix prefix) = (text_decides prefix prefix).1 refl
 reaches_itself Reaped = refl
@@ -87,6 +96,9 @@ is_reaching Sessions c r = equal_reaches Sessions c r
 is_reaching Queries c r = equal_reaches Queries c r
 is_reaching (Service name) c r = equal_reaches (Service name) c r
 is_reaching Vanished c r = equal_reaches Vanished c r
+is_reaching (Node node) c r = equal_reaches (Node node) c r
+is_reaching (NodeChecks node) c r = equal_reaches (NodeChecks node) c r
+is_reaching NodeGone c r = equal_reaches NodeGone c r
 is_reaching (Key key) (Prefix prefix) r = r
 is_reaching (Key key) Nodes r = equal_reaches (Key key) Nodes r
 is_reaching (Key key) Services r = equal_reaches (Key key) Services r
@@ -95,6 +107,9 @@ is_reaching (Key key) Sessions r = equal_reaches (Key key) Sessions r
 is_reaching (Key key) Queries r = equal_reaches (Key key) Queries r
 is_reaching (Key key) (Service name) r = equal_reaches (Key key) (Service name) r
 is_reaching (Key key) Vanished r = equal_reaches (Key key) Vanished r
+is_reaching (Key key) (Node node) r = equal_reaches (Key key) (Node node) r
+is_reaching (Key key) (NodeChecks node) r = equal_reaches (Key key) (NodeChecks node) r
+is_reaching (Key key) NodeGone r = equal_reaches (Key key) NodeGone r
 is_reaching (Key key) (Key other) r = equal_reaches (Key key) (Key other) r
 is_reaching (Key key) Reaped r = equal_reaches (Key key) Reaped r
 is_reaching (Prefix prefix) c r = equal_reaches (Prefix prefix) c r
@@ -110,9 +125,60 @@ name_reaches name Checks h = absurd (false≢true h)
 name_reaches name Sessions h = absurd (false≢true h)
 name_reaches name Queries h = absurd (false≢true h)
 name_reaches name Vanished h = absurd (false≢true h)
+name_reaches name (Node node) h = absurd (false≢true h)
+name_reaches name (NodeChecks node) h = absurd (false≢true h)
+name_reaches name NodeGone h = absurd (false≢true h)
 name_reaches name (Key key) h = absurd (false≢true h)
 name_reaches name (Prefix prefix) h = absurd (false≢true h)
 name_reaches name Reaped h = absurd (false≢true h)
+
+node_reaches : (node : List ℕ) (c : Chan) → reaches (Node node) c ≡ true → Node node ≡ c
+unfolding reaches
+node_reaches node (Node other) h = ap Node ((text_decides node other).0 h)
+node_reaches node Nodes h = absurd (false≢true h)
+node_reaches node Services h = absurd (false≢true h)
+node_reaches node Checks h = absurd (false≢true h)
+node_reaches node Sessions h = absurd (false≢true h)
+node_reaches node Queries h = absurd (false≢true h)
+node_reaches node (Service name) h = absurd (false≢true h)
+node_reaches node Vanished h = absurd (false≢true h)
+node_reaches node (NodeChecks other) h = absurd (false≢true h)
+node_reaches node NodeGone h = absurd (false≢true h)
+node_reaches node (Key key) h = absurd (false≢true h)
+node_reaches node (Prefix prefix) h = absurd (false≢true h)
+node_reaches node Reaped h = absurd (false≢true h)
+
+node_checks_reaches : (node : List ℕ) (c : Chan) → reaches (NodeChecks node) c ≡ true → NodeChecks node ≡ c
+unfolding reaches
+node_checks_reaches node (NodeChecks other) h = ap NodeChecks ((text_decides node other).0 h)
+node_checks_reaches node Nodes h = absurd (false≢true h)
+node_checks_reaches node Services h = absurd (false≢true h)
+node_checks_reaches node Checks h = absurd (false≢true h)
+node_checks_reaches node Sessions h = absurd (false≢true h)
+node_checks_reaches node Queries h = absurd (false≢true h)
+node_checks_reaches node (Service name) h = absurd (false≢true h)
+node_checks_reaches node Vanished h = absurd (false≢true h)
+node_checks_reaches node (Node other) h = absurd (false≢true h)
+node_checks_reaches node NodeGone h = absurd (false≢true h)
+node_checks_reaches node (Key key) h = absurd (false≢true h)
+node_checks_reaches node (Prefix prefix) h = absurd (false≢true h)
+node_checks_reaches node Reaped h = absurd (false≢true h)
+
+node_gone_reaches : (c : Chan) → reaches NodeGone c ≡ true → NodeGone ≡ c
+unfolding reaches
+node_gone_reaches NodeGone h = refl
+node_gone_reaches Nodes h = absurd (false≢true h)
+node_gone_reaches Services h = absurd (false≢true h)
+node_gone_reaches Checks h = absurd (false≢true h)
+node_gone_reaches Sessions h = absurd (false≢true h)
+node_gone_reaches Queries h = absurd (false≢true h)
+node_gone_reaches (Service name) h = absurd (false≢true h)
+node_gone_reaches Vanished h = absurd (false≢true h)
+node_gone_reaches (Node node) h = absurd (false≢true h)
+node_gone_reaches (NodeChecks node) h = absurd (false≢true h)
+node_gone_reaches (Key key) h = absurd (false≢true h)
+node_gone_reaches (Prefix prefix) h = absurd (false≢true h)
+node_gone_reaches Reaped h = absurd (false≢true h)
 
 prefix_reaches : (prefix : List ℕ) (c : Chan) → reaches (Prefix prefix) c ≡ true → Prefix prefix ≡ c
 unfolding reaches
@@ -123,6 +189,9 @@ prefix_reaches prefix Checks h = absurd (false≢true h)
 prefix_reaches prefix Sessions h = absurd (false≢true h)
 prefix_reaches prefix Queries h = absurd (false≢true h)
 prefix_reaches prefix Vanished h = absurd (false≢true h)
+prefix_reaches prefix (Node node) h = absurd (false≢true h)
+prefix_reaches prefix (NodeChecks node) h = absurd (false≢true h)
+prefix_reaches prefix NodeGone h = absurd (false≢true h)
 prefix_reaches prefix (Key key) h = absurd (false≢true h)
 prefix_reaches prefix (Service name) h = absurd (false≢true h)
 prefix_reaches prefix Reaped h = absurd (false≢true h)
@@ -137,6 +206,9 @@ key_reaches key Checks h = absurd (false≢true h)
 key_reaches key Sessions h = absurd (false≢true h)
 key_reaches key Queries h = absurd (false≢true h)
 key_reaches key Vanished h = absurd (false≢true h)
+key_reaches key (Node node) h = absurd (false≢true h)
+key_reaches key (NodeChecks node) h = absurd (false≢true h)
+key_reaches key NodeGone h = absurd (false≢true h)
 key_reaches key (Service name) h = absurd (false≢true h)
 key_reaches key Reaped h = absurd (false≢true h)
 
@@ -149,6 +221,9 @@ nodes_reaches Sessions h = absurd (false≢true h)
 nodes_reaches Queries h = absurd (false≢true h)
 nodes_reaches (Service name) h = absurd (false≢true h)
 nodes_reaches Vanished h = absurd (false≢true h)
+nodes_reaches (Node node) h = absurd (false≢true h)
+nodes_reaches (NodeChecks node) h = absurd (false≢true h)
+nodes_reaches NodeGone h = absurd (false≢true h)
 nodes_reaches (Key key) h = absurd (false≢true h)
 nodes_reaches (Prefix prefix) h = absurd (false≢true h)
 nodes_reaches Reaped h = absurd (false≢true h)
@@ -162,6 +237,9 @@ services_reaches Sessions h = absurd (false≢true h)
 services_reaches Queries h = absurd (false≢true h)
 services_reaches (Service name) h = absurd (false≢true h)
 services_reaches Vanished h = absurd (false≢true h)
+services_reaches (Node node) h = absurd (false≢true h)
+services_reaches (NodeChecks node) h = absurd (false≢true h)
+services_reaches NodeGone h = absurd (false≢true h)
 services_reaches (Key key) h = absurd (false≢true h)
 services_reaches (Prefix prefix) h = absurd (false≢true h)
 services_reaches Reaped h = absurd (false≢true h)
@@ -175,6 +253,9 @@ checks_reaches Sessions h = absurd (false≢true h)
 checks_reaches Queries h = absurd (false≢true h)
 checks_reaches (Service name) h = absurd (false≢true h)
 checks_reaches Vanished h = absurd (false≢true h)
+checks_reaches (Node node) h = absurd (false≢true h)
+checks_reaches (NodeChecks node) h = absurd (false≢true h)
+checks_reaches NodeGone h = absurd (false≢true h)
 checks_reaches (Key key) h = absurd (false≢true h)
 checks_reaches (Prefix prefix) h = absurd (false≢true h)
 checks_reaches Reaped h = absurd (false≢true h)
@@ -188,6 +269,9 @@ sessions_reaches Checks h = absurd (false≢true h)
 sessions_reaches Queries h = absurd (false≢true h)
 sessions_reaches (Service name) h = absurd (false≢true h)
 sessions_reaches Vanished h = absurd (false≢true h)
+sessions_reaches (Node node) h = absurd (false≢true h)
+sessions_reaches (NodeChecks node) h = absurd (false≢true h)
+sessions_reaches NodeGone h = absurd (false≢true h)
 sessions_reaches (Key key) h = absurd (false≢true h)
 sessions_reaches (Prefix prefix) h = absurd (false≢true h)
 sessions_reaches Reaped h = absurd (false≢true h)
@@ -201,6 +285,9 @@ queries_reaches Checks h = absurd (false≢true h)
 queries_reaches Sessions h = absurd (false≢true h)
 queries_reaches (Service name) h = absurd (false≢true h)
 queries_reaches Vanished h = absurd (false≢true h)
+queries_reaches (Node node) h = absurd (false≢true h)
+queries_reaches (NodeChecks node) h = absurd (false≢true h)
+queries_reaches NodeGone h = absurd (false≢true h)
 queries_reaches (Key key) h = absurd (false≢true h)
 queries_reaches (Prefix prefix) h = absurd (false≢true h)
 queries_reaches Reaped h = absurd (false≢true h)
@@ -214,6 +301,9 @@ vanished_reaches Checks h = absurd (false≢true h)
 vanished_reaches Sessions h = absurd (false≢true h)
 vanished_reaches Queries h = absurd (false≢true h)
 vanished_reaches (Service name) h = absurd (false≢true h)
+vanished_reaches (Node node) h = absurd (false≢true h)
+vanished_reaches (NodeChecks node) h = absurd (false≢true h)
+vanished_reaches NodeGone h = absurd (false≢true h)
 vanished_reaches (Key key) h = absurd (false≢true h)
 vanished_reaches (Prefix prefix) h = absurd (false≢true h)
 vanished_reaches Reaped h = absurd (false≢true h)
@@ -228,6 +318,9 @@ reaped_reaches Sessions h = absurd (false≢true h)
 reaped_reaches Queries h = absurd (false≢true h)
 reaped_reaches (Service name) h = absurd (false≢true h)
 reaped_reaches Vanished h = absurd (false≢true h)
+reaped_reaches (Node node) h = absurd (false≢true h)
+reaped_reaches (NodeChecks node) h = absurd (false≢true h)
+reaped_reaches NodeGone h = absurd (false≢true h)
 reaped_reaches (Key key) h = absurd (false≢true h)
 reaped_reaches (Prefix prefix) h = absurd (false≢true h)
 
@@ -242,6 +335,9 @@ reach_law f c = (told f, is_reaching f c)
     told Queries h = queries_reaches c h
     told (Service name) h = name_reaches name c h
     told Vanished h = vanished_reaches c h
+    told (Node node) h = node_reaches node c h
+    told (NodeChecks node) h = node_checks_reaches node c h
+    told NodeGone h = node_gone_reaches c h
     told (Key key) h = key_reaches key c h
     told (Prefix prefix) h = prefix_reaches prefix c h
     told Reaped h = reaped_reaches c h

@@ -199,12 +199,13 @@ catalog_decides = decides_by same_catalog sound own
   where
     sound : (a b : Catalog) → same_catalog a b ≡ true → a ≡ b
     sound a b h =
-        let p5 = and_parts _ _ h in
+        let p6 = and_parts _ _ h in
+        let p5 = and_parts _ _ p6.0 in
         let p4 = and_parts _ _ p5.0 in
         let p3 = and_parts _ _ p4.0 in
         let p2 = and_parts _ _ p3.0 in
         let p1 = and_parts _ _ p2.0 in
-        λ i. record { nodes = (pointwise_decides node_decides a.nodes b.nodes).0 p1.0 i; services = (pointwise_decides service_decides a.services b.services).0 p1.1 i; checks = (pointwise_decides check_decides a.checks b.checks).0 p2.1 i; kv = (pointwise_decides kv_decides a.kv b.kv).0 p3.1 i; sessions = (pointwise_decides session_decides a.sessions b.sessions).0 p4.1 i; queries = (pointwise_decides query_decides a.queries b.queries).0 p5.1 i }
+        λ i. record { version = (Decides-eqb a.version b.version).0 p1.0 i; nodes = (pointwise_decides node_decides a.nodes b.nodes).0 p1.1 i; services = (pointwise_decides service_decides a.services b.services).0 p2.1 i; checks = (pointwise_decides check_decides a.checks b.checks).0 p3.1 i; kv = (pointwise_decides kv_decides a.kv b.kv).0 p4.1 i; sessions = (pointwise_decides session_decides a.sessions b.sessions).0 p5.1 i; queries = (pointwise_decides query_decides a.queries b.queries).0 p6.1 i }
 
     own : (a : Catalog) → same_catalog a a ≡ true
-    own a = (and_from _ _ (and_from _ _ (and_from _ _ (and_from _ _ (and_from _ _ ((pointwise_decides node_decides a.nodes a.nodes).1 refl) ((pointwise_decides service_decides a.services a.services).1 refl)) ((pointwise_decides check_decides a.checks a.checks).1 refl)) ((pointwise_decides kv_decides a.kv a.kv).1 refl)) ((pointwise_decides session_decides a.sessions a.sessions).1 refl)) ((pointwise_decides query_decides a.queries a.queries).1 refl))
+    own a = (and_from _ _ (and_from _ _ (and_from _ _ (and_from _ _ (and_from _ _ (and_from _ _ ((Decides-eqb a.version a.version).1 refl) ((pointwise_decides node_decides a.nodes a.nodes).1 refl)) ((pointwise_decides service_decides a.services a.services).1 refl)) ((pointwise_decides check_decides a.checks a.checks).1 refl)) ((pointwise_decides kv_decides a.kv a.kv).1 refl)) ((pointwise_decides session_decides a.sessions a.sessions).1 refl)) ((pointwise_decides query_decides a.queries a.queries).1 refl))

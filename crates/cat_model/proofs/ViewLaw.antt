@@ -4,20 +4,23 @@ use Rattle.std.specs.List.{list_any}
 use Rattle.std.proofs.lemmas.Bool.{false≢true, true≢false}
 use Rattle.cat_model.specs.Keys.{same_text}
 use Rattle.cat_model.specs.Catalog.{Catalog, empty_catalog, same_catalog}
-use Rattle.cat_model.specs.Queries.{reads, answer, service_rows, instance_rows}
+use Rattle.std.specs.Cmp.Lexicographic.{pointwise}
+use Rattle.cat_model.specs.Same.{same_node, same_service, same_check}
+use Rattle.cat_model.specs.Queries.{reads, answer, service_rows, instance_rows, node_rows, checks_of}
 use Rattle.cat_model.specs.Machine.{at_past}
-use Rattle.cat_model.specs.Indexes.{touches, past_index, has_name, some_vanishes}
+use Rattle.cat_model.specs.Indexes.{touches, past_index, has_name, some_vanishes, has_node, some_node_goes}
 use Rattle.cat_model.specs.KvIndexes.{key_index, prefix_index}
 use Rattle.cat_model.specs.Channels.{chans, fires}
-use Rattle.cat_model.specs.Views.{Kept, StandsFor, ViewLaw, kept_index, name_index, position_of, past_fired}
+use Rattle.cat_model.specs.Views.{Kept, StandsFor, ViewLaw, kept_index, name_index, host_index, health_position, position_of, past_fired}
 use Rattle.cat_model.specs.declared.row.Status.{Status}
-use Rattle.cat_model.specs.declared.row.ServiceRow.{ServiceRow}
 use Rattle.cat_model.specs.declared.query.Query.{Query}
 use Rattle.cat_model.specs.declared.query.Query.TheVariants as q
 use Rattle.cat_model.specs.declared.command.Command.{Command}
 use Rattle.cat_model.specs.declared.query.Chan.{Chan}
-use Rattle.cat_model.specs.declared.query.Chan.TheVariants.{Nodes, Services, Checks, Sessions, Queries, Service, Vanished}
+use Rattle.cat_model.specs.declared.query.Chan.TheVariants.{Nodes, Services, Checks, Sessions, Queries, Service, Vanished, Node, NodeChecks, NodeGone}
 use Rattle.cat_model.proofs.SameLemmas.{catalog_decides, text_decides}
+use Rattle.cat_model.proofs.NodesStand.{NodesStand, nodes_stand, without_any, no_rows, no_checks}
+use Rattle.cat_model.proofs.Covering.{same_host}
 use Rattle.cat_model.proofs.Reaching.{same_name}
 
 -- 1. The last position that fired a channel.
@@ -25,7 +28,7 @@ pub fired_more : (chan : Chan) (c : Command) (past : List Command) → past_fire
 unfolding past_fired
 fired_more chan c past = refl
 
-fired_within : (chan : Chan) (past : List Command) → past_fired chan past ≤ length past + 1
+pub fired_within : (chan : Chan) (past : List Command) → past_fired chan past ≤ length past + 1
 unfolding past_fired
 fired_within chan [] = omega arith
 fired_within chan (c ∷ past) = go (fires (at_past past) c (at_past (c ∷ past)) chan) (fired_within chan past)
@@ -73,11 +76,6 @@ one : (a : Bool) → not (a && true) ≡ not a
 one true = refl
 one false = refl
 
-front_two : (a b : Bool) → not (a && b && true && true && true && true) ≡ (not a || not b)
-front_two true true = refl
-front_two true false = refl
-front_two false b = refl
-
 middle_two : (a b : Bool) → not (a && b && true && true && true) ≡ (not b || not a)
 middle_two true true = refl
 middle_two true false = refl
@@ -92,10 +90,6 @@ services_touched : (before : Catalog) (c : Command) (after : Catalog) → touche
 unfolding touches reads same_catalog fires
 services_touched before c after = first_only _ _ _ ∙ four _
 
-nodes_services_touched : (node : List ℕ) (before : Catalog) (c : Command) (after : Catalog) → touches (q.NodeServices node) before c after ≡ (fires before c after Nodes || fires before c after Services)
-unfolding touches reads same_catalog fires
-nodes_services_touched node before c after = first_only _ _ _ ∙ front_two _ _
-
 checks_touched : (name : List ℕ) (before : Catalog) (c : Command) (after : Catalog) → touches (q.HealthChecks name) before c after ≡ (fires before c after Checks || fires before c after Services)
 unfolding touches reads same_catalog fires
 checks_touched name before c after = first_only _ _ _ ∙ middle_two _ _
@@ -107,10 +101,6 @@ sessions_touched before c after = first_only _ _ _ ∙ one _
 queries_touched : (before : Catalog) (c : Command) (after : Catalog) → touches q.Queries before c after ≡ fires before c after Queries
 unfolding touches reads same_catalog fires
 queries_touched before c after = first_only _ _ _
-
-node_checks_touched : (node : List ℕ) (before : Catalog) (c : Command) (after : Catalog) → touches (q.HealthNode node) before c after ≡ (fires before c after Checks || fires before c after Services)
-unfolding touches reads same_catalog fires
-node_checks_touched node before c after = first_only _ _ _ ∙ middle_two _ _
 
 state_touched : (state : Option Status) (before : Catalog) (c : Command) (after : Catalog) → touches (q.HealthState state) before c after ≡ (fires before c after Checks || fires before c after Services)
 unfolding touches reads same_catalog fires
@@ -143,14 +133,6 @@ pub keys_index : (prefix separator : List ℕ) (past : List Command) → past_in
 keys_index prefix separator = alike_index (q.Keys prefix separator) (q.Prefix prefix) (keys_touched prefix separator)
 
 -- 3. Queries of a service's name.
-without_any : {A : Type 0} (test : A → Bool) (xs : List A) → list_any test xs ≡ false → filter test xs ≡ []
-without_any test [] h = refl
-without_any test (x ∷ xs) h = go (test x) h (λ e. without_any test xs e)
-  where
-    go : (b : Bool) → (b || list_any test xs) ≡ false → (list_any test xs ≡ false → filter test xs ≡ []) → cond b (x ∷ filter test xs) (filter test xs) ≡ []
-    go true e rest = absurd (true≢false e)
-    go false e rest = rest e
-
 none_left : {A : Type 0} (xs : List A) → filter (λ x. false) xs ≡ []
 none_left [] = refl
 none_left (x ∷ xs) = none_left xs
@@ -161,23 +143,24 @@ reads_nothing name k h =
     ap (λ l. instance_rows l k) (without_any (λ s. same_text s.name name) k.services h)
     ∙ (λ i. record empty_catalog { nodes = none_left k.nodes i; checks = none_left k.checks i })
 
+-- of rows of which some is of the name, some is of none that stays, where the name does not stay
+some_leaves : {R : Type 0} (of : R → List ℕ) (stays : List ℕ → Bool) (name : List ℕ) → stays name ≡ false → (rows : List R) → list_any (λ r. same_text (of r) name) rows ≡ true → list_any (λ r. not (stays (of r))) rows ≡ true
+some_leaves of stays name gone [] h = absurd (false≢true h)
+some_leaves of stays name gone (r ∷ rows) h = go (same_text (of r) name) refl h (λ e. some_leaves of stays name gone rows e)
+  where
+    behind : (b : Bool) → list_any (λ r. not (stays (of r))) rows ≡ true → (b || list_any (λ r. not (stays (of r))) rows) ≡ true
+    behind true e = refl
+    behind false e = e
+
+    go : (b : Bool) → same_text (of r) name ≡ b → (b || list_any (λ r. same_text (of r) name) rows) ≡ true → (list_any (λ r. same_text (of r) name) rows ≡ true → list_any (λ r. not (stays (of r))) rows ≡ true)
+        → (not (stays (of r)) || list_any (λ r. not (stays (of r))) rows) ≡ true
+    go true same e rest = ap (λ b. not b || list_any (λ r. not (stays (of r))) rows) (ap stays ((text_decides (of r) name).0 same) ∙ gone)
+    go false same e rest = behind (not (stays (of r))) (rest e)
+
 -- a name that has rows and then none vanishes
 vanishes : (name : List ℕ) (before after : Catalog) → has_name name before ≡ true → has_name name after ≡ false → some_vanishes before after ≡ true
 unfolding some_vanishes
-vanishes name before after was gone = among before.services was
-  where
-    among : (services : List ServiceRow) → list_any (λ s. same_text s.name name) services ≡ true → list_any (λ s. not (has_name s.name after)) services ≡ true
-    among [] h = absurd (false≢true h)
-    among (s ∷ services) h = go (same_text s.name name) refl h (λ e. among services e)
-      where
-        behind : (b : Bool) → list_any (λ s. not (has_name s.name after)) services ≡ true → (b || list_any (λ s. not (has_name s.name after)) services) ≡ true
-        behind true e = refl
-        behind false e = e
-
-        go : (b : Bool) → same_text s.name name ≡ b → (b || list_any (λ s. same_text s.name name) services) ≡ true → (list_any (λ s. same_text s.name name) services ≡ true → list_any (λ s. not (has_name s.name after)) services ≡ true)
-            → (not (has_name s.name after) || list_any (λ s. not (has_name s.name after)) services) ≡ true
-        go true same e rest = ap (λ b. not b || list_any (λ s. not (has_name s.name after)) services) (ap (λ n. has_name n after) ((text_decides s.name name).0 same) ∙ gone)
-        go false same e rest = behind (not (has_name s.name after)) (rest e)
+vanishes name before after was gone = some_leaves (λ s. s.name) (λ n. has_name n after) name gone before.services was
 
 abbrev name_touch : List ℕ → Catalog → Catalog → Bool
 name_touch name before after = not (same_catalog (service_rows name before) (service_rows name after)) || (some_vanishes before after && not (has_name name after))
@@ -227,7 +210,122 @@ module _ (name : List ℕ) (q : Query) (touched : (before : Catalog) (c : Comman
       go true s true e false h earlier = refl
       go true s false e false h earlier = earlier ∙ ap (λ b. cond b (past_fired (Service name) past) (past_fired Vanished past)) (same_has s ∙ h)
 
--- 4. All of them.
+-- 4. Queries of a node.
+-- a node that is there and then is not goes
+node_goes : (node : List ℕ) (before after : Catalog) → has_node node before ≡ true → has_node node after ≡ false → some_node_goes before after ≡ true
+unfolding some_node_goes
+node_goes node before after was gone = some_leaves (λ r. r.node) (λ n. has_node n after) node gone before.nodes was
+
+-- it was not there, where it is not after a step in which no node goes
+was_absent : (node : List ℕ) (before after : Catalog) → has_node node after ≡ false → some_node_goes before after ≡ false → (b : Bool) → has_node node before ≡ b → b ≡ false
+was_absent node before after gone stay false e = refl
+was_absent node before after gone stay true e = absurd (true≢false (sym (node_goes node before after e gone) ∙ stay))
+
+abbrev rows_differ : List ℕ → Catalog → Catalog → Bool
+rows_differ node before after = not (same_catalog (node_rows node before) (node_rows node after))
+
+abbrev checks_differ : List ℕ → Catalog → Catalog → Bool
+checks_differ node before after = not (pointwise same_check (checks_of node before) (checks_of node after))
+
+either_two : (a b c : Bool) → not (a && b && c && true && true && true) ≡ (not (a && b && true && true && true && true) || not c)
+either_two true true true = refl
+either_two true true false = refl
+either_two true false c = refl
+either_two false b c = refl
+
+-- what touches a query of a node: a node goes while it is not there, or what the query reads differs
+no_other : (g d r v : Bool) → (g || d || (r && false) || (v && false)) ≡ (g || d)
+no_other true d r v = first_only true r v
+no_other false d r v = first_only d r v
+
+node_touched : (node : List ℕ) (before : Catalog) (c : Command) (after : Catalog) → touches (q.NodeServices node) before c after ≡ ((not (has_node node after) && some_node_goes before after) || rows_differ node before after)
+unfolding touches reads
+node_touched node before c after = no_other (not (has_node node after) && some_node_goes before after) (rows_differ node before after) _ (some_vanishes before after)
+
+health_node_touched : (node : List ℕ) (before : Catalog) (c : Command) (after : Catalog) → touches (q.HealthNode node) before c after ≡ ((not (has_node node after) && some_node_goes before after) || (rows_differ node before after || checks_differ node before after))
+unfolding touches reads same_catalog
+health_node_touched node before c after =
+    no_other (not (has_node node after) && some_node_goes before after) _ _ (some_vanishes before after)
+    ∙ ap (λ d. (not (has_node node after) && some_node_goes before after) || d)
+    (either_two (pointwise same_node (node_rows node before).nodes (node_rows node after).nodes) (pointwise same_service (node_rows node before).services (node_rows node after).services) (pointwise same_check (checks_of node before) (checks_of node after)))
+
+-- the rows of a node, which are none before and after a step where it is not there and no node goes
+module _ (node : List ℕ) (before after : Catalog) (sb : NodesStand before) (sa : NodesStand after) where
+  same_node_there : rows_differ node before after ≡ false → has_node node before ≡ has_node node after
+  same_node_there e = same_host node before after (ap (λ k. k.nodes) ((catalog_decides _ _).0 (equal _ e)))
+    where
+      equal : (b : Bool) → not b ≡ false → b ≡ true
+      equal true e = refl
+      equal false e = absurd (true≢false e)
+
+  no_rows_differ : has_node node after ≡ false → some_node_goes before after ≡ false → rows_differ node before after ≡ false
+  no_rows_differ gone stay = ap not ((catalog_decides _ _).1 (no_rows node before sb (was_absent node before after gone stay (has_node node before) refl) ∙ sym (no_rows node after sa gone)))
+
+  no_checks_differ : has_node node after ≡ false → some_node_goes before after ≡ false → checks_differ node before after ≡ false
+  no_checks_differ gone stay = λ i. not (pointwise same_check (no_checks node before sb (was_absent node before after gone stay (has_node node before) refl) i) (no_checks node after sa gone i))
+
+-- the index of a node: the last change of its row and services where it is there, and else the last going of any node
+pub node_last : (node : List ℕ) (past : List Command) → past_index (q.NodeServices node) past ≡ cond (has_node node (at_past past)) (past_fired (Node node) past) (past_fired NodeGone past)
+unfolding past_index past_fired fires at_past
+node_last node [] = refl
+node_last node (c ∷ past) = ap (λ b. cond b (length past + 1) (past_index (q.NodeServices node) past)) (node_touched node before c after) ∙ go (has_node node after) refl (some_node_goes before after) refl (rows_differ node before after) refl (node_last node past)
+  where
+    before : Catalog
+    before = at_past past
+
+    after : Catalog
+    after = at_past (c ∷ past)
+
+    go : (h : Bool) → has_node node after ≡ h → (g : Bool) → some_node_goes before after ≡ g → (d : Bool) → rows_differ node before after ≡ d
+        → past_index (q.NodeServices node) past ≡ cond (has_node node before) (past_fired (Node node) past) (past_fired NodeGone past)
+        → cond ((not h && g) || d) (length past + 1) (past_index (q.NodeServices node) past) ≡ cond h (cond d (length past + 1) (past_fired (Node node) past)) (cond g (length past + 1) (past_fired NodeGone past))
+    go true h g s true d earlier = refl
+    go true h g s false d earlier = earlier ∙ ap (λ b. cond b (past_fired (Node node) past) (past_fired NodeGone past)) (same_node_there node before after (nodes_stand past) (nodes_stand (c ∷ past)) d ∙ h)
+    go false h true s d e earlier = refl
+    go false h false s true d earlier = absurd (true≢false (sym d ∙ no_rows_differ node before after (nodes_stand past) (nodes_stand (c ∷ past)) h s))
+    go false h false s false d earlier = earlier ∙ ap (λ b. cond b (past_fired (Node node) past) (past_fired NodeGone past)) (same_node_there node before after (nodes_stand past) (nodes_stand (c ∷ past)) d ∙ h)
+
+-- and with its checks
+pub health_last : (node : List ℕ) (past : List Command) → past_index (q.HealthNode node) past ≡ cond (has_node node (at_past past)) (max (past_fired (Node node) past) (past_fired (NodeChecks node) past)) (past_fired NodeGone past)
+unfolding past_index past_fired fires at_past
+health_last node [] = refl
+health_last node (c ∷ past) =
+    ap (λ b. cond b (length past + 1) (past_index (q.HealthNode node) past)) (health_node_touched node before c after)
+    ∙ go (has_node node after) refl (some_node_goes before after) refl (rows_differ node before after) refl (checks_differ node before after) refl (health_last node past)
+  where
+    before : Catalog
+    before = at_past past
+
+    after : Catalog
+    after = at_past (c ∷ past)
+
+    both : (d e : Bool) → past_fired (Node node) past ≤ length past + 1 → past_fired (NodeChecks node) past ≤ length past + 1
+        → cond (d || e) (length past + 1) (max (past_fired (Node node) past) (past_fired (NodeChecks node) past)) ≡ max (cond d (length past + 1) (past_fired (Node node) past)) (cond e (length past + 1) (past_fired (NodeChecks node) past))
+    both true true m n = omega arith
+    both true false m n = omega (arith, n)
+    both false true m n = omega (arith, m)
+    both false false m n = refl
+
+    stays : (b : Bool) → has_node node before ≡ b → past_index (q.HealthNode node) past ≡ cond (has_node node before) (max (past_fired (Node node) past) (past_fired (NodeChecks node) past)) (past_fired NodeGone past)
+        → past_index (q.HealthNode node) past ≡ cond b (max (past_fired (Node node) past) (past_fired (NodeChecks node) past)) (past_fired NodeGone past)
+    stays b e earlier = earlier ∙ ap (λ b. cond b (max (past_fired (Node node) past) (past_fired (NodeChecks node) past)) (past_fired NodeGone past)) e
+
+    same_there : rows_differ node before after ≡ false → has_node node before ≡ has_node node after
+    same_there = same_node_there node before after (nodes_stand past) (nodes_stand (c ∷ past))
+
+    go : (h : Bool) → has_node node after ≡ h → (g : Bool) → some_node_goes before after ≡ g → (d : Bool) → rows_differ node before after ≡ d → (e : Bool) → checks_differ node before after ≡ e
+        → past_index (q.HealthNode node) past ≡ cond (has_node node before) (max (past_fired (Node node) past) (past_fired (NodeChecks node) past)) (past_fired NodeGone past)
+        → cond ((not h && g) || (d || e)) (length past + 1) (past_index (q.HealthNode node) past)
+        ≡ cond h (max (cond d (length past + 1) (past_fired (Node node) past)) (cond e (length past + 1) (past_fired (NodeChecks node) past))) (cond g (length past + 1) (past_fired NodeGone past))
+    go true h g s true d e f earlier = both true e (fired_within (Node node) past) (fired_within (NodeChecks node) past)
+    go true h g s false d true f earlier = both false true (fired_within (Node node) past) (fired_within (NodeChecks node) past)
+    go true h g s false d false f earlier = stays true (same_there d ∙ h) earlier
+    go false h true s d e1 e f earlier = refl
+    go false h false s true d e f earlier = absurd (true≢false (sym d ∙ no_rows_differ node before after (nodes_stand past) (nodes_stand (c ∷ past)) h s))
+    go false h false s false d true f earlier = absurd (true≢false (sym f ∙ no_checks_differ node before after (nodes_stand past) (nodes_stand (c ∷ past)) h s))
+    go false h false s false d false f earlier = stays false (same_there d ∙ h) earlier
+
+-- 5. All of them.
 module _ (kept : Kept) (log : List Command) (stands : StandsFor kept log) where
   name_given : (name : List ℕ) → name_index name kept ≡ cond (has_name name (at_past (reverse log))) (past_fired (Service name) (reverse log)) (past_fired Vanished (reverse log))
   name_given name = ap (λ k. cond (has_name name k) (position_of name kept.names) kept.vanished) stands.rows ∙ go (has_name name (at_past (reverse log))) refl
@@ -235,6 +333,13 @@ module _ (kept : Kept) (log : List Command) (stands : StandsFor kept log) where
       go : (b : Bool) → has_name name (at_past (reverse log)) ≡ b → cond b (position_of name kept.names) kept.vanished ≡ cond b (past_fired (Service name) (reverse log)) (past_fired Vanished (reverse log))
       go true e = stands.names name e
       go false e = stands.vanished
+
+  host_given : (node : List ℕ) (own fired : ℕ) → (has_node node (at_past (reverse log)) ≡ true → own ≡ fired) → host_index node own kept ≡ cond (has_node node (at_past (reverse log))) fired (past_fired NodeGone (reverse log))
+  host_given node own fired same = ap (λ k. cond (has_node node k) own kept.gone) stands.rows ∙ go (has_node node (at_past (reverse log))) refl
+    where
+      go : (b : Bool) → has_node node (at_past (reverse log)) ≡ b → cond b own kept.gone ≡ cond b fired (past_fired NodeGone (reverse log))
+      go true e = same e
+      go false e = stands.gone
 
   both_given : (m n a b : ℕ) → m ≡ a → n ≡ b → max m n ≡ max a b
   both_given m n a b e f = λ i. max (e i) (f i)
@@ -244,10 +349,10 @@ module _ (kept : Kept) (log : List Command) (stands : StandsFor kept log) where
   index_given q.Nodes = stands.nodes ∙ sym (same_last q.Nodes Nodes nodes_touched (reverse log))
   index_given q.Services = stands.services ∙ sym (same_last q.Services Services services_touched (reverse log))
   index_given (q.Service name tags) = name_given name ∙ sym (name_last name (q.Service name tags) (service_touched name tags) (reverse log))
-  index_given (q.NodeServices node) = both_given _ _ _ _ stands.nodes stands.services ∙ sym (both_last (q.NodeServices node) Nodes Services (nodes_services_touched node) (reverse log))
+  index_given (q.NodeServices node) = host_given node (position_of node kept.hosts) _ (stands.hosts node) ∙ sym (node_last node (reverse log))
   index_given (q.HealthService name tags passing) = name_given name ∙ sym (name_last name (q.HealthService name tags passing) (health_touched name tags passing) (reverse log))
   index_given (q.HealthChecks name) = both_given _ _ _ _ stands.checks stands.services ∙ sym (both_last (q.HealthChecks name) Checks Services (checks_touched name) (reverse log))
-  index_given (q.HealthNode node) = both_given _ _ _ _ stands.checks stands.services ∙ sym (both_last (q.HealthNode node) Checks Services (node_checks_touched node) (reverse log))
+  index_given (q.HealthNode node) = host_given node (health_position node kept) _ (stands.host_checks node) ∙ sym (health_last node (reverse log))
   index_given (q.HealthState state) = both_given _ _ _ _ stands.checks stands.services ∙ sym (both_last (q.HealthState state) Checks Services (state_touched state) (reverse log))
   index_given (q.Key key) = ap (λ k. key_index key k.kv kept.tombs kept.floor) stands.rows ∙ stands.keys.keys key
   index_given (q.Prefix prefix) = ap (λ k. prefix_index prefix k.kv kept.tombs kept.floor) stands.rows ∙ stands.keys.prefixes prefix

@@ -8,9 +8,10 @@ use Rattle.cat_model.specs.Machine.{register, deregister, create_session, broken
 use Rattle.cat_model.specs.Queries.{reads, answer_from, answer}
 use Rattle.cat_model.specs.Indexes.{some_vanishes, touches, past_index, index_of}
 use Rattle.cat_model.specs.declared.query.Query.TheVariants as q
+use Rattle.cat_model.specs.declared.query.Answer.{Answer}
 use Rattle.cat_model.specs.declared.query.Answer.TheVariants as a
 use Rattle.cat_model.specs.declared.command.Command.{Command}
-use Rattle.cat_model.specs.declared.command.Command.TheVariants.{Noop, Register, Deregister, KvSet, KvCas, KvLock, KvDelete, Txn, SessionCreate, Reap}
+use Rattle.cat_model.specs.declared.command.Command.TheVariants.{Noop, Register, Deregister, KvSet, KvCas, KvLock, KvDelete, Txn, SessionCreate, Reap, Upgrade}
 use Rattle.cat_model.specs.declared.row.Status as st
 use Rattle.cat_model.specs.declared.row.Status.TheVariants as status
 use Rattle.cat_model.specs.declared.row.Behavior.TheVariants as behavior
@@ -130,3 +131,22 @@ answers :
     × (answer (q.Keys (codes "a/") (codes "/")) (catalog_at (Noop ∷ KvSet (codes "a/x") 0 [] ∷ KvSet (codes "a/y/z") 0 [] ∷ KvSet (codes "b") 0 [] ∷ [])) ≡ a.Names (codes "a/x" ∷ codes "a/y/" ∷ []))
 unfolding put same_node same_service same_check same_kv same_catalog register deregister write_kv kv_set act unless broken end_sessions apply at_past reads answer_from
 answers = (refl, refl, refl, refl)
+
+-- a write that changes nothing moves the key up to version 2, and leaves it from there on
+abbrev set_twice : List Command
+set_twice = Noop ∷ KvSet (codes "a") 0 (codes "x") ∷ KvSet (codes "a") 0 (codes "x") ∷ []
+
+abbrev upgraded : List Command
+upgraded = Noop ∷ KvSet (codes "a") 0 (codes "x") ∷ KvSet (codes "a") 0 (codes "x") ∷ Upgrade ∷ KvSet (codes "a") 0 (codes "x") ∷ []
+
+abbrev row_at_3 : Answer
+row_at_3 = a.Rows (record { key = codes "a"; value = codes "x"; flags = 0; session = None; lock_index = 0; create = 2; modify = 3 } ∷ [])
+
+changes_nothing_from_2 :
+    (answer (q.Key (codes "a")) (catalog_at set_twice) ≡ row_at_3)
+    × (index_of (q.Key (codes "a")) set_twice ≡ 3)
+    × (reply_to set_twice Upgrade ≡ Yes)
+    × (answer (q.Key (codes "a")) (catalog_at upgraded) ≡ row_at_3)
+    × (index_of (q.Key (codes "a")) upgraded ≡ 3)
+unfolding put same_kv same_catalog write_kv kv_set act unless broken end_sessions apply at_past reads answer_from touches some_vanishes past_index
+changes_nothing_from_2 = (refl, refl, refl, refl, refl)

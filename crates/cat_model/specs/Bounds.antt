@@ -7,7 +7,7 @@ use Rattle.cat_model.specs.declared.command.NewService.{NewService}
 use Rattle.cat_model.specs.declared.command.NewCheck.{NewCheck}
 use Rattle.cat_model.specs.declared.command.TxnOp.{TxnOp}
 use Rattle.cat_model.specs.declared.command.Command.{Command}
-use Rattle.cat_model.specs.declared.command.Command.TheVariants.{Noop, Register, Deregister, KvSet, KvCas, KvLock, KvUnlock, KvDelete, KvDeleteCas, KvDeleteTree, Txn, SessionCreate, SessionDestroy, QuerySet, QueryDelete, Reap}
+use Rattle.cat_model.specs.declared.command.Command.TheVariants.{Noop, Register, Deregister, KvSet, KvCas, KvLock, KvUnlock, KvDelete, KvDeleteCas, KvDeleteTree, Txn, SessionCreate, SessionDestroy, QuerySet, QueryDelete, Reap, Upgrade}
 use Rattle.cat_model.specs.Spelling.{spelling}
 
 -- a number of 64 bits, and an identifier of 128
@@ -93,6 +93,7 @@ InBounds (QuerySet id create name session service only_passing tags dns_ttl_ms) 
     IsId id × IsText name × IfSome session IsId × IsText service × IsList IsText tags × (dns_ttl_ms ≤ 2 ^ 53)
 InBounds (QueryDelete id) = IsId id
 InBounds Reap = Unit {0}
+InBounds Upgrade = Unit {0}
 
 -- the bytes spell the command
 abbrev pub Spells : Command → List ℕ → Type 0

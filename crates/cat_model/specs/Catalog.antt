@@ -1,5 +1,5 @@
--- The catalog: six lists of rows, each in the order of its keys.
-use Rattle.std.specs.Prelude.{ℕ, Bool, List, [], Option, ◌&&◌}
+-- The catalog: the version of its machine, and six lists of rows, each in the order of its keys.
+use Rattle.std.specs.Prelude.{ℕ, Bool, List, [], Option, nat_eq, ◌&&◌}
 use Rattle.std.specs.Ordering.{nat_cmp}
 use Rattle.std.specs.Cmp.Lexicographic.{pointwise}
 use Rattle.cat_model.specs.Keys.{text_cmp, pair_cmp}
@@ -13,6 +13,7 @@ use Rattle.cat_model.specs.declared.row.SessionRow.{SessionRow}
 use Rattle.cat_model.specs.declared.row.QueryRow.{QueryRow}
 
 pub record Catalog : Type 0 where
+  pub version : ℕ
   pub nodes : List NodeRow
   pub services : List ServiceRow
   pub checks : List CheckRow
@@ -21,7 +22,7 @@ pub record Catalog : Type 0 where
   pub queries : List QueryRow
 
 abbrev pub empty_catalog : Catalog
-empty_catalog = record { nodes = []; services = []; checks = []; kv = []; sessions = []; queries = [] }
+empty_catalog = record { version = 1; nodes = []; services = []; checks = []; kv = []; sessions = []; queries = [] }
 
 -- keys
 abbrev pub node_key : NodeRow → List ℕ
@@ -64,7 +65,8 @@ query_at = row_at nat_cmp query_key
 -- whether two catalogs are equal
 unfoldable pub same_catalog : Catalog → Catalog → Bool
 same_catalog a b =
-    pointwise same_node a.nodes b.nodes && pointwise same_service a.services b.services && pointwise same_check a.checks b.checks
+    nat_eq a.version b.version
+    && pointwise same_node a.nodes b.nodes && pointwise same_service a.services b.services && pointwise same_check a.checks b.checks
     && pointwise same_kv a.kv b.kv && pointwise same_session a.sessions b.sessions && pointwise same_query a.queries b.queries
 
 -- each list is in the order of its keys

@@ -5,14 +5,14 @@ use Rattle.cat_model.specs.Keys.{has_prefix}
 use Rattle.cat_model.specs.Tables.{same_found}
 use Rattle.cat_model.specs.Same.{same_node, same_service, same_check, same_kv, same_session, same_query}
 use Rattle.cat_model.specs.Catalog.{Catalog, same_catalog, kv_at}
-use Rattle.cat_model.specs.Queries.{service_rows}
-use Rattle.cat_model.specs.Indexes.{has_name, some_vanishes, is_reap, touches}
+use Rattle.cat_model.specs.Queries.{service_rows, node_rows, checks_of}
+use Rattle.cat_model.specs.Indexes.{has_name, some_vanishes, has_node, some_node_goes, is_reap, touches}
 use Rattle.cat_model.specs.Machine.{catalog_at}
 use Rattle.cat_model.specs.declared.query.Query.{Query}
 use Rattle.cat_model.specs.declared.query.Query.TheVariants as q
 use Rattle.cat_model.specs.declared.command.Command.{Command}
 use Rattle.cat_model.specs.declared.query.Chan.{Chan}
-use Rattle.cat_model.specs.declared.query.Chan.TheVariants.{Nodes, Services, Checks, Sessions, Queries, Service, Vanished, Key, Prefix, Reaped}
+use Rattle.cat_model.specs.declared.query.Chan.TheVariants.{Nodes, Services, Checks, Sessions, Queries, Service, Vanished, Node, NodeChecks, NodeGone, Key, Prefix, Reaped}
 
 abbrev pub service_chans : List ℕ → Catalog → List Chan
 service_chans name k = Service name ∷ (if has_name name k then [] else Vanished ∷ [])
@@ -20,15 +20,21 @@ service_chans name k = Service name ∷ (if has_name name k then [] else Vanishe
 abbrev pub key_chans : List ℕ → Catalog → List Chan
 key_chans key k = Key key ∷ (if is_some (kv_at key k.kv) then [] else Reaped ∷ [])
 
+abbrev pub node_chans : List ℕ → Catalog → List Chan
+node_chans node k = Node node ∷ (if has_node node k then [] else NodeGone ∷ [])
+
+abbrev pub node_health_chans : List ℕ → Catalog → List Chan
+node_health_chans node k = Node node ∷ (if has_node node k then NodeChecks node else NodeGone) ∷ []
+
 -- the channels of a query at a catalog
 unfoldable pub chans : Query → Catalog → List Chan
 chans q.Nodes k = Nodes ∷ []
 chans q.Services k = Services ∷ []
 chans (q.Service name tags) k = service_chans name k
-chans (q.NodeServices node) k = Nodes ∷ Services ∷ []
+chans (q.NodeServices node) k = node_chans node k
 chans (q.HealthService name tags passing) k = service_chans name k
 chans (q.HealthChecks name) k = Checks ∷ Services ∷ []
-chans (q.HealthNode node) k = Checks ∷ Services ∷ []
+chans (q.HealthNode node) k = node_health_chans node k
 chans (q.HealthState state) k = Checks ∷ Services ∷ []
 chans (q.Key key) k = key_chans key k
 chans (q.Prefix prefix) k = Prefix prefix ∷ Reaped ∷ []
@@ -48,6 +54,9 @@ fires before c after Sessions = not (pointwise same_session before.sessions afte
 fires before c after Queries = not (pointwise same_query before.queries after.queries)
 fires before c after (Service name) = not (same_catalog (service_rows name before) (service_rows name after))
 fires before c after Vanished = some_vanishes before after
+fires before c after (Node node) = not (same_catalog (node_rows node before) (node_rows node after))
+fires before c after (NodeChecks node) = not (pointwise same_check (checks_of node before) (checks_of node after))
+fires before c after NodeGone = some_node_goes before after
 fires before c after (Key key) = not (same_found same_kv (kv_at key before.kv) (kv_at key after.kv))
 fires before c after (Prefix prefix) = false
 fires before c after Reaped = is_reap c

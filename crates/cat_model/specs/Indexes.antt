@@ -35,10 +35,25 @@ lacks_service (q.Service name tags) after = not (has_name name after)
 lacks_service (q.HealthService name tags passing) after = not (has_name name after)
 lacks_service other after = false
 
+-- some node has this name
+abbrev pub has_node : List ℕ → Catalog → Bool
+has_node node k = list_any (λ r. same_text r.node node) k.nodes
+
+-- some node has a row before and none after
+unfoldable pub some_node_goes : Catalog → Catalog → Bool
+some_node_goes before after = list_any (λ r. not (has_node r.node after)) before.nodes
+
+-- a node that goes touches the queries of a node with no row after it
+abbrev pub lacks_node : Query → Catalog → Bool
+lacks_node (q.NodeServices node) after = not (has_node node after)
+lacks_node (q.HealthNode node) after = not (has_node node after)
+lacks_node other after = false
+
 -- whether the step by this command, from before to after, touches the query
 unfoldable pub touches : Query → Catalog → Command → Catalog → Bool
 touches q before c after =
-    not (same_catalog (reads q before) (reads q after))
+    (lacks_node q after && some_node_goes before after)
+    || not (same_catalog (reads q before) (reads q after))
     || (is_reap c && is_reaped q after)
     || (some_vanishes before after && lacks_service q after)
 

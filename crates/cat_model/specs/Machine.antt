@@ -23,7 +23,7 @@ use Rattle.cat_model.specs.declared.applied.Refuse.TheVariants as refusals
 use Rattle.cat_model.specs.declared.applied.Applied.{Applied}
 use Rattle.cat_model.specs.declared.applied.Applied.TheVariants.{Done, Yes, No, Results, RolledBack, Refused}
 use Rattle.cat_model.specs.declared.command.Command.{Command}
-use Rattle.cat_model.specs.declared.command.Command.TheVariants.{Noop, Register, Deregister, KvSet, KvCas, KvLock, KvUnlock, KvDelete, KvDeleteCas, KvDeleteTree, Txn, SessionCreate, SessionDestroy, QuerySet, QueryDelete, Reap}
+use Rattle.cat_model.specs.declared.command.Command.TheVariants.{Noop, Register, Deregister, KvSet, KvCas, KvLock, KvUnlock, KvDelete, KvDeleteCas, KvDeleteTree, Txn, SessionCreate, SessionDestroy, QuerySet, QueryDelete, Reap, Upgrade}
 
 -- A catalog with an answer.
 abbrev pub Step : Type 0
@@ -180,14 +180,14 @@ unfoldable pub act : ℕ → Command → Catalog → Step
 act i Noop k = (k, Done)
 act i (Register node address service checks) k = register i node address service checks k
 act i (Deregister node service check) k = (deregister node service check k, Yes)
-act i (KvSet key flags value) k = on_kv k (kv_set i key value flags k.kv)
-act i (KvCas key flags value index) k = yes_or_no k (kv_cas i key value flags index k.kv)
-act i (KvLock key flags value session) k = unless (refusal_of ((not (is_some (session_at session k.sessions)), refusals.UnknownSession) ∷ [])) k (yes_or_no k (kv_lock i key value flags session k.kv))
-act i (KvUnlock key flags value session) k = yes_or_no k (kv_unlock i key value flags session k.kv)
+act i (KvSet key flags value) k = on_kv k (kv_set k.version i key value flags k.kv)
+act i (KvCas key flags value index) k = yes_or_no k (kv_cas k.version i key value flags index k.kv)
+act i (KvLock key flags value session) k = unless (refusal_of ((not (is_some (session_at session k.sessions)), refusals.UnknownSession) ∷ [])) k (yes_or_no k (kv_lock k.version i key value flags session k.kv))
+act i (KvUnlock key flags value session) k = yes_or_no k (kv_unlock k.version i key value flags session k.kv)
 act i (KvDelete key) k = on_kv k (kv_delete key k.kv)
 act i (KvDeleteCas key index) k = yes_or_no k (kv_delete_cas key index k.kv)
 act i (KvDeleteTree prefix) k = on_kv k (kv_delete_tree prefix k.kv)
-act i (Txn ops) k = txn_end k (run_ops i k.sessions 0 ops k.kv [])
+act i (Txn ops) k = txn_end k (run_ops k.version i k.sessions 0 ops k.kv [])
 act i (SessionCreate id name node checks behavior delay_ms ttl_ms) k =
     create_session (record { id = id; name = name; node = node; checks = checks; behavior = behavior; delay_ms = delay_ms; ttl_ms = ttl_ms; create = i; modify = i }) k
 act i (SessionDestroy id) k = (k, Yes)
@@ -195,6 +195,7 @@ act i (QuerySet id create name session service only_passing tags dns_ttl_ms) k =
     set_query create (record { id = id; name = name; session = session; service = service; only_passing = only_passing; tags = tags; dns_ttl_ms = dns_ttl_ms; create = i; modify = i }) k
 act i (QueryDelete id) k = (record k { queries = without (λ r. nat_eq r.id id) k.queries }, Done)
 act i Reap k = (k, Done)
+act i Upgrade k = (record k { version = 2 }, Yes)
 
 -- the session that a destroy names
 abbrev pub names : Command → SessionRow → Bool

@@ -35,15 +35,26 @@ instance_rows services k =
 abbrev pub service_rows : List ℕ → Catalog → Catalog
 service_rows name k = instance_rows (filter (λ s. same_text s.name name) k.services) k
 
+-- the row of a node with its services, and its checks
+abbrev pub node_rows : List ℕ → Catalog → Catalog
+node_rows node k =
+    record empty_catalog {
+      nodes = filter (λ r. same_text r.node node) k.nodes;
+      services = filter (λ s. same_text s.node node) k.services;
+    }
+
+abbrev pub checks_of : List ℕ → Catalog → List CheckRow
+checks_of node k = filter (λ c. same_text c.node node) k.checks
+
 -- A catalog with the rows alone that the query reads.
 unfoldable pub reads : Query → Catalog → Catalog
 reads q.Nodes k = record empty_catalog { nodes = k.nodes }
 reads q.Services k = record empty_catalog { services = k.services }
 reads (q.Service name tags) k = service_rows name k
-reads (q.NodeServices node) k = record empty_catalog { nodes = k.nodes; services = k.services }
+reads (q.NodeServices node) k = node_rows node k
 reads (q.HealthService name tags passing) k = service_rows name k
 reads (q.HealthChecks name) k = record empty_catalog { checks = k.checks; services = k.services }
-reads (q.HealthNode node) k = record empty_catalog { checks = k.checks; services = k.services }
+reads (q.HealthNode node) k = record (node_rows node k) { checks = checks_of node k }
 reads (q.HealthState state) k = record empty_catalog { checks = k.checks; services = k.services }
 reads (q.Key key) k = record empty_catalog { kv = filter (λ r. same_text r.key key) k.kv }
 reads (q.Prefix prefix) k = record empty_catalog { kv = filter (λ r. has_prefix prefix r.key) k.kv }

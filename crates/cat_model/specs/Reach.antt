@@ -10,7 +10,7 @@ use Rattle.cat_model.specs.Channels.{chans, fires}
 use Rattle.cat_model.specs.declared.query.Query.{Query}
 use Rattle.cat_model.specs.declared.command.Command.{Command}
 use Rattle.cat_model.specs.declared.query.Chan.{Chan}
-use Rattle.cat_model.specs.declared.query.Chan.TheVariants.{Nodes, Services, Checks, Sessions, Queries, Service, Vanished, Key, Prefix, Reaped}
+use Rattle.cat_model.specs.declared.query.Chan.TheVariants.{Nodes, Services, Checks, Sessions, Queries, Service, Vanished, Node, NodeChecks, NodeGone, Key, Prefix, Reaped}
 
 abbrev pub is_nodes : Chan → Bool
 is_nodes Nodes = true
@@ -44,6 +44,18 @@ abbrev pub is_service : List ℕ → Chan → Bool
 is_service name (Service other) = same_text name other
 is_service name other = false
 
+abbrev pub is_node : List ℕ → Chan → Bool
+is_node node (Node other) = same_text node other
+is_node node other = false
+
+abbrev pub is_node_checks : List ℕ → Chan → Bool
+is_node_checks node (NodeChecks other) = same_text node other
+is_node_checks node other = false
+
+abbrev pub is_node_gone : Chan → Bool
+is_node_gone NodeGone = true
+is_node_gone other = false
+
 abbrev pub is_prefix : List ℕ → Chan → Bool
 is_prefix prefix (Prefix other) = same_text prefix other
 is_prefix prefix other = false
@@ -63,6 +75,9 @@ reaches Sessions chan = is_sessions chan
 reaches Queries chan = is_queries chan
 reaches (Service name) chan = is_service name chan
 reaches Vanished chan = is_vanished chan
+reaches (Node node) chan = is_node node chan
+reaches (NodeChecks node) chan = is_node_checks node chan
+reaches NodeGone chan = is_node_gone chan
 reaches (Key key) chan = is_key key chan
 reaches (Prefix prefix) chan = is_prefix prefix chan
 reaches Reaped chan = is_reaped chan

@@ -43,6 +43,11 @@ alike_checks a b =
     same_text a.node b.node && same_text a.id b.id && same_text a.name b.name && same_status a.status b.status
     && same_text a.notes b.notes && same_text a.output b.output && same_text a.service b.service
 
+abbrev pub alike_kv : KvRow → KvRow → Bool
+alike_kv a b =
+    same_text a.key b.key && same_text a.value b.value && nat_eq a.flags b.flags && same_option a.session b.session
+    && nat_eq a.lock_index b.lock_index
+
 unfoldable pub same_node : NodeRow → NodeRow → Bool
 same_node a b = alike_nodes a b && nat_eq a.create b.create && nat_eq a.modify b.modify
 
@@ -53,9 +58,7 @@ unfoldable pub same_check : CheckRow → CheckRow → Bool
 same_check a b = alike_checks a b && nat_eq a.create b.create && nat_eq a.modify b.modify
 
 unfoldable pub same_kv : KvRow → KvRow → Bool
-same_kv a b =
-    same_text a.key b.key && same_text a.value b.value && nat_eq a.flags b.flags && same_option a.session b.session
-    && nat_eq a.lock_index b.lock_index && nat_eq a.create b.create && nat_eq a.modify b.modify
+same_kv a b = alike_kv a b && nat_eq a.create b.create && nat_eq a.modify b.modify
 
 unfoldable pub same_session : SessionRow → SessionRow → Bool
 same_session a b =

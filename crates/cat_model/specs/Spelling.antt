@@ -13,7 +13,7 @@ use Rattle.cat_model.specs.declared.command.NewService.{NewService}
 use Rattle.cat_model.specs.declared.command.NewCheck.{NewCheck}
 use Rattle.cat_model.specs.declared.command.TxnOp.{TxnOp}
 use Rattle.cat_model.specs.declared.command.Command.{Command}
-use Rattle.cat_model.specs.declared.command.Command.TheVariants.{Noop, Register, Deregister, KvSet, KvCas, KvLock, KvUnlock, KvDelete, KvDeleteCas, KvDeleteTree, Txn, SessionCreate, SessionDestroy, QuerySet, QueryDelete, Reap}
+use Rattle.cat_model.specs.declared.command.Command.TheVariants.{Noop, Register, Deregister, KvSet, KvCas, KvLock, KvUnlock, KvDelete, KvDeleteCas, KvDeleteTree, Txn, SessionCreate, SessionDestroy, QuerySet, QueryDelete, Reap, Upgrade}
 
 -- seven bits a byte, the lowest first, each byte but the last with its top bit set, in at most so many more bytes
 unfoldable pub number_within : ℕ → ℕ → List ℕ
@@ -84,7 +84,7 @@ op_bytes op =
     concat (verb_bytes op.verb ∷ text_bytes op.key ∷ text_bytes op.value ∷ number_bytes op.flags ∷ number_bytes op.index
     ∷ option_bytes id_bytes op.session ∷ [])
 
--- the byte that tells the sixteen commands apart
+-- the byte that tells the seventeen commands apart
 abbrev pub tag_of : Command → ℕ
 tag_of Noop = 0
 tag_of (Register node address service checks) = 1
@@ -102,6 +102,7 @@ tag_of (SessionDestroy id) = 12
 tag_of (QuerySet id create name session service only_passing tags dns_ttl_ms) = 13
 tag_of (QueryDelete id) = 14
 tag_of Reap = 15
+tag_of Upgrade = 16
 
 -- the fields of each, in their order
 abbrev pub fields_of : Command → List (List ℕ)
@@ -129,7 +130,13 @@ fields_of (QuerySet id create name session service only_passing tags dns_ttl_ms)
     ∷ flag_bytes only_passing ∷ list_bytes text_bytes tags ∷ number_bytes dns_ttl_ms ∷ []
 fields_of (QueryDelete id) = id_bytes id ∷ []
 fields_of Reap = []
+fields_of Upgrade = []
+
+-- the version of the format in which the command came in
+abbrev pub version_of : Command → ℕ
+version_of Upgrade = 2
+version_of other = 1
 
 -- the spelling of a command: the version, the tag and the fields
 abbrev pub spelling : Command → List ℕ
-spelling command = 1 ∷ tag_of command ∷ concat (fields_of command)
+spelling command = version_of command ∷ tag_of command ∷ concat (fields_of command)

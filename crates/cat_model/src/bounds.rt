@@ -159,7 +159,7 @@ impl Command {
         ensures { IsTrue result ↔ InBounds self.now }
     {
         match self {
-            Command::Noop | Command::Reap => true,
+            Command::Noop | Command::Reap | Command::Upgrade => true,
             Command::Register {
                 node,
                 address,

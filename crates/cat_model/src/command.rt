@@ -133,6 +133,9 @@ pub enum Command {
     },
     /// Forgets at which positions keys were removed.
     Reap,
+    /// Goes on with version 2 of the catalog machine, in which a write that changes nothing of a key's row leaves it
+    /// where it was last modified.
+    Upgrade,
 }
 
 /// One place of a log: the term in which a leader entered the command, and the number of the request that asked

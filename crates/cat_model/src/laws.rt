@@ -12,7 +12,7 @@ ghost use Rattle.cat_model.specs.Catalog.{Catalog, InOrder};
 ghost use Rattle.cat_model.specs.Channels.{CoveringLaw, Reaches};
 ghost use Rattle.cat_model.specs.Reach.{reaches, ReadsLaw, HitLaw};
 ghost use Rattle.cat_model.specs.declared.query.Chan.{Chan};
-ghost use Rattle.cat_model.specs.Views.{Kept, StandsFor, ViewLaw, NamesAfter, kept_after, nothing_kept};
+ghost use Rattle.cat_model.specs.Views.{Kept, StandsFor, ViewLaw, NamePositions, NamesAfter, kept_after, nothing_kept};
 ghost use Rattle.cat_model.specs.Syncs.{HasRemote, IsSyncable, IsOfNode, Synced, PlanLaw, MergeLaw, all_applied, plan};
 ghost use Rattle.cat_model.specs.declared.row.NodeRow.{NodeRow};
 ghost use Rattle.cat_model.specs.declared.fired.Local.{Local};
@@ -59,7 +59,7 @@ pub fn lock_law()
 /// The same of each operation of a transaction that does not fail.
 #[tactic(auto, using(crate::proofs::LockSteps::operate_step))]
 pub fn operation_law()
-    ensures { (position : ℕ) (sessions : List SessionRow) (verb : Verb) (op : TxnOp) (rows : List KvRow) → IfDone rows (operate position sessions verb op rows) }
+    ensures { (version position : ℕ) (sessions : List SessionRow) (verb : Verb) (op : TxnOp) (rows : List KvRow) → IfDone rows (operate version position sessions verb op rows) }
 {}
 
 /// In the catalog after any log each list is in the order of its keys, with at most one row for a key.
@@ -97,7 +97,7 @@ pub fn first_view_law()
 /// What the tables keep goes on standing for the log, whatever the command: what the command fires moves to its
 /// position, and the keys that it removes get tombstones.
 pub fn view_step_law()
-    ensures { (kept : Kept) (log : List Command) (command : Command) (names : List (List ℕ × ℕ)) → StandsFor kept log → NamesAfter (length log + 1) command kept names → StandsFor (kept_after (length log + 1) command names kept) (log ++ command ∷ []) }
+    ensures { (kept : Kept) (log : List Command) (command : Command) (names : NamePositions) → StandsFor kept log → NamesAfter (length log + 1) command kept names → StandsFor (kept_after (length log + 1) command names kept) (log ++ command ∷ []) }
 {}
 
 /// The plan of a sync, applied by itself to a catalog with the remote rows, makes it synced.

@@ -111,6 +111,12 @@ pub enum Chan {
     Service(Text),
     /// Some service's last instance went.
     Vanished,
+    /// The row of this node, or its services.
+    Node(Text),
+    /// The checks of this node.
+    NodeChecks(Text),
+    /// Some node went.
+    NodeGone,
     Key(Text),
     /// A key with this prefix. Only a fired key reaches it.
     Prefix(Text),

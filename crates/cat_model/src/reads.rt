@@ -19,11 +19,18 @@ use crate::{Answer, Chan, KvRow, List, Memory, Query, Steps};
 use std::alloc::Global;
 use std::sync::ledger::Ledger;
 
-/// The rows of the keys and the sessions, on which the operations of a transaction are done.
+/// The rows of the keys and the sessions, on which the operations of a transaction are done, with the version of the
+/// catalog machine that does them.
 pub trait KvRows {
+    ghost version: { Self → ℕ };
+
     ghost rows: { Self → List KvRow };
 
     ghost sessions: { Self → List SessionRow };
+
+    /// The version of the machine, 1 or 2.
+    fn version(&self) -> u32
+        ensures { result ≡ version self.now };
 
     /// The row of the key.
     fn row(&self, key: &str) -> Option<&KvRow>

@@ -100,6 +100,23 @@ pub struct Draw {
     pub lo: u64,
 }
 
+impl Draw {
+    ghost use Rattle.std.specs.Prelude.{◌≡◌, ◌/◌, ◌%◌, ◌^◌};
+    ghost use Rattle.cat_model.specs.Identifiers.{identifier};
+
+    /// The identifier that the two words make: a UUID of version 4 (RFC 9562, section 5.4).
+    #[tactic(auto, unfolding(crate::specs::Identifiers::identifier))]
+    pub fn identifier(self) -> u128
+        ensures value { result ≡ identifier self.hi self.lo }
+        ensures version { result / 2 ^ 76 % 16 ≡ 4 }
+        ensures variant { result / 2 ^ 62 % 4 ≡ 2 }
+    {
+        let high = self.hi / 65536 * 65536 + 16384 + self.hi % 4096;
+        let low = 9_223_372_036_854_775_808 + self.lo % 4_611_686_018_427_387_904;
+        u128::from(high) * 18_446_744_073_709_551_616 + u128::from(low)
+    }
+}
+
 /// What may happen to a cluster in one step. Servers and agents are numbered from 1, and times are milliseconds.
 #[derive(Debug, Drop)]
 pub enum Event {

@@ -1,5 +1,7 @@
 pub mod Filters
 pub mod Gathering
+pub mod Naming
 pub mod OneKey
+pub mod NodeReads
 pub mod Cutting
 pub mod NameLists

@@ -1,4 +1,6 @@
+pub mod Executing
 pub mod Laws
 pub mod Places
 pub mod Placing
 pub mod Standing
+pub mod Unread

@@ -1,13 +1,15 @@
 //! The answer to each query.
 
-ghost use Rattle.std.specs.Prelude.{◌≡◌, [], IfOk};
+ghost use Rattle.std.specs.Prelude.{◌≡◌, IfOk};
 ghost use Rattle.cat_model.specs.Queries.{answer, names_and_tags};
 ghost use Rattle.catalog_query.specs.Standing.{rows_of};
 
-use crate::{checks, instances, keys, names, nodes};
-use cat_model::{Answer, List, Memory, Query};
+use crate::{checks, instances, keys, names, nodes, queries, sessions};
+use cat_model::{Answer, Memory, Query};
 use catalog_table::CatalogTable;
 use kv_table::KvTable;
+use query_table::QueryTable;
+use session_table::SessionTable;
 use std::alloc::Global;
 
 fn of_services(alloc: Global, catalog: &CatalogTable) -> Result<Answer, Memory>
@@ -22,9 +24,11 @@ pub(crate) fn of_query(
     alloc: Global,
     kv: &KvTable,
     catalog: &CatalogTable,
+    sessions: &SessionTable,
+    queries: &QueryTable,
     query: &Query,
 ) -> Result<Answer, Memory>
-    ensures { IfOk result (λ x. x ≡ answer query.now (rows_of kv.now.now catalog.now.now)) }
+    ensures { IfOk result (λ x. x ≡ answer query.now (rows_of kv.now.now catalog.now.now sessions.now.now queries.now.now)) }
 {
     match query {
         Query::Nodes => Ok(Answer::Nodes(catalog.nodes(alloc)?)),
@@ -46,10 +50,10 @@ pub(crate) fn of_query(
         Query::Keys { prefix, separator } => Ok(Answer::Names(keys::names_under(
             alloc, kv, prefix, separator,
         )?)),
-        Query::SessionInfo { .. } | Query::SessionsOf { .. } | Query::Sessions => {
-            Ok(Answer::Sessions(List::new(alloc)))
-        }
-        Query::QueryInfo { .. } => Ok(Answer::Absent),
-        Query::Queries => Ok(Answer::Queries(List::new(alloc))),
+        Query::SessionInfo { id } => sessions::of_id(alloc, sessions, *id),
+        Query::SessionsOf { node } => Ok(Answer::Sessions(sessions.of_node(alloc, node.as_str())?)),
+        Query::Sessions => Ok(Answer::Sessions(sessions.all(alloc)?)),
+        Query::QueryInfo { id } => queries::of_id(alloc, queries, *id),
+        Query::Queries => Ok(Answer::Queries(queries.all(alloc)?)),
     }
 }

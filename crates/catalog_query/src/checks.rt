@@ -1,25 +1,17 @@
 //! Checks with the names of their services.
 
 ghost use Rattle.std.specs.Prelude.{◌≡◌, ◌&&◌, not, IfOk, filter, map};
-ghost use Rattle.std.specs.Option.{option_copied};
 ghost use Rattle.cat_model.specs.Keys.{same_text, is_empty};
-ghost use Rattle.cat_model.specs.Queries.{name_of, check_view, has_status, service_named, check_views};
+ghost use Rattle.cat_model.specs.Queries.{answer, check_view, has_status, service_named, check_views};
+ghost use Rattle.cat_model.specs.declared.query.Query.TheVariants as q;
 ghost use Rattle.catalog_table.specs.Rows.{catalog_of};
 
-use crate::texts::{is_blank, is_same};
-use cat_model::{Answer, CheckRow, CheckView, List, Memory, ServiceRow, Status, Text};
+use cat_model::{Answer, CheckRow, CheckView, List, Memory, Status, Text};
 use catalog_table::CatalogTable;
+use health_view::name_or_blank;
+use health_view::texts::{is_blank, is_same};
 use lists::{copy_of, made};
 use std::alloc::Global;
-
-fn name_or_blank(alloc: Global, service: Option<&ServiceRow>) -> Result<Text, Memory>
-    ensures { IfOk result (λ name. name ≡ name_of (option_copied service.entry)) }
-{
-    match service {
-        None => Text::new(alloc, ""),
-        Some(s) => Ok(s.name.clone()?),
-    }
-}
 
 fn service_name(alloc: Global, catalog: &CatalogTable, c: &CheckRow) -> Result<Text, Memory>
     ensures { IfOk result (λ name. name ≡ (check_view catalog.now.now.services c.now).service_name) }
@@ -79,9 +71,9 @@ pub(crate) fn of_service(
     shown(alloc, catalog, checks)
 }
 
-/// The checks of this node.
+/// The checks of this node, each with the name of its service there.
 pub(crate) fn of_node(alloc: Global, catalog: &CatalogTable, node: &Text) -> Result<Answer, Memory>
-    ensures { IfOk result (λ x. x ≡ check_views (λ c. same_text c.node node.now) (catalog_of catalog.now.now)) }
+    ensures { IfOk result (λ x. x ≡ answer (q.HealthNode node.now) (catalog_of catalog.now.now)) }
 {
     let checks = catalog.checks_of(alloc, node.as_str())?;
     shown(alloc, catalog, checks)

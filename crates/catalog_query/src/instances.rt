@@ -40,7 +40,11 @@ fn place_each(
 }
 
 /// The instances of the services with this name. Each is joined with the rows of its own node alone.
-fn all_named(alloc: Global, catalog: &CatalogTable, name: &Text) -> Result<List<Instance>, Memory>
+pub(crate) fn all_named(
+    alloc: Global,
+    catalog: &CatalogTable,
+    name: &Text,
+) -> Result<List<Instance>, Memory>
     ensures { IfOk result (λ l. l ≡ instances (service_rows name.now (catalog_of catalog.now.now))) }
 {
     let services = catalog.services_named(alloc, name.as_str())?;

@@ -1,8 +1,11 @@
-//! The answers to queries with their indexes, read from the tables of a store, and the channels on which they hang.
+//! The answers to queries with their indexes, read from the tables of a store, the channels on which they hang, and what
+//! prepared queries give.
 #![tactic(auto)]
 
 mod answers;
 mod checks;
+mod executions;
+mod fault;
 mod hanging;
 mod indexes;
 mod instances;
@@ -10,8 +13,10 @@ mod keys;
 pub mod laws;
 mod names;
 mod nodes;
+mod queries;
 mod reads;
-mod texts;
+mod sessions;
 mod view;
 
-pub use view::{View, chans, evaluate};
+pub use fault::ExecuteFault;
+pub use view::{View, chans, evaluate, execute};

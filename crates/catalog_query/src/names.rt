@@ -6,8 +6,8 @@ ghost use Rattle.cat_model.specs.Tables.{Ascends};
 ghost use Rattle.cat_model.specs.Queries.{with_name, all_names, all_tags, names_and_tags};
 ghost use Rattle.catalog_query.specs.Places.{rank};
 
-use crate::texts::is_same;
 use cat_model::{List, Memory, NameTags, ServiceRow, Text, Texts};
+use health_view::texts::is_same;
 use lists::{copy_of, gathered, kept, made};
 use std::alloc::Global;
 

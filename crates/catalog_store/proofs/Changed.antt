@@ -1,17 +1,18 @@
 -- The channels of a change are those that fire.
-use Rattle.std.proofs.Common.{◌≡◌, ◌≢◌, ℕ, ◌+◌, ◌<◌, Bool, true, false, ◌||◌, List, [], ◌∷◌, ◌++◌, refl, sym, ◌∙◌, ap, map, arith, Contains}
+use Rattle.std.proofs.Common.{◌≡◌, ◌≢◌, ℕ, ◌+◌, ◌<◌, Bool, true, false, ◌||◌, ◌&&◌, List, [], ◌∷◌, ◌++◌, refl, sym, ◌∙◌, ap, subst, map, arith, Contains}
 use Rattle.std.specs.List.{AllByRecursion, IsDistinct}
 use Rattle.std.proofs.lemmas.Bool.{false≢true, true≢false}
 use Rattle.std.proofs.lemmas.List.Elements.{Contains-append_left, Contains-append_right}
 use Rattle.cat_model.specs.Keys.{same_text}
 use Rattle.cat_model.specs.declared.query.Chan.{Chan}
-use Rattle.cat_model.specs.declared.query.Chan.TheVariants.{Nodes, Services, Checks, Sessions, Queries, Service, Vanished, Key, Prefix, Reaped}
+use Rattle.cat_model.specs.declared.query.Chan.TheVariants.{Nodes, Services, Checks, Sessions, Queries, Service, Vanished, Node, NodeChecks, NodeGone, Key, Prefix, Reaped}
 use Rattle.cat_model.proofs.SameLemmas.{text_decides}
 use Rattle.cat_model.proofs.TableLemmas.{All-weaker, All-append}
 use Rattle.catalog_table.specs.Names.{is_among}
 use Rattle.catalog_table.specs.declared.changed.Changed.{Changed}
-use Rattle.catalog_store.specs.Firing.{Once, FiresJust}
-use Rattle.catalog_store.specs.Registering.{has_some, one_if, changed_chans}
+use Rattle.key_commands.specs.Firing.{Once, FiresJust}
+use Rattle.catalog_store.specs.Registering.{has_some, one_if, all_chans, goes}
+use Rattle.catalog_store.specs.declared.registering.NodeChange.{NodeChange}
 
 -- channels of smaller kinds are others
 kind : Chan → ℕ
@@ -22,6 +23,9 @@ kind Sessions = 9
 kind Queries = 9
 kind (Service name) = 0
 kind Vanished = 4
+kind (Node node) = 5
+kind (NodeChecks node) = 6
+kind NodeGone = 7
 kind (Key key) = 9
 kind (Prefix prefix) = 9
 kind Reaped = 9
@@ -99,19 +103,22 @@ one_stands true chan e = (0, omega arith, refl)
 one_stands false chan e = absurd (false≢true e)
 
 -- what a step fires is what changed
-pub record FiresChanged (fired : Chan → Bool) (c : Changed) : Type 0 where
+pub record FiresChanged (fired : Chan → Bool) (c : Changed) (node : List ℕ) (n : NodeChange) : Type 0 where
   pub nodes : fired Nodes ≡ c.nodes
   pub services : fired Services ≡ c.services
   pub checks : fired Checks ≡ c.checks
   pub names : (name : List ℕ) → fired (Service name) ≡ is_among c.names name
   pub vanished : fired Vanished ≡ has_some c.vanished
+  pub hosts : (other : List ℕ) → fired (Node other) ≡ (same_text node other && n.rows)
+  pub host_checks : (other : List ℕ) → fired (NodeChecks other) ≡ (same_text node other && n.checks)
+  pub gone : fired NodeGone ≡ goes n
   pub sessions : fired Sessions ≡ false
   pub queries : fired Queries ≡ false
   pub keys : (key : List ℕ) → fired (Key key) ≡ false
   pub prefixes : (prefix : List ℕ) → fired (Prefix prefix) ≡ false
   pub reaped : fired Reaped ≡ false
 
-module _ (fired : Chan → Bool) (c : Changed) (h : FiresChanged fired c) (distinct : IsDistinct same_text c.names) where
+module _ (fired : Chan → Bool) (c : Changed) (node : List ℕ) (n : NodeChange) (h : FiresChanged fired c node n) (distinct : IsDistinct same_text c.names) where
   abbrev all1 : List Chan
   all1 = map (λ name. Service name) c.names
 
@@ -123,6 +130,15 @@ module _ (fired : Chan → Bool) (c : Changed) (h : FiresChanged fired c) (disti
 
   abbrev all4 : List Chan
   all4 = all3 ++ one_if c.checks Checks
+
+  abbrev all5 : List Chan
+  all5 = all4 ++ one_if (has_some c.vanished) Vanished
+
+  abbrev all6 : List Chan
+  all6 = all5 ++ one_if n.rows (Node node)
+
+  abbrev all7 : List Chan
+  all7 = all6 ++ one_if n.checks (NodeChecks node)
 
   below2 : Below 2 all2
   unfolding kind
@@ -136,15 +152,34 @@ module _ (fired : Chan → Bool) (c : Changed) (h : FiresChanged fired c) (disti
   unfolding kind
   below4 = below_more 3 all3 c.checks Checks refl below3
 
-  once : Once (changed_chans c)
+  below5 : Below 5 all5
   unfolding kind
-  once = once_more all4 (has_some c.vanished) Vanished below4 (once_more all3 c.checks Checks below3 (once_more all2 c.services Services below2 (once_more all1 c.nodes Nodes (below_names c.names) (once_names c.names distinct))))
+  below5 = below_more 4 all4 (has_some c.vanished) Vanished refl below4
+
+  below6 : Below 6 all6
+  unfolding kind
+  below6 = below_more 5 all5 n.rows (Node node) refl below5
+
+  below7 : Below 7 all7
+  unfolding kind
+  below7 = below_more 6 all6 n.checks (NodeChecks node) refl below6
+
+  once5 : Once all5
+  unfolding kind
+  once5 = once_more all4 (has_some c.vanished) Vanished below4 (once_more all3 c.checks Checks below3 (once_more all2 c.services Services below2 (once_more all1 c.nodes Nodes (below_names c.names) (once_names c.names distinct))))
+
+  once : Once (all_chans c node n)
+  unfolding kind
+  once = once_more all7 (goes n) NodeGone below7 (once_more all6 n.checks (NodeChecks node) below6 (once_more all5 n.rows (Node node) below5 once5))
 
   abbrev Fired : List Chan → Type 0
   Fired = AllByRecursion (λ chan. fired chan ≡ true)
 
-  just : Fired (changed_chans c)
-  just =
+  own_fires : (chan : Chan) (b : Bool) → fired chan ≡ (same_text node node && b) → fired chan ≡ b
+  own_fires chan b e = e ∙ ap (λ t. t && b) ((text_decides node node).1 refl)
+
+  just5 : Fired all5
+  just5 =
       All-append (λ chan. fired chan ≡ true) all4 (one_if (has_some c.vanished) Vanished)
       (All-append (λ chan. fired chan ≡ true) all3 (one_if c.checks Checks)
       (All-append (λ chan. fired chan ≡ true) all2 (one_if c.services Services)
@@ -155,26 +190,55 @@ module _ (fired : Chan → Bool) (c : Changed) (h : FiresChanged fired c) (disti
       (one_fires fired c.checks Checks h.checks))
       (one_fires fired (has_some c.vanished) Vanished h.vanished)
 
-  quiet : (chan : Chan) → fired chan ≡ false → fired chan ≡ true → Contains (changed_chans c) chan
+  just : Fired (all_chans c node n)
+  just =
+      All-append (λ chan. fired chan ≡ true) all7 (one_if (goes n) NodeGone)
+      (All-append (λ chan. fired chan ≡ true) all6 (one_if n.checks (NodeChecks node))
+      (All-append (λ chan. fired chan ≡ true) all5 (one_if n.rows (Node node)) just5
+      (one_fires fired n.rows (Node node) (own_fires (Node node) n.rows (h.hosts node))))
+      (one_fires fired n.checks (NodeChecks node) (own_fires (NodeChecks node) n.checks (h.host_checks node))))
+      (one_fires fired (goes n) NodeGone h.gone)
+
+  quiet : (chan : Chan) → fired chan ≡ false → fired chan ≡ true → Contains (all_chans c node n) chan
   quiet chan is e = absurd (false≢true (sym is ∙ e))
 
-  from3 : (chan : Chan) → Contains all3 chan → Contains (changed_chans c) chan
-  from3 chan e = Contains-append_left all4 (one_if (has_some c.vanished) Vanished) chan (Contains-append_left all3 (one_if c.checks Checks) chan e)
+  from6 : (chan : Chan) → Contains all6 chan → Contains (all_chans c node n) chan
+  from6 chan e = Contains-append_left all7 (one_if (goes n) NodeGone) chan (Contains-append_left all6 (one_if n.checks (NodeChecks node)) chan e)
 
-  from2 : (chan : Chan) → Contains all2 chan → Contains (changed_chans c) chan
+  from5 : (chan : Chan) → Contains all5 chan → Contains (all_chans c node n) chan
+  from5 chan e = from6 chan (Contains-append_left all5 (one_if n.rows (Node node)) chan e)
+
+  from3 : (chan : Chan) → Contains all3 chan → Contains (all_chans c node n) chan
+  from3 chan e = from5 chan (Contains-append_left all4 (one_if (has_some c.vanished) Vanished) chan (Contains-append_left all3 (one_if c.checks Checks) chan e))
+
+  from2 : (chan : Chan) → Contains all2 chan → Contains (all_chans c node n) chan
   from2 chan e = from3 chan (Contains-append_left all2 (one_if c.services Services) chan e)
 
-  every : (chan : Chan) → fired chan ≡ true → Contains (changed_chans c) chan
+  both : (a b : Bool) → (a && b) ≡ true → (a ≡ true) × (b ≡ true)
+  both true true e = (refl, refl)
+  both true false e = absurd (false≢true e)
+  both false b e = absurd (false≢true e)
+
+  every : (chan : Chan) → fired chan ≡ true → Contains (all_chans c node n) chan
   every Nodes e = from2 Nodes (Contains-append_right all1 (one_if c.nodes Nodes) Nodes (one_stands c.nodes Nodes (sym h.nodes ∙ e)))
   every Services e = from3 Services (Contains-append_right all2 (one_if c.services Services) Services (one_stands c.services Services (sym h.services ∙ e)))
-  every Checks e = Contains-append_left all4 (one_if (has_some c.vanished) Vanished) Checks (Contains-append_right all3 (one_if c.checks Checks) Checks (one_stands c.checks Checks (sym h.checks ∙ e)))
+  every Checks e = from5 Checks (Contains-append_left all4 (one_if (has_some c.vanished) Vanished) Checks (Contains-append_right all3 (one_if c.checks Checks) Checks (one_stands c.checks Checks (sym h.checks ∙ e))))
   every Sessions e = quiet Sessions h.sessions e
   every Queries e = quiet Queries h.queries e
   every (Service name) e = from2 (Service name) (Contains-append_left all1 (one_if c.nodes Nodes) (Service name) (among_contains c.names name (sym (h.names name) ∙ e)))
-  every Vanished e = Contains-append_right all4 (one_if (has_some c.vanished) Vanished) Vanished (one_stands (has_some c.vanished) Vanished (sym h.vanished ∙ e))
+  every Vanished e = from5 Vanished (Contains-append_right all4 (one_if (has_some c.vanished) Vanished) Vanished (one_stands (has_some c.vanished) Vanished (sym h.vanished ∙ e)))
+  every (Node other) e =
+      let parts = both (same_text node other) n.rows (sym (h.hosts other) ∙ e) in
+      subst (λ m. Contains (all_chans c node n) (Node m)) ((text_decides node other).0 parts.0)
+      (from6 (Node node) (Contains-append_right all5 (one_if n.rows (Node node)) (Node node) (one_stands n.rows (Node node) parts.1)))
+  every (NodeChecks other) e =
+      let parts = both (same_text node other) n.checks (sym (h.host_checks other) ∙ e) in
+      subst (λ m. Contains (all_chans c node n) (NodeChecks m)) ((text_decides node other).0 parts.0)
+      (Contains-append_left all7 (one_if (goes n) NodeGone) (NodeChecks node) (Contains-append_right all6 (one_if n.checks (NodeChecks node)) (NodeChecks node) (one_stands n.checks (NodeChecks node) parts.1)))
+  every NodeGone e = Contains-append_right all7 (one_if (goes n) NodeGone) NodeGone (one_stands (goes n) NodeGone (sym h.gone ∙ e))
   every (Key key) e = quiet (Key key) (h.keys key) e
   every (Prefix prefix) e = quiet (Prefix prefix) (h.prefixes prefix) e
   every Reaped e = quiet Reaped h.reaped e
 
-  pub changed_just : FiresJust fired (changed_chans c)
+  pub changed_just : FiresJust fired (all_chans c node n)
   changed_just = record { every = every; just = just; once = once }

@@ -1,10 +1,11 @@
-pub mod Tombs
-pub mod Fires
-pub mod Writes
-pub mod Removals
-pub mod Commands
-pub mod Keeping
-pub mod Trees
-pub mod Changed
-pub mod Marking
-pub mod RowSteps
+mod Marking
+mod Changed
+mod NodeFires
+mod Quiet
+mod RowSteps
+mod Keeping
+mod Endings
+mod Loops
+mod KeySteps
+mod Makings
+mod Settings

@@ -5,7 +5,7 @@ use Rattle.std.proofs.lemmas.List.{length-reverse}
 use Rattle.std.proofs.lemmas.List.Folds.{list_any-append}
 use Rattle.cat_model.specs.Keys.{same_text}
 use Rattle.cat_model.specs.Machine.{at_past, catalog_at}
-use Rattle.cat_model.specs.Indexes.{has_name}
+use Rattle.cat_model.specs.Indexes.{has_name, has_node}
 use Rattle.cat_model.specs.Channels.{fires}
 use Rattle.cat_model.specs.Views.{moved, position_of, past_fired, last_fired}
 use Rattle.cat_model.specs.declared.query.Chan.{Chan}
@@ -13,12 +13,13 @@ use Rattle.cat_model.specs.declared.query.Chan.TheVariants as chan
 use Rattle.cat_model.specs.declared.command.Command.{Command}
 use Rattle.cat_model.proofs.SameLemmas.{text_decides}
 use Rattle.catalog_table.specs.Names.{is_among}
+use Rattle.catalog_table.specs.declared.changed.Changed.{Changed}
 use Rattle.table_index.specs.NameVersions.{own_position}
-use Rattle.table_index.specs.States.{IndexState, SameTables, TouchesName, VanishesName, table_position, name_position, with_table}
+use Rattle.table_index.specs.States.{IndexState, SameTables, SameHosts, TouchesName, VanishesName, table_position, name_position, with_table}
 use Rattle.table_index.specs.declared.positions.Table.{Table}
 use Rattle.table_index.specs.declared.positions.Table.TheVariants.{Nodes, Services, Checks, Sessions, Queries}
-use Rattle.catalog_store.specs.Standing.{PositionsStand}
-use Rattle.catalog_store.specs.Registering.{Within, TouchesEach, VanishesEach, touched_if, has_some}
+use Rattle.catalog_store.specs.Standing.{PositionsStand, Within}
+use Rattle.catalog_store.specs.Registering.{TouchesEach, VanishesEach, MarksNames, touched_if, has_some}
 
 pub within_table : (i : ℕ) (table : Table) (index : IndexState) → Within i index → table_position table index ≤ i
 within_table i Nodes index w = w.nodes
@@ -31,15 +32,19 @@ own_bound : (i : ℕ) → i ≤ i
 own_bound i = omega arith
 
 touched_within : (i : ℕ) (table : Table) (index : IndexState) → Within i index → Within i (with_table table i index)
-touched_within i Nodes index w = record { nodes = own_bound i; services = w.services; checks = w.checks; sessions = w.sessions; queries = w.queries; vanished = w.vanished; names = w.names }
-touched_within i Services index w = record { nodes = w.nodes; services = own_bound i; checks = w.checks; sessions = w.sessions; queries = w.queries; vanished = w.vanished; names = w.names }
-touched_within i Checks index w = record { nodes = w.nodes; services = w.services; checks = own_bound i; sessions = w.sessions; queries = w.queries; vanished = w.vanished; names = w.names }
-touched_within i Sessions index w = record { nodes = w.nodes; services = w.services; checks = w.checks; sessions = own_bound i; queries = w.queries; vanished = w.vanished; names = w.names }
-touched_within i Queries index w = record { nodes = w.nodes; services = w.services; checks = w.checks; sessions = w.sessions; queries = own_bound i; vanished = w.vanished; names = w.names }
+touched_within i Nodes index w = record { nodes = own_bound i; services = w.services; checks = w.checks; sessions = w.sessions; queries = w.queries; vanished = w.vanished; names = w.names; hosts = w.hosts; host_checks = w.host_checks; gone = w.gone }
+touched_within i Services index w = record { nodes = w.nodes; services = own_bound i; checks = w.checks; sessions = w.sessions; queries = w.queries; vanished = w.vanished; names = w.names; hosts = w.hosts; host_checks = w.host_checks; gone = w.gone }
+touched_within i Checks index w = record { nodes = w.nodes; services = w.services; checks = own_bound i; sessions = w.sessions; queries = w.queries; vanished = w.vanished; names = w.names; hosts = w.hosts; host_checks = w.host_checks; gone = w.gone }
+touched_within i Sessions index w = record { nodes = w.nodes; services = w.services; checks = w.checks; sessions = own_bound i; queries = w.queries; vanished = w.vanished; names = w.names; hosts = w.hosts; host_checks = w.host_checks; gone = w.gone }
+touched_within i Queries index w = record { nodes = w.nodes; services = w.services; checks = w.checks; sessions = w.sessions; queries = own_bound i; vanished = w.vanished; names = w.names; hosts = w.hosts; host_checks = w.host_checks; gone = w.gone }
 
 pub within_if : (i : ℕ) (b : Bool) (table : Table) (index : IndexState) → Within i index → Within i (touched_if b table i index)
 within_if i true table index w = touched_within i table index w
 within_if i false table index w = w
+
+pub moved_within : (i : ℕ) (b : Bool) (n m : ℕ) → m ≡ moved i b n → n ≤ i → m ≤ i
+moved_within i true n m is h = omega (arith, is)
+moved_within i false n m is h = omega (arith, is, h)
 
 same_turned : (a b : List ℕ) → same_text a b ≡ same_text b a
 same_turned a b = same_from_decides _ _ (text_decides a b) (λ e. sym ((text_decides b a).0 e), λ e. (text_decides b a).1 (sym e))
@@ -60,6 +65,9 @@ touched_name i name old new w t = record {
   queries = subst (λ n. n ≤ i) (sym t.tables.queries) w.queries;
   vanished = subst (λ n. n ≤ i) (sym t.vanished) w.vanished;
   names = each;
+  hosts = λ node. subst (λ n. n ≤ i) (λ j. unwrap_or (own_position node (sym t.nodes.hosts j)) (sym t.nodes.gone j)) (w.hosts node);
+  host_checks = λ node. subst (λ n. n ≤ i) (λ j. unwrap_or (own_position node (sym t.nodes.host_checks j)) 1) (w.host_checks node);
+  gone = subst (λ n. n ≤ i) (sym t.nodes.gone) w.gone;
 }
   where
     each : (other : List ℕ) → name_position other new ≤ i
@@ -68,6 +76,33 @@ touched_name i name old new w t = record {
         go : (b : Bool) → same_text name other ≡ b → name_position other new ≤ i
         go true e = subst (λ o. unwrap_or o new.vanished ≤ i) (sym (ap (λ n. own_position n new.names) (sym ((text_decides name other).0 e)) ∙ t.own)) (own_bound i)
         go false e = subst (λ o. unwrap_or o new.vanished ≤ i) (sym (t.others other e)) (subst (λ v. unwrap_or (own_position other old.names) v ≤ i) (sym t.vanished) (w.names other))
+
+-- what is marked is not above the position
+pub marks_within : (i : ℕ) (c : Changed) (old new : IndexState) → Within i old → MarksNames i c old new → Within i new
+marks_within i c old new w m = record {
+  nodes = moved_within i c.nodes old.nodes new.nodes m.nodes w.nodes;
+  services = moved_within i c.services old.services new.services m.services w.services;
+  checks = moved_within i c.checks old.checks new.checks m.checks w.checks;
+  sessions = subst (λ n. n ≤ i) (sym m.sessions) w.sessions;
+  queries = subst (λ n. n ≤ i) (sym m.queries) w.queries;
+  vanished = vanished;
+  names = λ name. subst (λ o. unwrap_or o new.vanished ≤ i) (sym (m.own name)) (each (is_among c.vanished name) (is_among c.names name) (own_position name old.names) (w.names name));
+  hosts = λ node. subst (λ n. n ≤ i) (λ j. unwrap_or (own_position node (sym m.hosts.hosts j)) (sym m.hosts.gone j)) (w.hosts node);
+  host_checks = λ node. subst (λ n. n ≤ i) (λ j. unwrap_or (own_position node (sym m.hosts.host_checks j)) 1) (w.host_checks node);
+  gone = subst (λ n. n ≤ i) (sym m.hosts.gone) w.gone;
+}
+  where
+    vanished : new.vanished ≤ i
+    vanished = moved_within i (has_some c.vanished) old.vanished new.vanished m.vanished w.vanished
+
+    each : (v n : Bool) (o : Option ℕ) → unwrap_or o old.vanished ≤ i → unwrap_or (cond v None (cond n (Some i) o)) new.vanished ≤ i
+    each true n o h = vanished
+    each false true o h = own_bound i
+    each false false None h = vanished
+    each false false (Some p) h = h
+
+pub same_hosts : (old mid new : IndexState) → SameHosts old mid → SameHosts mid new → SameHosts old new
+same_hosts old mid new a b = record { hosts = b.hosts ∙ a.hosts; host_checks = b.host_checks ∙ a.host_checks; gone = b.gone ∙ a.gone }
 
 module _ (i : ℕ) (names : List (List ℕ)) (name : List ℕ) (old mid new : IndexState) where
   tables_more : SameTables old mid → SameTables mid new → SameTables old new
@@ -90,10 +125,10 @@ module _ (i : ℕ) (names : List (List ℕ)) (name : List ℕ) (old mid new : In
       go false e = others other e ∙ before other ∙ join (is_among names other) ∙ ap (λ b. cond (is_among names other || b) o (own_position other old.names)) (sym e)
 
   pub touches_more : TouchesEach names i old mid → TouchesName name i mid new → TouchesEach (names ++ name ∷ []) i old new
-  touches_more h t = record { tables = tables_more h.tables t.tables; vanished = t.vanished ∙ h.vanished; own = own_more (Some i) t.own t.others h.own }
+  touches_more h t = record { tables = tables_more h.tables t.tables; vanished = t.vanished ∙ h.vanished; own = own_more (Some i) t.own t.others h.own; nodes = same_hosts old mid new h.nodes t.nodes }
 
   pub vanishes_more : VanishesEach names i old mid → VanishesName name i mid new → VanishesEach (names ++ name ∷ []) i old new
-  vanishes_more h t = record { tables = tables_more h.tables t.tables; vanished = t.vanished ∙ last names; own = own_more None t.own t.others h.own }
+  vanishes_more h t = record { tables = tables_more h.tables t.tables; vanished = t.vanished ∙ last names; own = own_more None t.own t.others h.own; nodes = same_hosts old mid new h.nodes t.nodes }
     where
       last : (l : List (List ℕ)) → i ≡ moved i (has_some (l ++ name ∷ [])) old.vanished
       last [] = refl
@@ -125,6 +160,15 @@ module _ (index : IndexState) (log : List Command) (stands : PositionsStand inde
   at : (fired : Chan) (n : ℕ) → n ≡ last_fired fired log → n ≤ length log + 1
   at fired n is = subst (λ m. m ≤ length log + 1) (sym is) (last_within fired log)
 
+  own_at : (fired : Chan) (name : List ℕ) (has : Bool) (names : List (List ℕ × ℕ)) (rest : ℕ) → is_some (own_position name names) ≡ has → (has ≡ true → position_of name names ≡ last_fired fired log) → rest ≤ length log + 1 → unwrap_or (own_position name names) rest ≤ length log + 1
+  own_at fired name has names rest own is low = go (own_position name names) refl
+    where
+      go : (o : Option ℕ) → own_position name names ≡ o → unwrap_or o rest ≤ length log + 1
+      go None e = low
+      go (Some p) e =
+          let there : has ≡ true = sym own ∙ ap is_some e in
+          subst (λ m. m ≤ length log + 1) (own_or_first name names ∙ ap (λ o. unwrap_or o 1) e) (at fired (position_of name names) (is there))
+
   pub stands_within : Within (length log + 1) index
   stands_within = record {
     nodes = at chan.Nodes index.nodes stands.nodes;
@@ -133,14 +177,8 @@ module _ (index : IndexState) (log : List Command) (stands : PositionsStand inde
     sessions = at chan.Sessions index.sessions stands.sessions;
     queries = at chan.Queries index.queries stands.queries;
     vanished = at chan.Vanished index.vanished stands.vanished;
-    names = each;
+    names = λ name. own_at (chan.Service name) name (has_name name (catalog_at log)) index.names index.vanished (stands.own name) (stands.names name) (at chan.Vanished index.vanished stands.vanished);
+    hosts = λ node. own_at (chan.Node node) node (has_node node (catalog_at log)) index.hosts index.gone (stands.own_hosts node) (stands.hosts node) (at chan.NodeGone index.gone stands.gone);
+    host_checks = λ node. subst (λ m. m ≤ length log + 1) (own_or_first node index.host_checks) (stands.few node);
+    gone = at chan.NodeGone index.gone stands.gone;
   }
-    where
-      each : (name : List ℕ) → name_position name index ≤ length log + 1
-      each name = go (own_position name index.names) refl
-        where
-          go : (o : Option ℕ) → own_position name index.names ≡ o → unwrap_or o index.vanished ≤ length log + 1
-          go None e = at chan.Vanished index.vanished stands.vanished
-          go (Some p) e =
-              let has : has_name name (catalog_at log) ≡ true = sym (stands.own name) ∙ ap is_some e in
-              subst (λ m. m ≤ length log + 1) (own_or_first name index.names ∙ ap (λ o. unwrap_or o 1) e) (at (chan.Service name) (position_of name index.names) (stands.names name has))

@@ -1,5 +1,7 @@
+pub mod States
 pub mod Standing
-pub mod Firing
-pub mod Steps
+pub mod Taken
 pub mod Whole
 pub mod Registering
+pub mod Ending
+pub mod Making

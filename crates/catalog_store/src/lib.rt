@@ -1,9 +1,14 @@
 //! The tables of the catalog together with the log that they stand for.
 #![tactic(auto)]
 
-mod keys;
+mod channels;
+mod ending;
+mod queries;
 mod registering;
+mod sessions;
+mod steps;
 mod store;
+mod tables;
 mod taken;
 
 pub use store::Store;

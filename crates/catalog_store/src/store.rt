@@ -1,16 +1,19 @@
 ghost use Rattle.std.specs.Prelude.{◌≡◌, ◌≤◌, ◌+◌, [], ◌∷◌, ◌++◌, IfOk, OnOk, OnErr, length, map, true};
 ghost use Rattle.cat_model.specs.Machine.{catalog_at, reply_to, freed};
 ghost use Rattle.cat_model.specs.Channels.{fires};
-ghost use Rattle.catalog_store.specs.Standing.{KeysStand, RowsStand, PositionsStand};
-ghost use Rattle.catalog_store.specs.Firing.{FiresJust};
-ghost use Rattle.catalog_store.specs.Steps.{is_taken, Earlier};
+ghost use Rattle.key_commands.specs.Firing.{FiresJust};
+ghost use Rattle.catalog_store.specs.States.{now_of, before_of};
+ghost use Rattle.catalog_store.specs.Standing.{KeysStand, RowsStand, PositionsStand, Ready};
+ghost use Rattle.catalog_store.specs.Taken.{is_taken};
 ghost use Rattle.catalog_store.specs.Whole.{TablesStep};
-ghost use Rattle.catalog_store.specs.Registering.{Within, Owned};
 
-use crate::{keys, registering};
-use cat_model::{Applied, Chan, Command, Fired, List, Memory};
+use crate::steps::step;
+use crate::tables::Tables;
+use cat_model::{Applied, Command, Fired, Memory};
 use catalog_table::CatalogTable;
 use kv_table::KvTable;
+use query_table::QueryTable;
+use session_table::SessionTable;
 use std::alloc::Global;
 use std::marker::Model;
 use table_index::TableIndex;
@@ -18,9 +21,7 @@ use table_index::TableIndex;
 /// The tables with the commands that were applied to them. Contracts see it as the list of these, the first one first.
 #[derive(Drop)]
 pub struct Store {
-    kv: KvTable,
-    catalog: CatalogTable,
-    indexes: TableIndex,
+    tables: Tables,
     applied: Vec<Command>,
 }
 
@@ -33,7 +34,7 @@ impl Model for Store {
 
     ghost view = { λ s. s.applied.items };
 
-    ghost invariant = { λ s. Holds s.kv s.catalog s.indexes s.applied.items };
+    ghost invariant = { λ s. Holds s.tables s.applied.items };
 }
 
 // A copy of a command.
@@ -43,60 +44,23 @@ fn copy_of(command: &Command) -> Result<Command, Memory>
     Ok(command.clone()?)
 }
 
-// Applies the command to the tables.
-fn step(
-    alloc: Global,
-    kv: &mut KvTable,
-    catalog: &mut CatalogTable,
-    indexes: &mut TableIndex,
-    position: u64,
-    command: &Command,
-) -> Result<(Applied, List<Chan>), Memory>
-    requires earlier { Earlier position kv.old.now.rows }
-    requires within { Within position indexes.old.now }
-    requires owned { Owned catalog.old.now indexes.old.now }
-    requires kind { is_taken command.now ≡ true }
-    ensures step { IfOk result (λ d. TablesStep position command.now kv.old.now kv.new.now catalog.old.now catalog.new.now indexes.old.now indexes.new.now d.0 d.1) }
-    ensures keys { kv.new.before ≡ kv.old.before }
-    ensures lists { catalog.new.before ≡ catalog.old.before }
-    ensures positions { indexes.new.before ≡ indexes.old.before }
-{
-    match command {
-        Command::Register { .. } => {
-            registering::register(alloc, catalog, indexes, position, command)
-        }
-        Command::Deregister {
-            node,
-            service,
-            check,
-        } => registering::deregister(alloc, catalog, indexes, position, node, service, check),
-        _ => keys::apply(alloc, kv, position, command),
-    }
-}
-
 // Applies the command to the tables, and puts it last. Want of memory leaves the list as it was.
 fn advance(
     alloc: Global,
-    kv: &mut KvTable,
-    catalog: &mut CatalogTable,
-    indexes: &mut TableIndex,
+    tables: &mut Tables,
     applied: &mut Vec<Command>,
     position: u64,
     command: &Command,
-) -> Result<(Applied, List<Chan>), Memory>
-    requires earlier { Earlier position kv.old.now.rows }
-    requires within { Within position indexes.old.now }
-    requires owned { Owned catalog.old.now indexes.old.now }
+) -> Result<(Applied, Fired), Memory>
+    requires ready { Ready position (now_of tables.old) }
     requires kind { is_taken command.now ≡ true }
-    ensures step { IfOk result (λ d. TablesStep position command.now kv.old.now kv.new.now catalog.old.now catalog.new.now indexes.old.now indexes.new.now d.0 d.1) }
+    ensures step { IfOk result (λ d. TablesStep position command.now (now_of tables.old) (now_of tables.new) d.0 d.1) }
     ensures ok { OnOk result (applied.new.items ≡ applied.old.items ++ command.now ∷ []) }
     ensures err { OnErr result (applied.new.items ≡ applied.old.items) }
-    ensures keys { kv.new.before ≡ kv.old.before }
-    ensures lists { catalog.new.before ≡ catalog.old.before }
-    ensures positions { indexes.new.before ≡ indexes.old.before }
+    ensures before { before_of tables.new ≡ before_of tables.old }
 {
     let copy = copy_of(command)?;
-    let done = step(alloc, kv, catalog, indexes, position, command)?;
+    let done = step(alloc, tables, position, command)?;
     applied.push(copy)?;
     Ok(done)
 }
@@ -107,9 +71,7 @@ impl Store {
         ensures { IfOk result (λ s. s ≡ []) }
     {
         Ok(Store {
-            kv: KvTable::new(alloc)?,
-            catalog: CatalogTable::new(alloc),
-            indexes: TableIndex::new(alloc)?,
+            tables: Tables::new(alloc)?,
             applied: Vec::new(alloc),
         })
     }
@@ -133,27 +95,27 @@ impl Store {
     {
         match advance(
             alloc,
-            &mut self.kv,
-            &mut self.catalog,
-            &mut self.indexes,
+            &mut self.tables,
             &mut self.applied,
             position,
             command,
         ) {
-            Ok((answer, chans)) => {
-                self.kv.keep();
-                self.catalog.keep();
-                self.indexes.keep();
-                let freed = List::new(alloc);
-                Ok((answer, Fired { chans, freed }))
+            Ok(done) => {
+                self.tables.keep();
+                Ok(done)
             }
             Err(memory) => {
-                self.kv.undo();
-                self.catalog.undo();
-                self.indexes.undo();
+                self.tables.undo();
                 Err(memory)
             }
         }
+    }
+
+    /// The version of the catalog machine.
+    pub fn version(&self) -> u32
+        ensures { result ≡ (catalog_at self.now).version }
+    {
+        self.tables.version
     }
 
     /// The table of the keys.
@@ -161,7 +123,7 @@ impl Store {
         ensures now { KeysStand result.now.now self.now }
         ensures kept { result.now.before ≡ result.now.now }
     {
-        &self.kv
+        &self.tables.kv
     }
 
     /// The table of nodes, services and checks.
@@ -169,15 +131,31 @@ impl Store {
         ensures now { RowsStand result.now.now self.now }
         ensures kept { result.now.before ≡ result.now.now }
     {
-        &self.catalog
+        &self.tables.catalog
     }
 
-    /// The indexes of the tables and of the service names.
+    /// The table of sessions.
+    pub fn sessions(&self) -> &SessionTable
+        ensures now { result.now.now ≡ (catalog_at self.now).sessions }
+        ensures kept { result.now.before ≡ result.now.now }
+    {
+        &self.tables.sessions
+    }
+
+    /// The table of prepared queries.
+    pub fn queries(&self) -> &QueryTable
+        ensures now { result.now.now ≡ (catalog_at self.now).queries }
+        ensures kept { result.now.before ≡ result.now.now }
+    {
+        &self.tables.queries
+    }
+
+    /// The indexes of the tables, of the service names and of the nodes.
     pub fn indexes(&self) -> &TableIndex
         ensures now { PositionsStand result.now.now self.now }
         ensures kept { result.now.before ≡ result.now.now }
     {
-        &self.indexes
+        &self.tables.indexes
     }
 
     /// How many commands were applied.

@@ -89,6 +89,13 @@ impl CatalogTable {
         Ok(List::from(self.services.copied(alloc, |r| is_text(&r.name, name))?))
     }
 
+    /// Copies of the node's services, by ID.
+    pub fn services_of(&self, alloc: Global, node: &str) -> Result<List<ServiceRow>, Memory>
+        ensures { IfOk result (λ l. l ≡ filter (λ r. same_text r.node node.now) self.now.now.services) }
+    {
+        Ok(List::from(self.services.copied(alloc, |r| is_text(&r.node, node))?))
+    }
+
     /// Copies of the node's checks, by ID.
     pub fn checks_of(&self, alloc: Global, node: &str) -> Result<List<CheckRow>, Memory>
         ensures { IfOk result (λ l. l ≡ filter (λ r. same_text r.node node.now) self.now.now.checks) }

@@ -6,7 +6,7 @@ use Rattle.std.specs.List.{AllByRecursion as Each, find}
 use Rattle.cat_model.specs.declared.applied.Applied.TheVariants.{Yes}
 use Rattle.cat_model.specs.declared.command.Entry.{Entry}
 use Rattle.cat_model.specs.declared.command.Command.{Command}
-use Rattle.cat_model.specs.declared.command.Command.TheVariants.{Noop, Register, Deregister, KvSet, KvCas, KvLock, KvUnlock, KvDelete, KvDeleteCas, KvDeleteTree, Txn, SessionCreate, SessionDestroy, QuerySet, QueryDelete, Reap}
+use Rattle.cat_model.specs.declared.command.Command.TheVariants.{Noop, Register, Deregister, KvSet, KvCas, KvLock, KvUnlock, KvDelete, KvDeleteCas, KvDeleteTree, Txn, SessionCreate, SessionDestroy, QuerySet, QueryDelete, Reap, Upgrade}
 use Rattle.cat_model.specs.declared.query.Query.{Query}
 use Rattle.cat_model.specs.declared.request.Mode.{Mode}
 use Rattle.cat_model.specs.declared.request.Asked.{Asked}
@@ -55,6 +55,7 @@ put_content q (SessionDestroy a) put = absurd put
 put_content q (QuerySet a b c d e f g h) put = absurd put
 put_content q (QueryDelete a) put = absurd put
 put_content q Reap put = absurd put
+put_content q Upgrade put = absurd put
 
 pub copied_content : (q : Question) (command copy : Command) → q.asked ≡ Good (Write command) → IsTakenAsked q.asked → copy ≡ command → Tells copy Yes ≡ write_content q q.asked Yes
 copied_content q command copy e t same =
@@ -86,6 +87,7 @@ write_done q (Good (Write (SessionDestroy a))) position log t = absurd t
 write_done q (Good (Write (QuerySet a b c d e f g h))) position log t = absurd t
 write_done q (Good (Write (QueryDelete a))) position log t = absurd t
 write_done q (Good (Write Reap)) position log t = absurd t
+write_done q (Good (Write Upgrade)) position log t = absurd t
 write_done q (Good (Renew id)) position log t = absurd t
 write_done q (Good (Agent op)) position log t = absurd t
 write_done q (Bad why) position log t = refl

@@ -16,6 +16,9 @@ use raft_node::{ProbeFault, ProposeFault};
 use replica::Replica;
 use std::alloc::Global;
 
+// Lets go of a replica that nobody is to read.
+fn discard(_replica: Replica) {}
+
 impl<K: Keeper + Drop> Servers<K> {
     /// The election timeout of a server is over.
     pub fn timeout(&mut self, alloc: Global, s: u32) -> Result<(), Memory>
@@ -127,9 +130,16 @@ impl<K: Keeper + Drop> Servers<K> {
         ensures agreement { KeepsAgreement self.old.world self.new.world }
     {
         let anew = Replica::new(alloc)?;
-        self.world.restart(alloc, s)?;
-        let at = place(s);
-        self.replicas[at] = anew;
-        Ok(())
+        match self.world.restart(alloc, s) {
+            Ok(()) => {
+                let at = place(s);
+                self.replicas[at] = anew;
+                Ok(())
+            }
+            Err(Memory) => {
+                discard(anew);
+                Err(Memory)
+            }
+        }
     }
 }

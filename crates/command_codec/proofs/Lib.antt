@@ -10,3 +10,5 @@ pub mod ItemSteps
 pub mod CommandReads
 pub mod Whole
 pub mod Answering
+pub mod NumberLengths
+pub mod Lengths

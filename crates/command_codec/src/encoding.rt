@@ -1,6 +1,6 @@
 ghost use Rattle.std.specs.Prelude.{◌≡◌, ◌++◌, ◌∷◌, [], Option, OnErr, OnOk};
 ghost use Rattle.std.specs.List.{concat};
-ghost use Rattle.cat_model.specs.Spelling.{check_bytes, fields_of, flag_bytes, id_bytes, list_bytes, number_bytes, op_bytes, option_bytes, service_bytes, spelling, status_bytes, behavior_bytes, tag_of, text_bytes, verb_bytes};
+ghost use Rattle.cat_model.specs.Spelling.{check_bytes, fields_of, flag_bytes, id_bytes, list_bytes, number_bytes, op_bytes, option_bytes, service_bytes, spelling, status_bytes, behavior_bytes, tag_of, text_bytes, verb_bytes, version_of};
 
 use cat_model::{
     Behavior, Bytes, Command, List, Memory, NewCheck, NewService, Status, Text, Texts, TxnOp, Verb,
@@ -219,6 +219,15 @@ fn put_choice(
     Ok(())
 }
 
+fn version_byte(command: &Command) -> u8
+    ensures { result ≡ version_of command.now }
+{
+    match command {
+        Command::Upgrade => 2,
+        _ => 1,
+    }
+}
+
 fn tag_byte(command: &Command) -> u8
     ensures { result ≡ tag_of command.now }
 {
@@ -239,6 +248,7 @@ fn tag_byte(command: &Command) -> u8
         Command::QuerySet { .. } => 13,
         Command::QueryDelete { .. } => 14,
         Command::Reap => 15,
+        Command::Upgrade => 16,
     }
 }
 
@@ -246,7 +256,7 @@ fn put_fields(out: &mut Vec<u8>, command: &Command) -> Result<(), Memory>
     ensures { OnOk result (out.new.items ≡ out.old.items ++ concat (fields_of command.now)) }
 {
     match command {
-        Command::Noop | Command::Reap => {}
+        Command::Noop | Command::Reap | Command::Upgrade => {}
         Command::Register {
             node,
             address,
@@ -344,7 +354,7 @@ pub fn encode(alloc: Global, command: &Command, out: &mut Bytes) -> Result<(), M
     ensures err { OnErr result (out.new ≡ out.old) }
 {
     let mut bytes = Vec::new(alloc);
-    bytes.push(1)?;
+    bytes.push(version_byte(command))?;
     bytes.push(tag_byte(command))?;
     put_fields(&mut bytes, command)?;
     out.extend(&bytes)

@@ -2,6 +2,7 @@
 #![tactic(auto)]
 
 mod commands;
+mod counting;
 mod decoding;
 mod encoding;
 mod fault;
@@ -9,9 +10,7 @@ mod fields;
 mod lists;
 mod texts;
 
+pub use counting::encoded_len;
 pub use decoding::decode;
 pub use encoding::encode;
 pub use fault::DecodeFault;
-
-#[cfg(test)]
-mod tests;

@@ -2,7 +2,7 @@
 
 ghost use Rattle.std.specs.Prelude.{◌≡◌, filter};
 ghost use Rattle.cat_model.specs.Queries.{has_tag, has_all_tags, all_pass};
-ghost use Rattle.cat_model.specs.Executions.{none_critical};
+ghost use Rattle.cat_model.specs.Executions.{meets_tag, meets_all_tags, none_critical};
 
 use crate::texts::{is_same, is_same_status};
 use cat_model::{Instance, List, Status, Text, Texts};
@@ -40,6 +40,35 @@ fn has_all(wanted: &Texts, x: &Instance) -> bool
         .all(|tag| is_tagged(&x.service.tags, tag))
 }
 
+fn has_bytes(tags: &Texts, tag: &[u8]) -> bool
+    ensures { result ≡ has_tag tags.now tag.now }
+{
+    tags.as_slice().iter().any(|t| tag == t.as_str().as_bytes())
+}
+
+/// Whether the tags meet the wanted one: `!t` wants that `t` is absent.
+fn is_met(tags: &Texts, wanted: &Text) -> bool
+    ensures { result ≡ meets_tag tags.now wanted.now }
+{
+    let bytes = wanted.as_str().as_bytes();
+    let Some((first, rest)) = bytes.split_first() else {
+        return has_bytes(tags, bytes);
+    };
+    if *first == b'!' {
+        return !has_bytes(tags, rest);
+    }
+    has_bytes(tags, bytes)
+}
+
+fn are_met(wanted: &Texts, x: &Instance) -> bool
+    ensures { result ≡ meets_all_tags wanted.now x.now }
+{
+    wanted
+        .as_slice()
+        .iter()
+        .all(|tag| is_met(&x.service.tags, tag))
+}
+
 /// The instances all of whose checks pass. Takes no memory.
 pub fn only_passing(list: List<Instance>) -> List<Instance>
     ensures { result ≡ filter all_pass list }
@@ -64,5 +93,16 @@ pub fn with_tags(list: List<Instance>, tags: &Texts) -> List<Instance>
 {
     let mut found = list.into_vec();
     found.retain(|x| has_all(tags, x));
+    List::from(found)
+}
+
+/// The instances whose service meets each of these tags, where `!t` wants that `t` is absent. Takes no memory.
+///
+/// Consul, Prepared Queries HTTP endpoint: "Create Prepared Query" (Tags).
+pub fn meeting_tags(list: List<Instance>, wanted: &Texts) -> List<Instance>
+    ensures { result ≡ filter (meets_all_tags wanted.now) list }
+{
+    let mut found = list.into_vec();
+    found.retain(|x| are_met(wanted, x));
     List::from(found)
 }

@@ -26,7 +26,8 @@ fn find_service<'a>(node: &Text, id: &Text, rows: &'a [ServiceRow]) -> Option<&'
         .find(|r| compare_pairs(node, id, &r.node, &r.id).is_eq())
 }
 
-fn name_or_blank(alloc: Global, service: Option<&ServiceRow>) -> Result<Text, Memory>
+/// The name of the service, or an empty one where it is not there.
+pub fn name_or_blank(alloc: Global, service: Option<&ServiceRow>) -> Result<Text, Memory>
     ensures { IfOk result (λ name. name ≡ name_of (option_copied service.entry)) }
 {
     match service {

@@ -3,7 +3,7 @@
 
 mod filters;
 mod instances;
-mod texts;
+pub mod texts;
 
-pub use filters::{not_critical, only_passing, with_tags};
-pub use instances::join;
+pub use filters::{meeting_tags, not_critical, only_passing, with_tags};
+pub use instances::{join, name_or_blank};

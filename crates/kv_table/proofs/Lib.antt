@@ -1,3 +1,4 @@
 pub mod Prefixes
 pub mod Modifies
 pub mod TombLemmas
+pub mod Holding

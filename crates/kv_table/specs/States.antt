@@ -1,7 +1,8 @@
 -- What a table of keys holds, as it is and as it stood at the last `keep`.
 use Rattle.std.specs.Prelude.{◌≡◌, ℕ, false, List, [], ◌∷◌}
 use Rattle.std.proofs.Common.{max}
-use Rattle.std.specs.Prelude.{Bool}
+use Rattle.std.specs.Prelude.{Bool, Some}
+use Rattle.cat_model.specs.Keys.{same_option}
 use Rattle.cat_model.specs.Kv.{put_kv, kv_delete}
 use Rattle.cat_model.specs.KvIndexes.{last_tomb}
 use Rattle.cat_model.specs.declared.row.KvRow.{KvRow}
@@ -18,6 +19,10 @@ pub record KvVersions : Type 0 where
 
 abbrev pub empty_state : KvState
 empty_state = record { rows = []; tombs = []; floor = 1 }
+
+-- the session holds the key of the row
+abbrev pub is_held_by : ℕ → KvRow → Bool
+is_held_by session r = same_option r.session (Some session)
 
 -- the last tombstone under each test is the same
 abbrev pub SameTombs : List (List ℕ × ℕ) → List (List ℕ × ℕ) → Type 0

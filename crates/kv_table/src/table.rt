@@ -4,8 +4,10 @@ ghost use Rattle.cat_model.specs.Keys.{text_cmp, has_prefix};
 ghost use Rattle.cat_model.specs.Tables.{Ascends};
 ghost use Rattle.cat_model.specs.Catalog.{kv_at, kv_key};
 ghost use Rattle.cat_model.specs.KvIndexes.{key_index, prefix_index};
-ghost use Rattle.kv_table.specs.States.{empty_state, SetsRow, RemovesRow, AddsTomb, Reaps};
+ghost use Rattle.kv_table.specs.States.{empty_state, is_held_by, SetsRow, RemovesRow, AddsTomb, Reaps};
 
+use crate::held::{Held, keys_of};
+use crate::holders::{remove, set};
 use crate::rows::{keys_under, modified_under, under};
 use crate::tombs::Tombs;
 use cat_model::{KvRow, List, Memory, Text, Texts};
@@ -18,15 +20,19 @@ use std::marker::Model;
 #[derive(Drop)]
 pub struct KvTable {
     rows: RowTable<KvRow>,
+    held: RowTable<Held>,
     tombs: Tombs,
 }
 
 impl Model for KvTable {
     ghost use Rattle.kv_table.specs.States.{KvVersions};
+    ghost use Rattle.kv_table.specs.Holders.{FilesHolders};
 
     ghost Value = { KvVersions };
 
     ghost view = { λ t. record { now = record { rows = t.rows.now; tombs = t.tombs.now.tombs; floor = t.tombs.now.floor }; before = record { rows = t.rows.before; tombs = t.tombs.before.tombs; floor = t.tombs.before.floor } } };
+
+    ghost invariant = { λ t. FilesHolders t.rows.now t.held.now × FilesHolders t.rows.before t.held.before };
 }
 
 impl KvTable {
@@ -36,6 +42,7 @@ impl KvTable {
     {
         Ok(KvTable {
             rows: RowTable::new(alloc),
+            held: RowTable::new(alloc),
             tombs: Tombs::new(alloc),
         })
     }
@@ -55,7 +62,7 @@ impl KvTable {
         ensures back { IfErr result (λ e. e.0 ≡ row) }
         ensures err { OnErr result (self.new ≡ self.old) }
     {
-        self.rows.set(row)
+        set(&mut self.rows, &mut self.held, row)
     }
 
     /// Removes the row of a key, and tells whether there was one. The key gets its tombstone by `tombstone`.
@@ -64,7 +71,7 @@ impl KvTable {
         ensures ok { OnOk result (RemovesRow key.now self.old self.new) }
         ensures err { OnErr result (self.new ≡ self.old) }
     {
-        Ok(self.rows.remove(&ByKey(key)))
+        Ok(remove(&mut self.rows, &mut self.held, key))
     }
 
     /// Copies of the rows whose key begins with the prefix, in byte order.
@@ -81,6 +88,14 @@ impl KvTable {
         ensures order { IfOk result (Ascends text_cmp (λ key. key)) }
     {
         Ok(List::from(keys_under(alloc, &self.rows, prefix)?))
+    }
+
+    /// The keys that the session holds, in byte order.
+    pub fn held_by(&self, alloc: Global, session: u128) -> Result<Texts, Memory>
+        ensures keys { IfOk result (λ keys. keys ≡ map kv_key (filter (is_held_by session) self.now.now.rows)) }
+        ensures order { IfOk result (Ascends text_cmp (λ key. key)) }
+    {
+        Ok(List::from(keys_of(alloc, &self.rows, &self.held, session)?))
     }
 
     /// Marks that the key was removed at the position.
@@ -122,6 +137,7 @@ impl KvTable {
         ensures before { self.new.before ≡ self.old.now }
     {
         self.rows.keep();
+        self.held.keep();
         self.tombs.keep();
     }
 
@@ -131,6 +147,7 @@ impl KvTable {
         ensures before { self.new.before ≡ self.old.before }
     {
         self.rows.undo();
+        self.held.undo();
         self.tombs.undo();
     }
 }

@@ -4,8 +4,8 @@ ghost use Rattle.cat_model.specs.Machine.{catalog_at, freed};
 ghost use Rattle.cat_model.specs.Channels.{fires};
 ghost use Rattle.cat_model.specs.Queries.{answer};
 ghost use Rattle.cat_model.specs.Indexes.{index_of};
-ghost use Rattle.catalog_store.specs.Firing.{FiresJust};
-ghost use Rattle.catalog_store.specs.Steps.{is_taken};
+ghost use Rattle.key_commands.specs.Firing.{FiresJust};
+ghost use Rattle.catalog_store.specs.Taken.{is_taken};
 ghost use Rattle.office_rules.specs.Offices.{looks_on, office_from};
 ghost use Rattle.replica.specs.States.{nothing_applied, applied_at, in_office, last_reply};
 
@@ -142,6 +142,8 @@ impl Replica {
         let view = View {
             kv: self.store.kv(),
             catalog: self.store.catalog(),
+            sessions: self.store.sessions(),
+            queries: self.store.queries(),
             indexes: self.store.indexes(),
         };
         catalog_query::evaluate(alloc, &view, query, steps)

@@ -6,3 +6,6 @@ pub mod Settled
 pub mod Whole
 pub mod NextRows
 pub mod Spans
+pub mod Filed
+pub mod FiledUnder
+pub mod Places

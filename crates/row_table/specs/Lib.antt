@@ -4,3 +4,4 @@ pub mod Versions
 pub mod Trees
 pub mod Edits
 pub mod Walks
+pub mod Filing

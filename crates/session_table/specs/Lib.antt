@@ -1,2 +1,2 @@
-pub mod Holdings
+pub mod Nodes
 pub mod States

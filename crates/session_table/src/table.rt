@@ -1,74 +1,71 @@
-ghost use Rattle.std.specs.Prelude.{◌≡◌, None, IfOk, OnErr, OnOk, filter, is_some, map};
+ghost use Rattle.std.specs.Prelude.{◌≡◌, [], None, IfOk, OnErr, OnOk, filter, is_some, map};
 ghost use Rattle.std.specs.Option.{option_copied};
 ghost use Rattle.std.specs.Ordering.{is_eq, nat_cmp};
 ghost use Rattle.cat_model.specs.Catalog.{session_at, session_key};
-ghost use Rattle.cat_model.specs.Keys.{text_cmp};
-ghost use Rattle.cat_model.specs.Tables.{put, row_at, without, Ascends};
-ghost use Rattle.session_table.specs.Holdings.{held_cmp, held_key, keys_held, let_go_of, is_of_node, is_on};
-ghost use Rattle.session_table.specs.States.{empty_state};
+ghost use Rattle.cat_model.specs.Tables.{put, without, Ascends};
+ghost use Rattle.session_table.specs.Nodes.{is_of_node, is_on};
 
-use crate::checks::{ids_on, is_of_node};
-use crate::held::{ByHolder, Held, keys_of};
-use cat_model::{List, Memory, SessionRow, Text, Texts};
+use crate::nodes::OnNode;
+use crate::rows::{add, ids_on, remove, rows_on};
+use cat_model::{List, Memory, SessionRow};
 use row_table::{ById, RowTable};
 use std::alloc::Global;
 use std::marker::Model;
 
-/// The rows of sessions, and the keys that they hold. Contracts see it as it is now and as it stood at the last `keep`,
-/// or at `new` where there was none.
+/// The rows of sessions. Contracts see them as they are now and as they stood at the last `keep`, or at `new` where there
+/// was none.
 #[derive(Drop)]
 pub struct SessionTable {
     rows: RowTable<SessionRow>,
-    held: RowTable<Held>,
+    nodes: RowTable<OnNode>,
 }
 
 impl Model for SessionTable {
+    ghost use Rattle.session_table.specs.Nodes.{FilesNodes};
     ghost use Rattle.session_table.specs.States.{SessionVersions};
 
     ghost Value = { SessionVersions };
 
-    ghost view = { λ t. record { now = record { rows = t.rows.now; held = t.held.now }; before = record { rows = t.rows.before; held = t.held.before } } };
+    ghost view = { λ t. record { now = t.rows.now; before = t.rows.before } };
+
+    ghost invariant = { λ t. FilesNodes t.rows.now t.nodes.now × FilesNodes t.rows.before t.nodes.before };
 }
 
 impl SessionTable {
     /// The empty table, which takes no memory.
     pub fn new(alloc: Global) -> SessionTable
-        ensures { result ≡ record { now = empty_state; before = empty_state } }
+        ensures { result ≡ record { now = []; before = [] } }
     {
         SessionTable {
             rows: RowTable::new(alloc),
-            held: RowTable::new(alloc),
+            nodes: RowTable::new(alloc),
         }
     }
 
     /// Adds a session whose identifier is new.
     pub fn create(&mut self, row: SessionRow) -> Result<(), Memory>
-        requires { session_at row.id self.old.now.rows ≡ None }
-        ensures rows { OnOk result (self.new.now.rows ≡ put nat_cmp session_key row self.old.now.rows) }
-        ensures held { self.new.now.held ≡ self.old.now.held }
+        requires { session_at row.id self.old.now ≡ None }
+        ensures rows { OnOk result (self.new.now ≡ put nat_cmp session_key row self.old.now) }
         ensures before { self.new.before ≡ self.old.before }
         ensures err { OnErr result (self.new ≡ self.old) }
     {
-        if let Err((_, memory)) = self.rows.set(row) {
-            return Err(memory);
-        }
-        Ok(())
+        add(&mut self.rows, &mut self.nodes, row)
     }
 
-    /// Removes the session's row, and tells whether there was one. The keys that it holds are let go by `let_go`.
+    /// Removes the session's row, and tells whether there was one. What becomes of the keys that it holds is a matter of
+    /// the table of keys.
     pub fn end(&mut self, id: u128) -> bool
-        ensures rows { self.new.now.rows ≡ without (λ r. is_eq (nat_cmp id r.id)) self.old.now.rows }
-        ensures held { self.new.now.held ≡ self.old.now.held }
+        ensures rows { self.new.now ≡ without (λ r. is_eq (nat_cmp id r.id)) self.old.now }
         ensures before { self.new.before ≡ self.old.before }
-        ensures there { result ≡ is_some (session_at id self.old.now.rows) }
+        ensures there { result ≡ is_some (session_at id self.old.now) }
     {
-        self.rows.remove(&ById(id))
+        remove(&mut self.rows, &mut self.nodes, id)
     }
 
     /// The session's row. The rows are in the order of their identifiers, one for each.
     pub fn get(&self, id: u128) -> Option<&SessionRow>
-        ensures row { option_copied result ≡ session_at id self.now.now.rows }
-        ensures order { Ascends nat_cmp session_key self.now.now.rows }
+        ensures row { option_copied result ≡ session_at id self.now.now }
+        ensures order { Ascends nat_cmp session_key self.now.now }
     {
         self.rows.in_order();
         self.rows.get(&ById(id))
@@ -76,14 +73,14 @@ impl SessionTable {
 
     /// The identifiers of the node's sessions that stand on the check, or of all of them where the check is empty.
     pub fn broken_by(&self, alloc: Global, node: &str, check: &str) -> Result<Vec<u128>, Memory>
-        ensures { IfOk result (λ v. v.items ≡ map session_key (filter (is_on node.now check.now) self.now.now.rows)) }
+        ensures { IfOk result (λ v. v.items ≡ map session_key (filter (is_on node.now check.now) self.now.now)) }
     {
-        ids_on(alloc, &self.rows, node, check)
+        ids_on(alloc, &self.rows, &self.nodes, node, check)
     }
 
     /// Copies of all rows.
     pub fn all(&self, alloc: Global) -> Result<List<SessionRow>, Memory>
-        ensures { IfOk result (λ rows. rows ≡ self.now.now.rows) }
+        ensures { IfOk result (λ rows. rows ≡ self.now.now) }
     {
         let rows = self.rows.copied(alloc, |_| true)?;
         Ok(List::from(rows))
@@ -91,41 +88,10 @@ impl SessionTable {
 
     /// Copies of the rows of the node's sessions.
     pub fn of_node(&self, alloc: Global, node: &str) -> Result<List<SessionRow>, Memory>
-        ensures { IfOk result (λ rows. rows ≡ filter (is_of_node node.now) self.now.now.rows) }
+        ensures { IfOk result (λ rows. rows ≡ filter (is_of_node node.now) self.now.now) }
     {
-        let rows = self.rows.copied(alloc, |r| is_of_node(r, node))?;
+        let rows = rows_on(alloc, &self.rows, &self.nodes, node)?;
         Ok(List::from(rows))
-    }
-
-    /// Marks that the session holds the key.
-    pub fn hold(&mut self, id: u128, key: Text) -> Result<(), Memory>
-        ensures held { OnOk result (self.new.now.held ≡ put held_cmp held_key (id, key) self.old.now.held) }
-        ensures rows { self.new.now.rows ≡ self.old.now.rows }
-        ensures before { self.new.before ≡ self.old.before }
-        ensures err { OnErr result (self.new ≡ self.old) }
-    {
-        if let Err((_, memory)) = self.held.set(Held { session: id, key }) {
-            return Err(memory);
-        }
-        Ok(())
-    }
-
-    /// Marks that the session does not hold the key, and tells whether it did.
-    pub fn let_go(&mut self, id: u128, key: &str) -> bool
-        ensures held { self.new.now.held ≡ let_go_of id key.now self.old.now.held }
-        ensures rows { self.new.now.rows ≡ self.old.now.rows }
-        ensures before { self.new.before ≡ self.old.before }
-        ensures there { result ≡ is_some (row_at held_cmp held_key (id, key.now) self.old.now.held) }
-    {
-        self.held.remove(&ByHolder { session: id, key })
-    }
-
-    /// The keys that the session holds, in byte order.
-    pub fn held(&self, alloc: Global, id: u128) -> Result<Texts, Memory>
-        ensures keys { IfOk result (λ keys. keys ≡ keys_held id self.now.now.held) }
-        ensures order { IfOk result (Ascends text_cmp (λ key. key)) }
-    {
-        Ok(List::from(keys_of(alloc, &self.held, id)?))
     }
 
     /// Makes the table as it is now that to which `undo` goes back.
@@ -134,7 +100,7 @@ impl SessionTable {
         ensures before { self.new.before ≡ self.old.now }
     {
         self.rows.keep();
-        self.held.keep();
+        self.nodes.keep();
     }
 
     /// Makes the table again what it was at the last `keep`, or at `new` where there was none.
@@ -143,6 +109,6 @@ impl SessionTable {
         ensures before { self.new.before ≡ self.old.before }
     {
         self.rows.undo();
-        self.held.undo();
+        self.nodes.undo();
     }
 }

@@ -1,4 +1,3 @@
 pub mod Positions
-pub mod Names
 pub mod NameVersions
 pub mod States

@@ -1,4 +1,4 @@
--- The positions of the service names, as they are and as they stood at the last `keep`.
+-- The positions of names, of services or of nodes, as they are and as they stood at the last `keep`.
 use Rattle.std.specs.Prelude.{◌≡◌, ℕ, false, if◌then◌else◌, List, [], ◌∷◌, Option, Some, None}
 use Rattle.cat_model.specs.Keys.{same_text}
 

@@ -1,5 +1,5 @@
 //! The last positions of the log at which the tables other than that of the keys changed, and at which what belongs to
-//! each service name did. They can be taken back to how they stood at the last `keep`.
+//! each service name and to each node did. They can be taken back to how they stood at the last `keep`.
 #![tactic(auto)]
 
 mod index;

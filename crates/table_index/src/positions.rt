@@ -11,7 +11,8 @@ pub enum Table {
     Queries,
 }
 
-/// The last position at which each table changed, and that at which a service name lost its last row.
+/// The last position at which each table changed, that at which a service name lost its last row, and that at which a node
+/// went.
 #[derive(Clone, Copy, Drop)]
 pub(crate) struct Positions {
     pub(crate) nodes: u64,
@@ -20,6 +21,7 @@ pub(crate) struct Positions {
     pub(crate) sessions: u64,
     pub(crate) queries: u64,
     pub(crate) vanished: u64,
+    pub(crate) gone: u64,
 }
 
 impl Positions {
@@ -31,6 +33,7 @@ impl Positions {
         sessions: 1,
         queries: 1,
         vanished: 1,
+        gone: 1,
     };
 
     pub(crate) fn at(&self, table: Table) -> u64

@@ -6,7 +6,7 @@ use Rattle.cat_model.specs.Reach.{reaches}
 use Rattle.cat_model.specs.Channels.{Reaches}
 use Rattle.cat_model.specs.Keys.{has_prefix}
 use Rattle.cat_model.specs.declared.query.Chan.{Chan}
-use Rattle.cat_model.specs.declared.query.Chan.TheVariants.{Nodes, Services, Checks, Sessions, Queries, Service, Vanished, Key, Prefix, Reaped}
+use Rattle.cat_model.specs.declared.query.Chan.TheVariants.{Nodes, Services, Checks, Sessions, Queries, Service, Vanished, Node, NodeChecks, NodeGone, Key, Prefix, Reaped}
 use Rattle.cat_model.proofs.Reaching.{reach_law}
 use Rattle.cat_model.proofs.SameLemmas.{text_decides}
 use Rattle.watch_registry.specs.Buckets.{mixed, bucket_of}
@@ -30,6 +30,9 @@ key_bucket key c h = go c ((reach_law (Key key) c).0 h)
     go Queries r = same Queries r
     go (Service name) r = same (Service name) r
     go Vanished r = same Vanished r
+    go (Node node) r = same (Node node) r
+    go (NodeChecks node) r = same (NodeChecks node) r
+    go NodeGone r = same NodeGone r
     go (Key other) r = same (Key other) r
     go (Prefix prefix) r = let e : prefix ≡ take (length prefix) key = prefix_is prefix key r in inr (length prefix, (omega (arith, ap length e, length-take (length prefix) key), ap (fold mixed 9) e))
     go Reaped r = same Reaped r
@@ -43,6 +46,9 @@ only_itself Sessions c n h = (reach_law Sessions c).0 h
 only_itself Queries c n h = (reach_law Queries c).0 h
 only_itself (Service name) c n h = (reach_law (Service name) c).0 h
 only_itself Vanished c n h = (reach_law Vanished c).0 h
+only_itself (Node node) c n h = (reach_law (Node node) c).0 h
+only_itself (NodeChecks node) c n h = (reach_law (NodeChecks node) c).0 h
+only_itself NodeGone c n h = (reach_law NodeGone c).0 h
 only_itself (Key key) c n h = absurd (n key refl)
 only_itself (Prefix prefix) c n h = (reach_law (Prefix prefix) c).0 h
 only_itself Reaped c n h = (reach_law Reaped c).0 h

@@ -2,7 +2,7 @@
 use Rattle.std.specs.Prelude.{ℕ, ◌+◌, ◌*◌, ◌%◌, List, [], ◌∷◌}
 use Rattle.std.specs.List.{fold}
 use Rattle.cat_model.specs.declared.query.Chan.{Chan}
-use Rattle.cat_model.specs.declared.query.Chan.TheVariants.{Nodes, Services, Checks, Sessions, Queries, Service, Vanished, Key, Prefix, Reaped}
+use Rattle.cat_model.specs.declared.query.Chan.TheVariants.{Nodes, Services, Checks, Sessions, Queries, Service, Vanished, Node, NodeChecks, NodeGone, Key, Prefix, Reaped}
 
 -- the hash of a text with one byte more
 abbrev pub mixed : ℕ → ℕ → ℕ
@@ -19,6 +19,9 @@ bucket_of Reaped = 6
 bucket_of (Service name) = fold mixed 7 name
 bucket_of (Key key) = fold mixed 8 key
 bucket_of (Prefix prefix) = fold mixed 9 prefix
+bucket_of NodeGone = 10
+bucket_of (Node node) = fold mixed 11 node
+bucket_of (NodeChecks node) = fold mixed 12 node
 
 -- the list of the first channel, or that of those with none
 abbrev pub first_list : List Chan → ℕ

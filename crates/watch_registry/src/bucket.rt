@@ -49,6 +49,9 @@ pub fn bucket(chan: &Chan) -> u32
         Chan::Service(name) => text_bucket(7, name.as_str().as_bytes()),
         Chan::Key(key) => text_bucket(8, key.as_str().as_bytes()),
         Chan::Prefix(prefix) => text_bucket(PREFIX, prefix.as_str().as_bytes()),
+        Chan::NodeGone => 10,
+        Chan::Node(node) => text_bucket(11, node.as_str().as_bytes()),
+        Chan::NodeChecks(node) => text_bucket(12, node.as_str().as_bytes()),
     }
 }
 

@@ -16,7 +16,10 @@ fn copy_of(chan: &Chan) -> Result<Chan, Memory>
         Chan::Queries => Ok(Chan::Queries),
         Chan::Vanished => Ok(Chan::Vanished),
         Chan::Reaped => Ok(Chan::Reaped),
+        Chan::NodeGone => Ok(Chan::NodeGone),
         Chan::Service(name) => Ok(Chan::Service(name.clone()?)),
+        Chan::Node(node) => Ok(Chan::Node(node.clone()?)),
+        Chan::NodeChecks(node) => Ok(Chan::NodeChecks(node.clone()?)),
         Chan::Key(key) => Ok(Chan::Key(key.clone()?)),
         Chan::Prefix(prefix) => Ok(Chan::Prefix(prefix.clone()?)),
     }

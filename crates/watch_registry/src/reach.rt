@@ -34,8 +34,17 @@ fn reaching(fired: &Chan, chan: &Chan) -> bool
         Chan::Queries => matches!(chan, Chan::Queries),
         Chan::Vanished => matches!(chan, Chan::Vanished),
         Chan::Reaped => matches!(chan, Chan::Reaped),
+        Chan::NodeGone => matches!(chan, Chan::NodeGone),
         Chan::Service(name) => match chan {
             Chan::Service(other) => same(name, other),
+            _ => false,
+        },
+        Chan::Node(node) => match chan {
+            Chan::Node(other) => same(node, other),
+            _ => false,
+        },
+        Chan::NodeChecks(node) => match chan {
+            Chan::NodeChecks(other) => same(node, other),
             _ => false,
         },
         Chan::Prefix(prefix) => match chan {

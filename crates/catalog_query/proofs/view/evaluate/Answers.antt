@@ -9,7 +9,7 @@ pub returns-clause-answer : goal.returns-clause-answer
 returns-clause-answer g c = c.in_ok-answer.ensures ∙ ap (λ (k : Kept). answer c.args.query.now k.rows) c.view.view_is
 
 pub returns-clause-index : goal.returns-clause-index
-returns-clause-index g c = c.of_query-index.ensures c.view.inside.catalog.now.now ∙ ap (view_index c.args.query.now) c.view.view_is
+returns-clause-index g c = c.of_query-index.ensures c.view.inside.sessions.now.now c.view.inside.queries.now.now ∙ ap (view_index c.args.query.now) c.view.view_is
 
 pub returns-clause-kept : goal.returns-clause-kept
 returns-clause-kept g c = λ fit. returns-clause-index g c ∙ positions_are c.args.query.now c.args.view.now fit

@@ -1,5 +1,6 @@
 use Rattle.std.proofs.Common.{◌≡◌, take}
-use Rattle.catalog_store.specs.Registering.{Within, TouchesEach}
+use Rattle.catalog_store.specs.Standing.{Within}
+use Rattle.catalog_store.specs.Registering.{TouchesEach}
 use Rattle.catalog_store.proofs.registering.touch_each.Given as goal
 
 abbrev pub invariant-loop-name : goal.invariant-loop-name

@@ -2,4 +2,4 @@ use Rattle.replica.proofs.Standing.{tables_stand}
 use Rattle.replica.proofs.laws.tables_stand.Goals as goal
 
 pub returns : goal.returns
-returns c = tables_stand
+returns c = λ kv rows sessions queries index log keys lists same_sessions same_queries. tables_stand kv rows sessions queries index log keys lists same_sessions same_queries

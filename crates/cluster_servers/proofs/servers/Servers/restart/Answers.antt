@@ -13,10 +13,10 @@ index_mut-requires g c =
     let e = same_length c.self.inside.world.nodes c.self.inside.replicas.items c.self.invariant in
     omega (arith, e, c.place-at.ensures, c.requires.0, c.requires.1, ap (λ (v : Servers). length v.world.nodes) c.self.view_is)
 
-pub invariant_of-self-2 : goal.invariant_of-self-2
-invariant_of-self-2 g c =
-    (restarts_it c.self.inside.world c.self.inside.replicas.items c.args.self.now c.self.view_is c.self.invariant c.place-at.result c.args.s c.place-at.ensures c.in_ok-anew.anew c.in_ok-anew.ensures c.restart.new.self c.in_ok-restart.ensures.ok).0
+pub invariant_of-self : goal.invariant_of-self
+invariant_of-self g c =
+    (restarts_it c.self.inside.world c.self.inside.replicas.items c.args.self.now c.self.view_is c.self.invariant c.place-at.result c.args.s c.place-at.ensures c.in_ok-anew.anew c.in_ok-anew.ensures c.restart.new.self c.in-Ok.ensures.ok).0
 
-pub returns-clause-begins : goal.returns-clause-begins
-returns-clause-begins g c =
-    (restarts_it c.self.inside.world c.self.inside.replicas.items c.args.self.now c.self.view_is c.self.invariant c.place-at.result c.args.s c.place-at.ensures c.in_ok-anew.anew c.in_ok-anew.ensures c.restart.new.self c.in_ok-restart.ensures.ok).1
+pub returns-in-Ok-clause-begins : goal.returns-in-Ok-clause-begins
+returns-in-Ok-clause-begins g c =
+    (restarts_it c.self.inside.world c.self.inside.replicas.items c.args.self.now c.self.view_is c.self.invariant c.place-at.result c.args.s c.place-at.ensures c.in_ok-anew.anew c.in_ok-anew.ensures c.restart.new.self c.in-Ok.ensures.ok).1

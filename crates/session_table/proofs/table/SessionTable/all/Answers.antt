@@ -7,4 +7,4 @@ each_passes [] = refl
 each_passes (s ∷ rows) = ap (λ l. s ∷ l) (each_passes rows)
 
 pub returns : goal.returns
-returns c = c.from.ensures ∙ c.in_ok-rows.ensures.rows (λ s. true) (λ x b h. search rules) ∙ each_passes c.self.inside.rows.now ∙ ap (λ v. v.now.rows) c.self.view_is
+returns c = c.from.ensures ∙ c.in_ok-rows.ensures.rows (λ s. true) (λ x b h. search rules) ∙ each_passes c.self.inside.rows.now ∙ ap (λ v. v.now) c.self.view_is

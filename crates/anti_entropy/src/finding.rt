@@ -1,0 +1,72 @@
+//! Rows by their keys.
+
+ghost use Rattle.std.specs.Prelude.{◌≡◌, IfOk};
+ghost use Rattle.std.specs.Option.{option_copied};
+ghost use Rattle.cat_model.specs.Keys.{pair_cmp};
+ghost use Rattle.cat_model.specs.Tables.{put};
+ghost use Rattle.cat_model.specs.Catalog.{check_at, check_key, service_at, service_key};
+
+use crate::same::compare_pairs;
+use cat_model::{CheckRow, List, Memory, ServiceRow, Text};
+use lists::{around, kept};
+use std::alloc::Global;
+
+pub(crate) fn find_service<'a>(
+    node: &Text,
+    id: &Text,
+    rows: &'a [ServiceRow],
+) -> Option<&'a ServiceRow>
+    ensures { option_copied result ≡ service_at (node.now, id.now) rows.now }
+{
+    rows.iter()
+        .find(|r| compare_pairs(node, id, &r.node, &r.id).is_eq())
+}
+
+pub(crate) fn find_check<'a>(node: &Text, id: &Text, rows: &'a [CheckRow]) -> Option<&'a CheckRow>
+    ensures { option_copied result ≡ check_at (node.now, id.now) rows.now }
+{
+    rows.iter()
+        .find(|r| compare_pairs(node, id, &r.node, &r.id).is_eq())
+}
+
+#[tactic(auto, unfolding(cat_model::specs::Tables::put))]
+pub(crate) fn place_service(
+    alloc: Global,
+    new: ServiceRow,
+    rows: &[ServiceRow],
+) -> Result<List<ServiceRow>, Memory>
+    ensures { IfOk result (λ l. l ≡ put pair_cmp service_key new rows.now) }
+{
+    let smaller = kept(
+        alloc,
+        rows,
+        |r| compare_pairs(&r.node, &r.id, &new.node, &new.id).is_lt(),
+    )?;
+    let greater = kept(
+        alloc,
+        rows,
+        |r| compare_pairs(&r.node, &r.id, &new.node, &new.id).is_gt(),
+    )?;
+    around(smaller, new, greater)
+}
+
+#[tactic(auto, unfolding(cat_model::specs::Tables::put))]
+pub(crate) fn place_check(
+    alloc: Global,
+    new: CheckRow,
+    rows: &[CheckRow],
+) -> Result<List<CheckRow>, Memory>
+    ensures { IfOk result (λ l. l ≡ put pair_cmp check_key new rows.now) }
+{
+    let smaller = kept(
+        alloc,
+        rows,
+        |r| compare_pairs(&r.node, &r.id, &new.node, &new.id).is_lt(),
+    )?;
+    let greater = kept(
+        alloc,
+        rows,
+        |r| compare_pairs(&r.node, &r.id, &new.node, &new.id).is_gt(),
+    )?;
+    around(smaller, new, greater)
+}

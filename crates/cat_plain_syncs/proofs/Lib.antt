@@ -1,2 +1,0 @@
-pub mod Onto
-pub mod ClockLemmas

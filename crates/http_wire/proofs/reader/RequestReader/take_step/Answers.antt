@@ -1,0 +1,12 @@
+use Rattle.http_wire.proofs.Steps as steps
+use Rattle.http_wire.proofs.reader.RequestReader.take_step.Goals as goal
+
+pub invariant_of-self-in_default : goal.invariant_of-self-in_default
+invariant_of-self-in_default c =
+    let p = c.advance-fed.new.partial in
+    let are = steps.keeps_held c.advance-fed.result.got p.top.items p.head p.body.items c.advance-fed.ensures.keeps c.in_default.not-Refused c.in_default.not-Memory in
+    record {
+      room = c.advance-fed.ensures.room;
+      is = steps.goes_on_held _ _ c.in-None.is are;
+      few = steps.held_few p.top.items p.head p.body.items are;
+    }

@@ -1,0 +1,14 @@
+pub mod Fields
+pub mod Errors
+pub mod Members
+pub mod Statuses
+pub mod Registers
+pub mod Deregisters
+pub mod Durations
+pub mod Tails
+pub mod Ids
+pub mod Sessions
+pub mod Txns
+pub mod NewQueries
+pub mod AgentChecks
+pub mod AgentServices

@@ -1,0 +1,4 @@
+pub mod Changes
+pub mod Firing
+pub mod Freeing
+pub mod Steps

@@ -1,0 +1,14 @@
+//! The commands on keys: what each does to the table of the keys, what it answers, and the channels that it fires.
+#![tactic(auto)]
+
+mod applying;
+mod freeing;
+mod keys;
+mod locking;
+mod transacting;
+mod transaction;
+
+pub use applying::apply;
+pub use freeing::free;
+pub use transacting::apply_txn;
+pub use transaction::write_changes;

@@ -1,0 +1,15 @@
+use Rattle.std.proofs.Common.{◌∙◌, sym, ap, Some}
+use Rattle.std.specs.Option.{option_copied}
+use Rattle.std.specs.Ordering.{nat_cmp}
+use Rattle.cat_model.specs.Keys.{text_cmp}
+use Rattle.row_table.specs.Filing.{unfiled, place_of}
+use Rattle.session_table.specs.Nodes.{node_of}
+use Rattle.session_table.proofs.rows.take_node.Goals as goal
+
+pub returns-in-Some-clause-now : goal.returns-in-Some-clause-now
+returns-in-Some-clause-now c =
+    c.unfile.ensures.now ∙ ap (λ n. unfiled text_cmp nat_cmp (Some n) c.args.id c.args.nodes.now.now) c.as_str.ensures
+    ∙ ap (λ o. unfiled text_cmp nat_cmp (place_of node_of o) c.args.id c.args.nodes.now.now) (ap option_copied (sym c.in-Some.is) ∙ c.get.ensures)
+
+pub returns-in-None-clause-now : goal.returns-in-None-clause-now
+returns-in-None-clause-now c = ap (λ o. unfiled text_cmp nat_cmp (place_of node_of o) c.args.id c.args.nodes.now.now) (ap option_copied (sym c.in-None.is) ∙ c.get.ensures)
