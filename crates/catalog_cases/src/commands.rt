@@ -124,11 +124,12 @@ fn register(alloc: Global, words: &mut Words) -> Result<Command> {
     let address = next_text(alloc, words)?;
     let mut given = None;
     let mut checks = List::new(alloc);
-    while let Some(part) = words.next() {
-        match part {
-            "service" => given = Some(service(alloc, words)?),
-            "check" => checks.push(check(alloc, words)?)?,
-            other => return Err(anyhow!("no such part: {other}")),
+    for _ in 0..u64::MAX {
+        match words.next() {
+            None => break,
+            Some("service") => given = Some(service(alloc, words)?),
+            Some("check") => checks.push(check(alloc, words)?)?,
+            Some(other) => return Err(anyhow!("no such part: {other}")),
         }
     }
     Ok(Command::Register {
@@ -201,7 +202,10 @@ fn verb(word: &str) -> Result<Verb> {
 
 fn txn(alloc: Global, words: &mut Words) -> Result<Command> {
     let mut ops = List::new(alloc);
-    while let Some(name) = words.next() {
+    for _ in 0..u64::MAX {
+        let Some(name) = words.next() else {
+            break;
+        };
         ops.push(TxnOp {
             verb: verb(name)?,
             key: next_text(alloc, words)?,
