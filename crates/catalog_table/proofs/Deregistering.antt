@@ -41,7 +41,7 @@ module _ (node : List ℕ) (r : Rows) where
     service_taken id services checks made_services made_checks =
         let those : services ≡ without (λ s. same_text s.node node && same_text s.id id) r.services = made_services ∙ pair_gone service_key node id r.services in
         let left : checks ≡ without (λ c. same_text c.node node && same_text c.service id) r.checks =
-          made_checks ∙ ap (λ p. without_each pair_cmp check_key (filter (λ c. same_text c.service id) p.checks) r.checks) parted ∙ of_service node id r.checks order.checks in
+        made_checks ∙ ap (λ p. without_each pair_cmp check_key (filter (λ c. same_text c.service id) p.checks) r.checks) parted ∙ of_service node id r.checks order.checks in
         λ i. record r { services = those i; checks = left i }
 
     pub node_taken : (nodes : List NodeRow) (services : List ServiceRow) (checks : List CheckRow) → nodes ≡ without (λ n. is_eq (text_cmp node (node_key n))) r.nodes
@@ -50,7 +50,7 @@ module _ (node : List ℕ) (r : Rows) where
     node_taken nodes services checks made_nodes made_services made_checks =
         let rest : nodes ≡ without (λ n. same_text n.node node) r.nodes = made_nodes ∙ node_gone node r.nodes in
         let those : services ≡ without (λ s. same_text s.node node) r.services =
-          made_services ∙ ap (λ p. without_each pair_cmp service_key p.services r.services) parted ∙ of_node service_key node r.services order.services in
+        made_services ∙ ap (λ p. without_each pair_cmp service_key p.services r.services) parted ∙ of_node service_key node r.services order.services in
         let left : checks ≡ without (λ c. same_text c.node node) r.checks =
-          made_checks ∙ ap (λ p. without_each pair_cmp check_key p.checks r.checks) parted ∙ of_node check_key node r.checks order.checks in
+        made_checks ∙ ap (λ p. without_each pair_cmp check_key p.checks r.checks) parted ∙ of_node check_key node r.checks order.checks in
         λ i. record { nodes = rest i; services = those i; checks = left i }

@@ -1,7 +1,6 @@
 -- The rows of one node stand one after another, and a node has one row in the table of nodes.
 use Rattle.std.proofs.Common.{◌≡◌, ℕ, Bool, true, false, ◌&&◌, cond, List, [], ◌∷◌, refl, sym, ◌∙◌, ap, subst, filter, Some}
 use Rattle.std.specs.List.{AllByRecursion, cons_option}
-use Rattle.std.specs.Cmp.{IsTotalOrder}
 use Rattle.std.specs.declared.cmp.Ordering.{Ordering}
 use Rattle.std.specs.declared.cmp.Ordering.TheVariants.{Less, Equal, Greater}
 use Rattle.std.specs.Ordering.{is_eq, is_ge, is_gt, ordering_then}

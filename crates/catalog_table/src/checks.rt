@@ -223,7 +223,11 @@ impl CheckTable {
     }
 
     /// Copies of the checks in this state.
-    pub(crate) fn with_status(&self, alloc: Global, status: Status) -> Result<List<CheckRow>, Memory>
+    pub(crate) fn with_status(
+        &self,
+        alloc: Global,
+        status: Status,
+    ) -> Result<List<CheckRow>, Memory>
         ensures { IfOk result (λ l. l ≡ filter (λ r. same_status r.status status) self.now.now) }
     {
         let found = filed_under(alloc, &self.rows, &self.statuses, status)?;

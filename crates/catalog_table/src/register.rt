@@ -55,12 +55,7 @@ fn has_new_id(service: &Option<NewService>, id: &Text) -> bool
 }
 
 // Whether the check's service is empty, the registered one or one of the node.
-fn serves(
-    rows: &ServiceTable,
-    node: &Text,
-    service: &Option<NewService>,
-    check: &NewCheck,
-) -> bool
+fn serves(rows: &ServiceTable, node: &Text, service: &Option<NewService>, check: &NewCheck) -> bool
     ensures { result ≡ is_served node.now service.now rows.now.now check.now }
 {
     check.service.len() == 0

@@ -9,8 +9,8 @@ ghost use Rattle.cat_model.specs.Tables.{put};
 ghost use Rattle.cat_model.specs.Machine.{put_node, put_service as the_service_put, put_given, put_check as the_check_put, put_checks};
 ghost use Rattle.catalog_table.specs.Puts.{made_service, made_check, put_service_over, put_check_over};
 
-use crate::same::{are_alike_checks, are_alike_nodes, are_alike_services};
 use crate::checks::CheckTable;
+use crate::same::{are_alike_checks, are_alike_nodes, are_alike_services};
 use crate::services::ServiceTable;
 use cat_model::{CheckRow, Memory, NewCheck, NewService, NodeRow, ServiceRow, Text};
 use row_table::{ByNode, RowTable};
@@ -157,12 +157,7 @@ fn put_check(rows: &mut CheckTable, new: CheckRow) -> Result<(), Memory>
     rows.set(CheckRow { create, ..new })
 }
 
-fn set_check(
-    rows: &mut CheckTable,
-    position: u64,
-    node: &Text,
-    c: &NewCheck,
-) -> Result<(), Memory>
+fn set_check(rows: &mut CheckTable, position: u64, node: &Text, c: &NewCheck) -> Result<(), Memory>
     ensures ok { OnOk result (rows.new.now ≡ the_check_put position node.now c.now rows.old.now) }
     ensures before { rows.new.before ≡ rows.old.before }
 {

@@ -1,6 +1,5 @@
 use Rattle.std.proofs.Common.{◌≡◌, true, false, [], ◌++◌, ◌∙◌, sym, ap, append-nil}
-use Rattle.std.specs.List.{cons_option}
-use Rattle.cat_model.specs.Catalog.{service_at, service_key}
+use Rattle.cat_model.specs.Catalog.{service_key}
 use Rattle.cat_model.specs.Keys.{text_cmp, same_text}
 use Rattle.row_table.proofs.FiledUnder.{is_mine}
 use Rattle.row_table.proofs.Places.{text_place}

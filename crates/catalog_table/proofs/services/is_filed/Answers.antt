@@ -1,4 +1,4 @@
-use Rattle.std.proofs.Common.{◌≡◌, false, ◌∙◌, sym, ap}
+use Rattle.std.proofs.Common.{◌∙◌, sym, ap}
 use Rattle.cat_model.specs.Keys.{text_cmp, same_text}
 use Rattle.row_table.proofs.Spans.{leading}
 use Rattle.row_table.proofs.FiledUnder.{is_mine}
