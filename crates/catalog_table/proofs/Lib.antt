@@ -1,4 +1,4 @@
-pub mod Checks
+pub mod Counting
 pub mod Parts
 pub mod ServiceReads
 pub mod NamesOnce
@@ -6,3 +6,8 @@ pub mod Telling
 pub mod Keeping
 pub mod Registering
 pub mod OtherLists
+pub mod Taking
+pub mod Ranges
+pub mod Indexes
+pub mod Labels
+pub mod Deregistering

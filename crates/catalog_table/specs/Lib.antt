@@ -3,3 +3,5 @@ pub mod Names
 pub mod Changes
 pub mod Steps
 pub mod Puts
+pub mod Filings
+pub mod Takes

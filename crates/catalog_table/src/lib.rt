@@ -5,14 +5,19 @@
 #![tactic(auto)]
 
 mod changed;
+mod checks;
+mod copies;
 mod deregister;
 mod fault;
 pub mod laws;
+mod named;
 mod names;
 mod part;
 mod register;
 mod same;
+mod services;
 mod set;
+mod stated;
 mod table;
 
 pub use changed::Changed;

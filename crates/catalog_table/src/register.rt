@@ -9,10 +9,10 @@ ghost use Rattle.catalog_table.specs.Changes.{Tells};
 ghost use Rattle.catalog_table.specs.Steps.{IsNotDone, IsRegister, IsStopped, gives, is_served, put_rows, step_of};
 
 use crate::same::is_same;
+use crate::services::ServiceTable;
 use crate::set::{find_service, set_checks, set_given, set_node};
 use crate::{CatalogTable, Changed, RegisterFault};
-use cat_model::{Applied, Command, List, Memory, NewCheck, NewService, ServiceRow, Text};
-use row_table::RowTable;
+use cat_model::{Applied, Command, List, Memory, NewCheck, NewService, Text};
 use std::alloc::Global;
 
 // Whether a check with this ID is among these.
@@ -55,12 +55,7 @@ fn has_new_id(service: &Option<NewService>, id: &Text) -> bool
 }
 
 // Whether the check's service is empty, the registered one or one of the node.
-fn serves(
-    rows: &RowTable<ServiceRow>,
-    node: &Text,
-    service: &Option<NewService>,
-    check: &NewCheck,
-) -> bool
+fn serves(rows: &ServiceTable, node: &Text, service: &Option<NewService>, check: &NewCheck) -> bool
     ensures { result ≡ is_served node.now service.now rows.now.now check.now }
 {
     check.service.len() == 0
@@ -70,7 +65,7 @@ fn serves(
 
 /// Whether the service of some check is neither on the node nor the one that is registered.
 pub(crate) fn lacks(
-    rows: &RowTable<ServiceRow>,
+    rows: &ServiceTable,
     node: &Text,
     service: &Option<NewService>,
     checks: &[NewCheck],

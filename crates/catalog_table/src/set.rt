@@ -3,17 +3,20 @@
 
 ghost use Rattle.std.specs.Prelude.{◌≡◌, IfOk, OnOk};
 ghost use Rattle.std.specs.Option.{option_copied};
-ghost use Rattle.cat_model.specs.Catalog.{service_at, check_at};
+ghost use Rattle.cat_model.specs.Catalog.{service_at, check_at, node_key};
+ghost use Rattle.cat_model.specs.Keys.{text_cmp};
 ghost use Rattle.cat_model.specs.Tables.{put};
 ghost use Rattle.cat_model.specs.Machine.{put_node, put_service as the_service_put, put_given, put_check as the_check_put, put_checks};
 ghost use Rattle.catalog_table.specs.Puts.{made_service, made_check, put_service_over, put_check_over};
 
+use crate::checks::CheckTable;
 use crate::same::{are_alike_checks, are_alike_nodes, are_alike_services};
+use crate::services::ServiceTable;
 use cat_model::{CheckRow, Memory, NewCheck, NewService, NodeRow, ServiceRow, Text};
-use row_table::{ByNode, ByPair, Row, RowTable};
+use row_table::{ByNode, RowTable};
 
-fn place<R: Row>(rows: &mut RowTable<R>, row: R) -> Result<(), Memory>
-    ensures ok { OnOk result (rows.new.now ≡ put R.cmp R.key row rows.old.now) }
+fn place(rows: &mut RowTable<NodeRow>, row: NodeRow) -> Result<(), Memory>
+    ensures ok { OnOk result (rows.new.now ≡ put text_cmp node_key row rows.old.now) }
     ensures before { rows.new.before ≡ rows.old.before }
 {
     match rows.set(row) {
@@ -24,27 +27,19 @@ fn place<R: Row>(rows: &mut RowTable<R>, row: R) -> Result<(), Memory>
 
 /// The service of this ID on the node.
 pub(crate) fn find_service<'a>(
-    rows: &'a RowTable<ServiceRow>,
+    rows: &'a ServiceTable,
     node: &Text,
     id: &Text,
 ) -> Option<&'a ServiceRow>
     ensures { option_copied result ≡ service_at (node.now, id.now) rows.now.now }
 {
-    let key = ByPair {
-        node: node.as_str(),
-        id: id.as_str(),
-    };
-    rows.get(&key)
+    rows.get(node.as_str(), id.as_str())
 }
 
-fn find_check<'a>(rows: &'a RowTable<CheckRow>, node: &Text, id: &Text) -> Option<&'a CheckRow>
+fn find_check<'a>(rows: &'a CheckTable, node: &Text, id: &Text) -> Option<&'a CheckRow>
     ensures { option_copied result ≡ check_at (node.now, id.now) rows.now.now }
 {
-    let key = ByPair {
-        node: node.as_str(),
-        id: id.as_str(),
-    };
-    rows.get(&key)
+    rows.get(node.as_str(), id.as_str())
 }
 
 pub(crate) fn set_node(
@@ -89,22 +84,22 @@ fn new_service(position: u64, node: &Text, s: &NewService) -> Result<ServiceRow,
     })
 }
 
-fn put_service(rows: &mut RowTable<ServiceRow>, new: ServiceRow) -> Result<(), Memory>
+fn put_service(rows: &mut ServiceTable, new: ServiceRow) -> Result<(), Memory>
     ensures ok { OnOk result (rows.new.now ≡ put_service_over (service_at (new.node, new.id) rows.old.now) new rows.old.now) }
     ensures before { rows.new.before ≡ rows.old.before }
 {
     let Some(old) = find_service(rows, &new.node, &new.id) else {
-        return place(rows, new);
+        return rows.set(new);
     };
     if are_alike_services(old, &new) {
         return Ok(());
     }
     let create = old.create;
-    place(rows, ServiceRow { create, ..new })
+    rows.set(ServiceRow { create, ..new })
 }
 
 fn set_service(
-    rows: &mut RowTable<ServiceRow>,
+    rows: &mut ServiceTable,
     position: u64,
     node: &Text,
     s: &NewService,
@@ -117,7 +112,7 @@ fn set_service(
 }
 
 pub(crate) fn set_given(
-    rows: &mut RowTable<ServiceRow>,
+    rows: &mut ServiceTable,
     position: u64,
     node: &Text,
     service: &Option<NewService>,
@@ -148,26 +143,21 @@ fn new_check(position: u64, node: &Text, c: &NewCheck) -> Result<CheckRow, Memor
     })
 }
 
-fn put_check(rows: &mut RowTable<CheckRow>, new: CheckRow) -> Result<(), Memory>
+fn put_check(rows: &mut CheckTable, new: CheckRow) -> Result<(), Memory>
     ensures ok { OnOk result (rows.new.now ≡ put_check_over (check_at (new.node, new.id) rows.old.now) new rows.old.now) }
     ensures before { rows.new.before ≡ rows.old.before }
 {
     let Some(old) = find_check(rows, &new.node, &new.id) else {
-        return place(rows, new);
+        return rows.set(new);
     };
     if are_alike_checks(old, &new) {
         return Ok(());
     }
     let create = old.create;
-    place(rows, CheckRow { create, ..new })
+    rows.set(CheckRow { create, ..new })
 }
 
-fn set_check(
-    rows: &mut RowTable<CheckRow>,
-    position: u64,
-    node: &Text,
-    c: &NewCheck,
-) -> Result<(), Memory>
+fn set_check(rows: &mut CheckTable, position: u64, node: &Text, c: &NewCheck) -> Result<(), Memory>
     ensures ok { OnOk result (rows.new.now ≡ the_check_put position node.now c.now rows.old.now) }
     ensures before { rows.new.before ≡ rows.old.before }
 {
@@ -176,7 +166,7 @@ fn set_check(
 }
 
 pub(crate) fn set_checks(
-    rows: &mut RowTable<CheckRow>,
+    rows: &mut CheckTable,
     position: u64,
     node: &Text,
     checks: &[NewCheck],

@@ -1,4 +1,4 @@
-ghost use Rattle.std.specs.Prelude.{◌≡◌, IfErr, IfOk, OnErr, OnOk, filter, not, true};
+ghost use Rattle.std.specs.Prelude.{◌≡◌, IfErr, IfOk, OnErr, OnOk, filter, not};
 ghost use Rattle.std.specs.Option.{option_copied};
 ghost use Rattle.cat_model.specs.Keys.{text_cmp, pair_cmp, same_text};
 ghost use Rattle.cat_model.specs.Same.{same_status};
@@ -8,13 +8,15 @@ ghost use Rattle.catalog_table.specs.Rows.{Rows, no_rows, catalog_of, InOrder, o
 ghost use Rattle.catalog_table.specs.Changes.{is_named, Tells};
 ghost use Rattle.catalog_table.specs.Steps.{IsRegister, IsNotDone, IsUndone, step_of, put_rows, take_service, take_check, take_node};
 
+use crate::checks::CheckTable;
+use crate::copies::{all, node_named};
 use crate::names::{differing, names_of};
 use crate::part::{Part, are_same_checks, are_same_nodes, are_same_services};
-use crate::same::{is_same, is_same_status, is_text};
+use crate::services::ServiceTable;
 use crate::{Changed, RegisterFault};
 use cat_model::{CheckRow, List, Memory, NodeRow, ServiceRow, Status, Text, Texts};
 use lists::kept;
-use row_table::{ByNode, ByPair, Row, RowTable};
+use row_table::{ByNode, RowTable};
 use std::alloc::Global;
 use std::marker::Model;
 
@@ -23,8 +25,8 @@ use std::marker::Model;
 #[derive(Drop)]
 pub struct CatalogTable {
     pub(crate) nodes: RowTable<NodeRow>,
-    pub(crate) services: RowTable<ServiceRow>,
-    pub(crate) checks: RowTable<CheckRow>,
+    pub(crate) services: ServiceTable,
+    pub(crate) checks: CheckTable,
 }
 
 impl Model for CatalogTable {
@@ -35,19 +37,6 @@ impl Model for CatalogTable {
     ghost view = { λ t. record { now = record { nodes = t.nodes.now; services = t.services.now; checks = t.checks.now }; before = record { nodes = t.nodes.before; services = t.services.before; checks = t.checks.before } } };
 }
 
-fn each<R: Row>(alloc: Global, rows: &RowTable<R>) -> Result<Vec<R>, Memory>
-    ensures { IfOk result (λ v. v.items ≡ filter (λ _. true) rows.now.now) }
-{
-    rows.copied(alloc, |_| true)
-}
-
-// Copies of all rows.
-fn all<R: Row>(alloc: Global, rows: &RowTable<R>) -> Result<List<R>, Memory>
-    ensures { IfOk result (λ l. l ≡ rows.now.now) }
-{
-    Ok(List::from(each(alloc, rows)?))
-}
-
 impl CatalogTable {
     /// The empty table, which takes no memory.
     pub fn new(alloc: Global) -> CatalogTable
@@ -56,8 +45,8 @@ impl CatalogTable {
     {
         CatalogTable {
             nodes: RowTable::new(alloc),
-            services: RowTable::new(alloc),
-            checks: RowTable::new(alloc),
+            services: ServiceTable::new(alloc),
+            checks: CheckTable::new(alloc),
         }
     }
 
@@ -72,45 +61,42 @@ impl CatalogTable {
     pub fn service(&self, node: &str, id: &str) -> Option<&ServiceRow>
         ensures { option_copied result ≡ service_at (node.now, id.now) self.now.now.services }
     {
-        self.services.get(&ByPair { node, id })
+        self.services.get(node, id)
     }
 
     /// The check of this ID on the node.
     pub fn check(&self, node: &str, id: &str) -> Option<&CheckRow>
         ensures { option_copied result ≡ check_at (node.now, id.now) self.now.now.checks }
     {
-        self.checks.get(&ByPair { node, id })
+        self.checks.get(node, id)
     }
 
     /// Copies of the services with this name, by node and then by ID.
     pub fn services_named(&self, alloc: Global, name: &str) -> Result<List<ServiceRow>, Memory>
         ensures { IfOk result (λ l. l ≡ filter (λ r. same_text r.name name.now) self.now.now.services) }
     {
-        Ok(List::from(self.services.copied(alloc, |r| is_text(&r.name, name))?))
+        self.services.named(alloc, name)
     }
 
     /// Copies of the node's services, by ID.
     pub fn services_of(&self, alloc: Global, node: &str) -> Result<List<ServiceRow>, Memory>
         ensures { IfOk result (λ l. l ≡ filter (λ r. same_text r.node node.now) self.now.now.services) }
     {
-        Ok(List::from(self.services.copied(alloc, |r| is_text(&r.node, node))?))
+        self.services.of_node(alloc, node)
     }
 
     /// Copies of the node's checks, by ID.
     pub fn checks_of(&self, alloc: Global, node: &str) -> Result<List<CheckRow>, Memory>
         ensures { IfOk result (λ l. l ≡ filter (λ r. same_text r.node node.now) self.now.now.checks) }
     {
-        Ok(List::from(self.checks.copied(alloc, |r| is_text(&r.node, node))?))
+        self.checks.of_node(alloc, node)
     }
 
     /// Copies of the checks in this state, by node and then by ID.
     pub fn checks_with(&self, alloc: Global, status: Status) -> Result<List<CheckRow>, Memory>
         ensures { IfOk result (λ l. l ≡ filter (λ r. same_status r.status status) self.now.now.checks) }
     {
-        Ok(List::from(
-            self.checks
-                .copied(alloc, |r| is_same_status(r.status, status))?,
-        ))
+        self.checks.with_status(alloc, status)
     }
 
     /// Copies of all nodes, by name.
@@ -124,14 +110,14 @@ impl CatalogTable {
     pub fn services(&self, alloc: Global) -> Result<List<ServiceRow>, Memory>
         ensures { IfOk result (λ l. l ≡ self.now.now.services) }
     {
-        all(alloc, &self.services)
+        self.services.all(alloc)
     }
 
     /// Copies of all checks, by node and then by ID.
     pub fn checks(&self, alloc: Global) -> Result<List<CheckRow>, Memory>
         ensures { IfOk result (λ l. l ≡ self.now.now.checks) }
     {
-        all(alloc, &self.checks)
+        self.checks.all(alloc)
     }
 
     /// Tells a proof that the rows are in the order of their keys.
@@ -166,13 +152,13 @@ impl CatalogTable {
     pub(crate) fn part_of(&self, alloc: Global, node: &str) -> Result<Part, Memory>
         ensures { IfOk result (λ p. p ≡ on_node node.now self.now.now) }
     {
-        let nodes = self.nodes.copied(alloc, |r| is_text(&r.node, node))?;
-        let services = self.services.copied(alloc, |r| is_text(&r.node, node))?;
-        let checks = self.checks.copied(alloc, |r| is_text(&r.node, node))?;
+        let nodes = node_named(alloc, &self.nodes, node)?;
+        let services = self.services.of_node(alloc, node)?;
+        let checks = self.checks.of_node(alloc, node)?;
         Ok(Part {
-            nodes: List::from(nodes),
-            services: List::from(services),
-            checks: List::from(checks),
+            nodes,
+            services,
+            checks,
         })
     }
 
@@ -180,7 +166,7 @@ impl CatalogTable {
     fn has_name(&self, name: &Text) -> bool
         ensures { result ≡ is_named name.now self.now.now }
     {
-        self.services.any(|s| is_same(&s.name, name))
+        self.services.has_name(name.as_str())
     }
 
     // Those of the names that no service has.

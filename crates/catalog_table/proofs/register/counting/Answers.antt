@@ -1,6 +1,6 @@
 use Rattle.std.proofs.Common.{◌∙◌, ◌++◌, [], ◌∷◌, sym, ap}
 use Rattle.cat_model.specs.Machine.{last_of_each}
-use Rattle.catalog_table.proofs.Checks.{counts}
+use Rattle.catalog_table.proofs.Counting.{counts}
 use Rattle.catalog_table.proofs.register.counting.Goals as goal
 
 pub loop-check-preserved-in_ok-push : goal.loop-check-preserved-in_ok-push

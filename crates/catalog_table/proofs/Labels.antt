@@ -1,0 +1,52 @@
+-- The names of services and the statuses of checks as places in an index.
+use Rattle.std.proofs.Common.{◌≡◌, ℕ, List, [], refl, sym, ◌∙◌, filter}
+use Rattle.std.specs.List.{list_any}
+use Rattle.std.specs.Ordering.{is_eq, nat_cmp}
+use Rattle.std.proofs.lemmas.Cmp.{nat_cmp_total, nat_list_cmp_total}
+use Rattle.std.proofs.lemmas.Map.Lookups.{exact_bytes, exact_unsigned}
+use Rattle.cat_model.specs.Keys.{text_cmp, pair_cmp, same_text}
+use Rattle.cat_model.specs.Catalog.{service_key, check_key}
+use Rattle.cat_model.specs.Same.{same_status}
+use Rattle.cat_model.specs.Tables.{Ascends}
+use Rattle.cat_model.specs.declared.row.ServiceRow.{ServiceRow}
+use Rattle.cat_model.specs.declared.row.CheckRow.{CheckRow}
+use Rattle.cat_model.specs.declared.row.Status.{Status}
+use Rattle.cat_model.specs.declared.row.Status.TheVariants.{Passing, Warning, Critical}
+use Rattle.row_table.specs.Filing.{filed_cmp, filed_key}
+use Rattle.row_table.proofs.Spans.{leading}
+use Rattle.row_table.proofs.FiledUnder.{is_mine, onward, same_test}
+use Rattle.row_table.proofs.Places.{text_place}
+use Rattle.catalog_table.specs.Filings.{Pair, FilesNames, FilesStatuses, rank}
+use Rattle.catalog_table.proofs.Indexes.{any_labelled, is_some_row, rows_from, walked}
+
+pub status_place : (a b : Status) → same_status a b ≡ is_eq (nat_cmp (rank b) (rank a))
+status_place Passing Passing = refl
+status_place Passing Warning = refl
+status_place Passing Critical = refl
+status_place Warning Passing = refl
+status_place Warning Warning = refl
+status_place Warning Critical = refl
+status_place Critical Passing = refl
+status_place Critical Warning = refl
+status_place Critical Critical = refl
+
+abbrev pub label_name : ServiceRow → List ℕ
+label_name s = s.name
+
+abbrev pub label_rank : CheckRow → ℕ
+label_rank c = rank c.status
+
+pub names_walked : (name : List ℕ) (rows : List ServiceRow) (pairs : List (List ℕ × Pair)) → Ascends pair_cmp service_key rows → Ascends (filed_cmp text_cmp pair_cmp) filed_key pairs → FilesNames rows pairs → rows_from text_cmp service_key name rows pairs ≡ filter (λ r. same_text r.name name) rows
+names_walked name rows pairs asc ordered files =
+    walked text_cmp nat_list_cmp_total exact_bytes service_key label_name name rows pairs asc ordered files
+    ∙ same_test (λ r. is_eq (text_cmp name r.name)) (λ r. same_text r.name name) rows (λ r. sym (text_place r.name name))
+
+pub any_named : (name : List ℕ) (rows : List ServiceRow) (pairs : List (List ℕ × Pair)) → Ascends pair_cmp service_key rows → Ascends (filed_cmp text_cmp pair_cmp) filed_key pairs → FilesNames rows pairs → is_some_row (leading (is_mine text_cmp name) (onward text_cmp pair_cmp name ([], []) pairs)) ≡ list_any (λ r. same_text r.name name) rows
+any_named name rows pairs asc ordered files =
+    any_labelled text_cmp nat_list_cmp_total exact_bytes service_key label_name name rows pairs asc ordered files
+    ∙ λ i. list_any (λ r. sym (text_place r.name name) i) rows
+
+pub statuses_walked : (status : Status) (rows : List CheckRow) (pairs : List (ℕ × Pair)) → Ascends pair_cmp check_key rows → Ascends (filed_cmp nat_cmp pair_cmp) filed_key pairs → FilesStatuses rows pairs → rows_from nat_cmp check_key (rank status) rows pairs ≡ filter (λ r. same_status r.status status) rows
+statuses_walked status rows pairs asc ordered files =
+    walked nat_cmp nat_cmp_total exact_unsigned check_key label_rank (rank status) rows pairs asc ordered files
+    ∙ same_test (λ r. is_eq (nat_cmp (rank status) (rank r.status))) (λ r. same_status r.status status) rows (λ r. sym (status_place r.status status))
