@@ -1,5 +1,5 @@
 -- A request that was refused for a fault, other than want of memory, asks for that refusal.
-use Rattle.std.proofs.Common.{◌≡◌, Result, Err, refl, sym, ap}
+use Rattle.std.proofs.Common.{◌≡◌, Result, refl, ap}
 use Rattle.cat_model.specs.declared.request.Asked.TheVariants.{Bad}
 use Rattle.cat_model.specs.declared.request.Request.{Request}
 use Rattle.http_routes.specs.declared.error.RouteError.{RouteError}

@@ -1,6 +1,6 @@
 -- The catalog, and the health of what it has. Consul, HTTP API: "Catalog", "Health". `upgrade` is this project's own: it
 -- sets the version of the catalog's machine to 2, and its body is not read.
-use Rattle.std.specs.Prelude.{ℕ, Bool, if◌then◌else◌, List, Option, None, Some, option_map, Result, Ok, codes, bytes_eq}
+use Rattle.std.specs.Prelude.{ℕ, if◌then◌else◌, List, Option, None, Some, option_map, Result, Ok, codes, bytes_eq}
 use Rattle.cat_model.specs.declared.command.Command.TheVariants.{Upgrade}
 use Rattle.cat_model.specs.declared.query.Query.{Query}
 use Rattle.cat_model.specs.declared.query.Query.TheVariants as q

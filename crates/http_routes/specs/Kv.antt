@@ -12,7 +12,7 @@ use Rattle.http_routes.specs.declared.error.RouteError.{RouteError}
 use Rattle.http_routes.specs.declared.kv.Condition.{Condition}
 use Rattle.http_routes.specs.declared.kv.Condition.TheVariants.{Always, IfModifiedAt, Acquires, Releases}
 use Rattle.http_routes.specs.declared.params.Pair.{Pair}
-use Rattle.http_routes.specs.Errors.{◌>>=◌, refuse, refuse_if, in_body}
+use Rattle.http_routes.specs.Errors.{◌>>=◌, refuse_if, in_body}
 use Rattle.http_routes.specs.Targets.{text_of}
 use Rattle.http_routes.specs.Params.{is_there, is_on, text_at, number_at, id_at}
 use Rattle.http_routes.specs.Checks.{most, short, plain_at, plain, reading}

@@ -9,7 +9,6 @@ use Rattle.cat_model.specs.declared.request.Request.TheVariants.{Write, Renew}
 use Rattle.json_bodies.specs.Ids.{id_parsed}
 use Rattle.json_bodies.specs.Sessions.{session_of}
 use Rattle.json_bodies.specs.declared.session.NewSession.{NewSession}
-use Rattle.http_routes.specs.declared.error.Parameter.{Parameter}
 use Rattle.http_routes.specs.declared.error.Parameter.TheVariants as p
 use Rattle.http_routes.specs.declared.error.RouteError.{RouteError}
 use Rattle.http_routes.specs.declared.params.Pair.{Pair}

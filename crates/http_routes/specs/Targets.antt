@@ -1,5 +1,5 @@
 -- The two parts of a target, and the parameter of a path (RFC 3986, sections 2.1, 3.3 and 3.4).
-use Rattle.std.specs.Prelude.{ℕ, ◌-◌, ◌==◌, ◌&&◌, not, nat_eq, nat_lt, Bool, if◌then◌else◌, List, [], ◌∷◌, length, take, drop, Option, None, Some, option_and_then, Result, Ok}
+use Rattle.std.specs.Prelude.{ℕ, ◌-◌, ◌==◌, ◌&&◌, not, nat_eq, nat_lt, if◌then◌else◌, List, length, take, drop, Option, None, Some, option_and_then, Result, Ok}
 use Rattle.std.specs.List.{list_any, starts_with, ends_with}
 use Rattle.std.specs.Str.{is_utf8}
 use Rattle.form_urlencoded.specs.Form.{split_once}
