@@ -2,10 +2,9 @@
 -- left to them: that the first line that says something opens a cluster, and that no later one does.
 use Rattle.std.specs.Prelude.{ℕ, ◌-◌, ◌^◌, Bool, ◌&&◌, if◌then◌else◌, List, [], ◌∷◌, Option, None, Some, Result, Ok, Err, codes}
 use Rattle.std.specs.Str.{bytes_eq}
-use Rattle.cat_model.specs.declared.request.Asked.TheVariants.{Good}
-use Rattle.cat_model.specs.declared.request.Event.TheVariants.{Timeout, Beat, Tick, Deliver, Drop, Restart, FailKeep, Ask}
+use Rattle.cat_model.specs.declared.request.Event.TheVariants.{Timeout, Beat, Tick, Deliver, Drop, Restart, FailKeep, Ask, Sync, AgentTick}
 use Rattle.script_lang.specs.declared.bad_line.BadLine.{BadLine}
-use Rattle.script_lang.specs.declared.bad_line.BadLine.TheVariants.{UnknownLine, NotBuilt}
+use Rattle.script_lang.specs.declared.bad_line.BadLine.TheVariants.{UnknownLine}
 use Rattle.script_lang.specs.declared.form.Form.{Form}
 use Rattle.script_lang.specs.declared.form.Form.TheVariants as form
 use Rattle.script_lang.specs.declared.line.Line.{Line}
@@ -14,7 +13,7 @@ use Rattle.script_lang.specs.declared.numbers.Bounds.{Bounds}
 use Rattle.script_lang.specs.Words.{words_of, rest_of, is_nothing}
 use Rattle.script_lang.specs.Answers.{◌>>=◌}
 use Rattle.script_lang.specs.Numbers.{number_in, is_filled, one_number, two_numbers}
-use Rattle.script_lang.specs.Requests.{request_of}
+use Rattle.script_lang.specs.Requests.{asked_of}
 
 -- a line whose first word is `cluster`
 abbrev pub first_of : List (List ℕ) → List ℕ
@@ -81,8 +80,8 @@ opening words = Err UnknownLine
 -- `http A METHOD TARGET`, with more for a body; the draw is the script's seed and the request's number
 abbrev pub asks : ℕ → ℕ → ℕ → List ℕ → List ℕ → Option (List ℕ) → Result Line BadLine
 asks number seed agent method target rest = do
-  request ← request_of method target rest
-  Ok (Event (Ask agent (Good request) (record { hi = seed; lo = number })))
+  asked ← asked_of method target rest
+  Ok (Event (Ask agent asked (record { hi = seed; lo = number })))
 
 abbrev pub asking : ℕ → ℕ → List (List ℕ) → Result Line BadLine
 asking number seed (a ∷ method ∷ target ∷ rest) = do
@@ -107,7 +106,7 @@ said number seed form.Tick words = do
   Ok (Event (Tick n.0 n.1))
 said number seed form.AgentTick words = do
   n ← two_numbers any32 tick_ms words
-  Err NotBuilt
+  Ok (Event (AgentTick n.0 n.1))
 said number seed form.Deliver words = do
   message ← one_number any64 words
   Ok (Event (Deliver message))
@@ -122,7 +121,7 @@ said number seed form.FailKeep words = do
   Ok (Event (FailKeep n.0 n.1))
 said number seed form.Sync words = do
   agent ← one_number any32 words
-  Err NotBuilt
+  Ok (Event (Sync agent))
 said number seed form.Http words = asking number seed words
 
 abbrev pub formed : ℕ → ℕ → Option Form → List (List ℕ) → Result Line BadLine

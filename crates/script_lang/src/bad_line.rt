@@ -12,7 +12,7 @@ pub enum BadLine {
     BadNumber,
     /// A request's method, target or body is none.
     BadRequestLine,
-    /// The line is one of the format that isn't taken yet.
+    /// It asks for something that isn't taken yet.
     NotBuilt,
     NoSuchServer,
     NoSuchAgent,

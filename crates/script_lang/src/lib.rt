@@ -6,8 +6,6 @@ mod form;
 mod line;
 mod numbers;
 mod requests;
-#[cfg(test)]
-mod tests;
 mod text;
 mod words;
 

@@ -9,9 +9,9 @@ ghost use Rattle.script_lang.specs.declared.form.Form.TheVariants as the_form;
 use crate::bad_line::BadLine;
 use crate::form::{Form, form_of};
 use crate::numbers::{Bounds, number_in, one_number, two_numbers};
-use crate::requests::request_of;
+use crate::requests::asked_of;
 use crate::words::{cut, is_nothing, last_word, next_word};
-use cat_model::{Asked, Draw, Event};
+use cat_model::{Draw, Event};
 use std::alloc::Global;
 
 /// What a line of a script says.
@@ -92,10 +92,10 @@ fn asks(
 ) -> Result<Line, BadLine>
     ensures { UnlessMemory result (spec.asks number seed agent method.now target.now (option_copied rest.entry)) }
 {
-    let request = request_of(alloc, method, target, rest)?;
+    let asked = asked_of(alloc, method, target, rest)?;
     Ok(Line::Event(Event::Ask {
         agent,
-        asked: Asked::Good(request),
+        asked,
         draw: Draw {
             hi: seed,
             lo: number,
@@ -146,20 +146,12 @@ fn settle(words: Option<&[u8]>) -> Result<Line, BadLine>
     Ok(Line::Settle(most as u32))
 }
 
-// `agenttick A D`, which isn't taken yet
+// `agenttick A D`
 fn agent_tick(words: Option<&[u8]>) -> Result<Line, BadLine>
     ensures { result ≡ spec.said 0 0 the_form.AgentTick (words_in (option_copied words.entry)) }
 {
-    two_numbers(ANY_32, TICK_MS, words)?;
-    Err(BadLine::NotBuilt)
-}
-
-// `sync A`, which isn't taken yet
-fn sync(words: Option<&[u8]>) -> Result<Line, BadLine>
-    ensures { result ≡ spec.said 0 0 the_form.Sync (words_in (option_copied words.entry)) }
-{
-    one_of_32(words)?;
-    Err(BadLine::NotBuilt)
+    let (agent, ms) = two_numbers(ANY_32, TICK_MS, words)?;
+    Ok(Line::Event(Event::AgentTick(agent as u32, ms)))
 }
 
 // A line of the form with these words after the first one.
@@ -183,7 +175,7 @@ fn said(
         Form::Drop => Ok(Line::Event(Event::Drop(one_number(ANY_64, words)?))),
         Form::Settle => settle(words),
         Form::FailKeep => fail_keep(words),
-        Form::Sync => sync(words),
+        Form::Sync => Ok(Line::Event(Event::Sync(one_of_32(words)?))),
         Form::Http => asking(alloc, number, seed, words),
     }
 }
@@ -198,7 +190,8 @@ pub fn opens_cluster(line: &[u8]) -> bool
 }
 
 /// What a line of a script with this seed says, where the next request has this number, or why it's refused: as an
-/// `UnknownLine`, a `BadNumber`, a `BadRequestLine` or `NotBuilt`. The other reasons hang on the lines before it.
+/// `UnknownLine`, a `BadNumber` or a `BadRequestLine`. The other reasons hang on the lines before it and on what the
+/// cluster takes.
 pub fn read_line(alloc: Global, line: &[u8], number: u64, seed: u64) -> Result<Line, BadLine>
     ensures { UnlessMemory result (spec.line_of number seed line.now) }
 {

@@ -1,14 +1,14 @@
--- What a line says is within its bounds, and is taken so far.
+-- What a line says is within its bounds, and what the cluster takes of it.
 use Rattle.std.proofs.Common.{◌≡◌, ◌⊎◌, inr, ℕ, suc, ◌+◌, ◌≤◌, Bool, true, false, ◌&&◌, nat_le, cond, List, [], ◌∷◌, length, Option, None, Some, Result, Ok, Err, IfOk, codes, refl, subst, arith}
 use Rattle.std.specs.Str.{bytes_eq}
 use Rattle.std.proofs.lemmas.Bool.Decides.{nat_tests}
-use Rattle.cat_model.specs.declared.request.Asked.TheVariants.{Good}
+use Rattle.cat_model.specs.declared.request.Asked.{Asked}
+use Rattle.cat_model.specs.declared.request.Asked.TheVariants.{Good, Bad}
 use Rattle.cat_model.specs.declared.request.Event.{Event}
 use Rattle.cat_model.specs.declared.request.Event.TheVariants as event
-use Rattle.cat_model.specs.declared.request.Request.{Request}
 use Rattle.script_runs.specs.declared.misfit.Misfit.{Misfit}
 use Rattle.script_runs.specs.declared.misfit.Misfit.TheVariants.{NoServer, NoAgent, NoMessage, Clock}
-use Rattle.script_runs.specs.Taken.{IsTaken}
+use Rattle.cluster_interface.specs.Interface.{IsPlayed}
 use Rattle.cluster_rules.specs.Cluster.{Cluster}
 use Rattle.script_lang.specs.Answers.{◌>>=◌}
 use Rattle.script_lang.specs.declared.bad_line.BadLine.{BadLine}
@@ -19,13 +19,13 @@ use Rattle.script_lang.specs.declared.line.Line.{Line}
 use Rattle.script_lang.specs.declared.line.Line.TheVariants as line
 use Rattle.script_lang.specs.declared.numbers.Bounds.{Bounds}
 use Rattle.script_lang.specs.Numbers.{number_in, is_number, is_within, is_filled, one_number, two_numbers}
-use Rattle.script_lang.specs.Requests.{is_key, key_of, body_of, taken, put_of, get_of, request_of}
+use Rattle.script_lang.specs.Requests.{asked_of}
 use Rattle.script_lang.specs.Words.{words_of, is_nothing, rest_of}
 use Rattle.script_lang.specs.Lines.{form_of, opening, asking, said, formed, worded, line_of, servers, agents, any32, any64, tick_ms, messages, calls}
 use Rattle.script_lang.specs.Text.{reason_text}
 use Rattle.script_runs.specs.Lines.{Said, Makes, Refuses, misfit, misfit_text}
 use Rattle.script_player.specs.declared.reading.Says.{Says}
-use Rattle.script_player.specs.Script.{bad_of, said as said_by_line}
+use Rattle.script_player.specs.Script.{bad_of, is_built, said as said_by_line}
 use Rattle.script_player.specs.Stage.{IsFine, IsMisfit, IsWorded, IsRead}
 
 -- a step and what follows it
@@ -79,44 +79,16 @@ opening-fine (s ∷ a ∷ seed ∷ []) =
     tt
 opening-fine (s ∷ a ∷ seed ∷ x ∷ more) = tt
 
--- requests that are taken
-key-is : (target : List ℕ) → IfOk (key_of target) (λ key. is_key key ≡ true)
-key-is target = if_test _ (Ok _) bad.NotBuilt (λ key. is_key key ≡ true) (λ e. (both _ _ e).1)
-
-put-taken : (key : List ℕ) (body : Option (List ℕ)) → is_key key ≡ true → IfOk (put_of key body) IsTaken
-put-taken key None k = tt
-put-taken key (Some value) k = if_test (nat_le (length value) 524288) (Ok _) bad.NotBuilt IsTaken (λ e. (k, grind (arith, nat_tests)))
-
-get-taken : (key : List ℕ) (body : Option (List ℕ)) → is_key key ≡ true → IfOk (get_of key body) IsTaken
-get-taken key None k = (k, refl, refl, refl)
-get-taken key (Some value) k = tt
-
-if_either : {A : Type 0} (b : Bool) (x y : Result A BadLine) (P : A → Type 0) → IfOk x P → IfOk y P → IfOk (cond b x y) P
-if_either true x y P p q = p
-if_either false x y P p q = q
-
-method-taken : (method key : List ℕ) (body : Option (List ℕ)) → is_key key ≡ true → IfOk (taken method key body) IsTaken
-method-taken method key body k =
-    if_either (bytes_eq method (codes "PUT")) (put_of key body) (cond (bytes_eq method (codes "GET")) (get_of key body) (Err bad.NotBuilt)) IsTaken
-    (put-taken key body k)
-    (if_either (bytes_eq method (codes "GET")) (get_of key body) (Err bad.NotBuilt) IsTaken (get-taken key body k) tt)
-
-request-taken : (method target : List ℕ) (rest : Option (List ℕ)) → IfOk (request_of method target rest) IsTaken
-request-taken method target rest =
-    if_test _ (body_of rest >>= (λ body. key_of target >>= (λ key. taken method key body))) bad.BadRequestLine IsTaken
-    (λ e. if_bind (body_of rest) (λ body. key_of target >>= (λ key. taken method key body)) (λ body. Unit {0}) IsTaken (anything (body_of rest))
-    (λ body u. if_bind (key_of target) (λ key. taken method key body) (λ key. is_key key ≡ true) IsTaken (key-is target) (λ key k. method-taken method key body k)))
-
-abbrev asks : ℕ → ℕ → ℕ → Request → Result Line BadLine
-asks number seed agent request = Ok (line.Event (event.Ask agent (Good request) (record { hi = seed; lo = number })))
+abbrev asks : ℕ → ℕ → ℕ → Asked → Result Line BadLine
+asks number seed agent asked = Ok (line.Event (event.Ask agent asked (record { hi = seed; lo = number })))
 
 asking-fine : (number seed : ℕ) (words : List (List ℕ)) → IsFine (asking number seed words)
 asking-fine number seed [] = tt
 asking-fine number seed (a ∷ []) = tt
 asking-fine number seed (a ∷ method ∷ []) = tt
 asking-fine number seed (a ∷ method ∷ target ∷ rest) =
-    fine_any (number_in any32 a) (λ agent. request_of method target (rest_of rest) >>= asks number seed agent)
-    (λ agent. fine_bind (request_of method target (rest_of rest)) (asks number seed agent) IsTaken (request-taken method target (rest_of rest)) (λ request t. t))
+    fine_any (number_in any32 a) (λ agent. asked_of method target (rest_of rest) >>= asks number seed agent)
+    (λ agent. fine_any (asked_of method target (rest_of rest)) (asks number seed agent) (λ asked. tt))
 
 said-fine : (number seed : ℕ) (f : Form) (words : List (List ℕ)) → IsFine (said number seed f words)
 said-fine number seed form.Cluster words = opening-fine words
@@ -124,12 +96,12 @@ said-fine number seed form.Timeout words = fine_any (one_number any32 words) (λ
 said-fine number seed form.Beat words = fine_any (one_number any32 words) (λ server. Ok (line.Event (event.Beat server))) (λ server. tt)
 said-fine number seed form.Restart words = fine_any (one_number any32 words) (λ server. Ok (line.Event (event.Restart server))) (λ server. tt)
 said-fine number seed form.Tick words = fine_any (two_numbers any32 tick_ms words) (λ n. Ok (line.Event (event.Tick n.0 n.1))) (λ n. tt)
-said-fine number seed form.AgentTick words = fine_any (two_numbers any32 tick_ms words) (λ n. Err bad.NotBuilt) (λ n. tt)
+said-fine number seed form.AgentTick words = fine_any (two_numbers any32 tick_ms words) (λ n. Ok (line.Event (event.AgentTick n.0 n.1))) (λ n. tt)
 said-fine number seed form.Deliver words = fine_any (one_number any64 words) (λ message. Ok (line.Event (event.Deliver message))) (λ message. tt)
 said-fine number seed form.Drop words = fine_any (one_number any64 words) (λ message. Ok (line.Event (event.Drop message))) (λ message. tt)
 said-fine number seed form.Settle words = fine_any (one_number messages words) (λ most. Ok (line.Settle most)) (λ most. tt)
 said-fine number seed form.FailKeep words = fine_any (two_numbers any32 calls words) (λ n. Ok (line.Event (event.FailKeep n.0 n.1))) (λ n. tt)
-said-fine number seed form.Sync words = fine_any (one_number any32 words) (λ agent. Err bad.NotBuilt) (λ agent. tt)
+said-fine number seed form.Sync words = fine_any (one_number any32 words) (λ agent. Ok (line.Event (event.Sync agent))) (λ agent. tt)
 said-fine number seed form.Http words = asking-fine number seed words
 
 formed-fine : (number seed : ℕ) (f : Option Form) (words : List (List ℕ)) → IsFine (formed number seed f words)
@@ -143,6 +115,20 @@ worded-fine number seed (name ∷ words) = formed-fine number seed (form_of name
 pub line_fine : (number seed : ℕ) (bytes : List ℕ) → IsFine (line_of number seed bytes)
 line_fine number seed bytes =
     fine_test (is_nothing bytes) (Ok line.Nothing) (worded number seed (words_of bytes)) tt (worded-fine number seed (words_of bytes))
+
+-- an event that is built may be played
+pub built_is_played : (made : Event) → is_built made ≡ true → IsPlayed made
+built_is_played (event.Ask agent (Good request) draw) e = e
+built_is_played (event.Ask agent (Bad why) draw) e = tt
+built_is_played (event.Sync agent) e = absurd (cc e)
+built_is_played (event.AgentTick agent ms) e = absurd (cc e)
+built_is_played (event.Timeout server) e = tt
+built_is_played (event.Beat server) e = tt
+built_is_played (event.Tick server ms) e = tt
+built_is_played (event.Deliver number) e = tt
+built_is_played (event.Drop number) e = tt
+built_is_played (event.Restart server) e = tt
+built_is_played (event.FailKeep server nth) e = tt
 
 misfit-text : (miss : Misfit) → reason_text (bad_of miss) ≡ misfit_text miss
 misfit-text NoServer = refl

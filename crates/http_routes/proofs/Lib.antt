@@ -1,0 +1,5 @@
+pub mod Identifiers
+pub mod Texts
+pub mod Numbers
+pub mod Pairs
+pub mod Refused

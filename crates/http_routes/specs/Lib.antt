@@ -1,0 +1,11 @@
+pub mod Errors
+pub mod Targets
+pub mod Params
+pub mod Checks
+pub mod Kv
+pub mod Catalog
+pub mod Sessions
+pub mod PreparedQueries
+pub mod Agents
+pub mod Tables
+pub mod Routes

@@ -1,0 +1,202 @@
+//! Requests that an agent answers by itself.
+
+ghost use Rattle.http_routes.specs.Agents.{note_at};
+ghost use Rattle.http_routes.specs.Agents as spec;
+ghost use Rattle.http_routes.specs.Errors.{Gives, in_body};
+ghost use Rattle.http_routes.specs.Routes as routes;
+ghost use Rattle.json_bodies.specs.AgentChecks.{agent_check_of, update_of};
+ghost use Rattle.json_bodies.specs.AgentServices.{add_service_of};
+
+use crate::body::of_body;
+use crate::checks::{MOST, plain, plain_parameters, refuse_if, short};
+use crate::method::{get_only, put_only};
+use crate::params::{Pair, text};
+use crate::target::{begins, decoded, is, part_behind};
+use crate::{Parameter, RouteError};
+use cat_model::{AgentOp, Request, Status, Text, TtlDef};
+use json_bodies::{CheckUpdate, read_agent_check, read_agent_service, read_check_update};
+use std::alloc::Global;
+
+/// A request for all services or all checks.
+#[tactic(auto, unfolding(crate::specs::Agents::listing))]
+fn listing(op: AgentOp, pairs: &[Pair], body: &[u8]) -> Result<Request, RouteError>
+    ensures { Gives result (spec.listing op pairs.now body.now) }
+{
+    plain(pairs, body)?;
+    Ok(Request::Agent(op))
+}
+
+fn service_in(alloc: Global, body: &[u8]) -> Result<AgentOp, RouteError>
+    ensures { Gives result (in_body (add_service_of body.now)) }
+{
+    of_body(read_agent_service(alloc, body))
+}
+
+fn check_in(alloc: Global, body: &[u8]) -> Result<TtlDef, RouteError>
+    ensures { Gives result (in_body (agent_check_of body.now)) }
+{
+    of_body(read_agent_check(alloc, body))
+}
+
+fn update_in(alloc: Global, body: &[u8]) -> Result<CheckUpdate, RouteError>
+    ensures { Gives result (in_body (update_of body.now)) }
+{
+    of_body(read_check_update(alloc, body))
+}
+
+#[tactic(auto, unfolding(crate::specs::Agents::service_register))]
+fn service_register(alloc: Global, pairs: &[Pair], body: &[u8]) -> Result<Request, RouteError>
+    ensures { Gives result (spec.service_register pairs.now body.now) }
+{
+    plain(pairs, body)?;
+    let op = service_in(alloc, body)?;
+    Ok(Request::Agent(op))
+}
+
+#[tactic(auto, unfolding(crate::specs::Agents::service_deregister))]
+fn service_deregister(
+    alloc: Global,
+    part: &[u8],
+    pairs: &[Pair],
+    body: &[u8],
+) -> Result<Request, RouteError>
+    ensures { Gives result (spec.service_deregister part.now pairs.now body.now) }
+{
+    let id = decoded(alloc, part, Parameter::Id)?;
+    plain(pairs, body)?;
+    Ok(Request::Agent(AgentOp::DropService { id }))
+}
+
+#[tactic(auto, unfolding(crate::specs::Agents::check_register))]
+fn check_register(alloc: Global, pairs: &[Pair], body: &[u8]) -> Result<Request, RouteError>
+    ensures { Gives result (spec.check_register pairs.now body.now) }
+{
+    plain(pairs, body)?;
+    let check = check_in(alloc, body)?;
+    Ok(Request::Agent(AgentOp::AddCheck { check }))
+}
+
+#[tactic(auto, unfolding(crate::specs::Agents::check_deregister))]
+fn check_deregister(
+    alloc: Global,
+    part: &[u8],
+    pairs: &[Pair],
+    body: &[u8],
+) -> Result<Request, RouteError>
+    ensures { Gives result (spec.check_deregister part.now pairs.now body.now) }
+{
+    let id = decoded(alloc, part, Parameter::Id)?;
+    plain(pairs, body)?;
+    Ok(Request::Agent(AgentOp::DropCheck { id }))
+}
+
+/// The note of a mark.
+#[tactic(auto, unfolding(crate::specs::Agents::note_at))]
+fn note(alloc: Global, pairs: &[Pair]) -> Result<Text, RouteError>
+    ensures { Gives result (note_at pairs.now) }
+{
+    let note = text(pairs, "note");
+    refuse_if(!(note.len() <= MOST), Parameter::Note)?;
+    Ok(Text::new(alloc, note)?)
+}
+
+/// A check that is marked, with a note.
+#[tactic(auto, unfolding(crate::specs::Agents::check_mark))]
+fn check_mark(
+    alloc: Global,
+    status: Status,
+    part: &[u8],
+    pairs: &[Pair],
+    body: &[u8],
+) -> Result<Request, RouteError>
+    ensures { Gives result (spec.check_mark status part.now pairs.now body.now) }
+{
+    let id = decoded(alloc, part, Parameter::Id)?;
+    plain_parameters(pairs)?;
+    let output = note(alloc, pairs)?;
+    short(MOST, body)?;
+    Ok(Request::Agent(AgentOp::Mark { id, status, output }))
+}
+
+#[tactic(auto, unfolding(crate::specs::Agents::check_update))]
+fn check_update(
+    alloc: Global,
+    part: &[u8],
+    pairs: &[Pair],
+    body: &[u8],
+) -> Result<Request, RouteError>
+    ensures { Gives result (spec.check_update part.now pairs.now body.now) }
+{
+    let id = decoded(alloc, part, Parameter::Id)?;
+    plain(pairs, body)?;
+    let update = update_in(alloc, body)?;
+    Ok(Request::Agent(AgentOp::Mark {
+        id,
+        status: update.status,
+        output: update.output,
+    }))
+}
+
+/// The routes of an agent's checks.
+#[tactic(auto, unfolding(crate::specs::Routes::agent_check))]
+fn agent_check(
+    alloc: Global,
+    path: &[u8],
+    method: &[u8],
+    pairs: &[Pair],
+    body: &[u8],
+) -> Result<Request, RouteError>
+    ensures { Gives result (routes.agent_check path.now method.now pairs.now body.now) }
+{
+    if is(path, "/v1/agent/check/register") {
+        put_only(method)?;
+        check_register(alloc, pairs, body)
+    } else if let Some(id) = part_behind("/v1/agent/check/deregister/", path) {
+        put_only(method)?;
+        check_deregister(alloc, id, pairs, body)
+    } else if let Some(id) = part_behind("/v1/agent/check/pass/", path) {
+        put_only(method)?;
+        check_mark(alloc, Status::Passing, id, pairs, body)
+    } else if let Some(id) = part_behind("/v1/agent/check/warn/", path) {
+        put_only(method)?;
+        check_mark(alloc, Status::Warning, id, pairs, body)
+    } else if let Some(id) = part_behind("/v1/agent/check/fail/", path) {
+        put_only(method)?;
+        check_mark(alloc, Status::Critical, id, pairs, body)
+    } else if let Some(id) = part_behind("/v1/agent/check/update/", path) {
+        put_only(method)?;
+        check_update(alloc, id, pairs, body)
+    } else {
+        Err(RouteError::NoRoute)
+    }
+}
+
+/// The routes of an agent.
+#[tactic(auto, unfolding(crate::specs::Routes::agent))]
+pub(crate) fn agent(
+    alloc: Global,
+    path: &[u8],
+    method: &[u8],
+    pairs: &[Pair],
+    body: &[u8],
+) -> Result<Request, RouteError>
+    ensures { Gives result (routes.agent path.now method.now pairs.now body.now) }
+{
+    if is(path, "/v1/agent/services") {
+        get_only(method)?;
+        listing(AgentOp::Services, pairs, body)
+    } else if is(path, "/v1/agent/checks") {
+        get_only(method)?;
+        listing(AgentOp::Checks, pairs, body)
+    } else if is(path, "/v1/agent/service/register") {
+        put_only(method)?;
+        service_register(alloc, pairs, body)
+    } else if let Some(id) = part_behind("/v1/agent/service/deregister/", path) {
+        put_only(method)?;
+        service_deregister(alloc, id, pairs, body)
+    } else if begins(path, "/v1/agent/check/") {
+        agent_check(alloc, path, method, pairs, body)
+    } else {
+        Err(RouteError::NoRoute)
+    }
+}

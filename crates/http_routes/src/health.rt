@@ -1,0 +1,112 @@
+//! Requests on the health of nodes and services.
+
+ghost use Rattle.std.specs.Prelude.{◌≡◌};
+ghost use Rattle.http_routes.specs.Catalog.{health_checks, health_node, health_service, health_state, state_of};
+ghost use Rattle.http_routes.specs.Catalog as spec;
+ghost use Rattle.http_routes.specs.Errors.{Gives};
+ghost use Rattle.http_routes.specs.Routes as routes;
+
+use crate::checks::{read, reading_of};
+use crate::method::get_only;
+use crate::params::{Pair, all, is_on};
+use crate::target::{decoded, part_behind};
+use crate::{Parameter, RouteError};
+use cat_model::{Query, Request, Status};
+use std::alloc::Global;
+
+#[tactic(auto, unfolding(crate::specs::Catalog::health_node))]
+fn node(alloc: Global, part: &[u8], pairs: &[Pair], body: &[u8]) -> Result<Request, RouteError>
+    ensures { Gives result (health_node part.now pairs.now body.now) }
+{
+    let node = decoded(alloc, part, Parameter::Node)?;
+    let reading = reading_of(pairs, body)?;
+    Ok(read(Query::HealthNode { node }, reading))
+}
+
+#[tactic(auto, unfolding(crate::specs::Catalog::health_checks))]
+fn checks(alloc: Global, part: &[u8], pairs: &[Pair], body: &[u8]) -> Result<Request, RouteError>
+    ensures { Gives result (health_checks part.now pairs.now body.now) }
+{
+    let name = decoded(alloc, part, Parameter::Name)?;
+    let reading = reading_of(pairs, body)?;
+    Ok(read(Query::HealthChecks { name }, reading))
+}
+
+#[tactic(auto, unfolding(crate::specs::Catalog::health_service))]
+fn service(alloc: Global, part: &[u8], pairs: &[Pair], body: &[u8]) -> Result<Request, RouteError>
+    ensures { Gives result (health_service part.now pairs.now body.now) }
+{
+    let name = decoded(alloc, part, Parameter::Name)?;
+    let reading = reading_of(pairs, body)?;
+    let tags = all(alloc, pairs, "tag")?;
+    let passing = is_on(pairs, "passing");
+    Ok(read(
+        Query::HealthService {
+            name,
+            tags,
+            passing,
+        },
+        reading,
+    ))
+}
+
+fn state_named(word: &str) -> Option<Option<Status>>
+    ensures { result ≡ spec.state_named word.now }
+{
+    match word {
+        "any" => Some(None),
+        "passing" => Some(Some(Status::Passing)),
+        "warning" => Some(Some(Status::Warning)),
+        "critical" => Some(Some(Status::Critical)),
+        _ => None,
+    }
+}
+
+/// The status of a path, or none for all.
+#[tactic(auto, unfolding(crate::specs::Catalog::state_of))]
+fn state_in(alloc: Global, part: &[u8]) -> Result<Option<Status>, RouteError>
+    ensures { Gives result (state_of part.now) }
+{
+    let word = decoded(alloc, part, Parameter::State)?;
+    match state_named(word.as_str()) {
+        Some(state) => Ok(state),
+        None => Err(RouteError::Target(Parameter::State)),
+    }
+}
+
+#[tactic(auto, unfolding(crate::specs::Catalog::health_state))]
+fn state(alloc: Global, part: &[u8], pairs: &[Pair], body: &[u8]) -> Result<Request, RouteError>
+    ensures { Gives result (health_state part.now pairs.now body.now) }
+{
+    let state = state_in(alloc, part)?;
+    let reading = reading_of(pairs, body)?;
+    Ok(read(Query::HealthState { state }, reading))
+}
+
+/// The routes of health.
+#[tactic(auto, unfolding(crate::specs::Routes::health))]
+pub(crate) fn health(
+    alloc: Global,
+    path: &[u8],
+    method: &[u8],
+    pairs: &[Pair],
+    body: &[u8],
+) -> Result<Request, RouteError>
+    ensures { Gives result (routes.health path.now method.now pairs.now body.now) }
+{
+    if let Some(name) = part_behind("/v1/health/node/", path) {
+        get_only(method)?;
+        node(alloc, name, pairs, body)
+    } else if let Some(name) = part_behind("/v1/health/checks/", path) {
+        get_only(method)?;
+        checks(alloc, name, pairs, body)
+    } else if let Some(name) = part_behind("/v1/health/service/", path) {
+        get_only(method)?;
+        service(alloc, name, pairs, body)
+    } else if let Some(word) = part_behind("/v1/health/state/", path) {
+        get_only(method)?;
+        state(alloc, word, pairs, body)
+    } else {
+        Err(RouteError::NoRoute)
+    }
+}

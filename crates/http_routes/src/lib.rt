@@ -1,0 +1,19 @@
+//! Requests as HTTP brings them: the routes of Consul's HTTP API version 1, with the parameters of their paths and queries.
+#![tactic(auto)]
+
+mod agent;
+mod body;
+mod catalog;
+mod checks;
+mod error;
+mod health;
+mod kv;
+mod method;
+mod params;
+mod query;
+mod routing;
+mod session;
+mod target;
+
+pub use error::{Allow, Parameter, RouteError};
+pub use routing::route;
