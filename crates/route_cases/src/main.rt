@@ -41,12 +41,7 @@ fn given(alloc: Global, said: &str) -> Result<String> {
     let (method, rest) = said.split_once(" ").unwrap_or((said, ""));
     let (target, text) = rest.split_once(" ").unwrap_or((rest, ""));
     let body = body_of(alloc, text)?;
-    match route(
-        alloc,
-        method.as_bytes(),
-        target.as_bytes(),
-        body.as_slice(),
-    ) {
+    match route(alloc, method.as_bytes(), target.as_bytes(), body.as_slice()) {
         Ok(Asked::Good(request)) => shown::request(alloc, &request),
         Ok(Asked::Bad(refusal)) => refused(alloc, &refusal),
         Err(_) => Err(anyhow!("out of memory")),
