@@ -1,4 +1,7 @@
 //! The parts of a target.
+//!
+//! Each path of the table has one parameter at most, so a path is just compared with what stands around it. A router,
+//! such as that of the crate `matchit`, would have to be made anew for each request, and takes memory.
 
 ghost use Rattle.std.specs.Prelude.{◌≡◌, bytes_eq, nat_eq};
 ghost use Rattle.std.specs.List.{starts_with};
