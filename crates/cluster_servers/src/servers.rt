@@ -8,9 +8,10 @@ ghost use Rattle.cat_model.specs.Queries.{answer};
 ghost use Rattle.cluster_rules.specs.Cluster.{clock_of, node_of, server_of};
 ghost use Rattle.raft_world.specs.Steps.{IsNumber};
 ghost use Rattle.office_rules.specs.Offices.{looks_on, office_from};
+ghost use Rattle.replica.specs.States.{last_reply};
 ghost use Rattle.cluster_servers.specs.Servers.{HasNext, applies_next, officed};
 
-use cat_model::{Answer, Entry, Memory, Query, Steps};
+use cat_model::{Answer, Applied, Entry, Memory, Query, Steps};
 use cat_outside::Keeper;
 use catalog_store::is_taken;
 use raft_node::Node;
@@ -131,6 +132,14 @@ impl<K: Keeper> Servers<K> {
         ensures cost { steps.new ≡ steps.old + 1 }
     {
         self.replica(s).read(alloc, query, steps)
+    }
+
+    /// A copy of the catalog's answer to the command that a server applied last.
+    pub fn reply(&self, alloc: Global, s: u32) -> Result<Option<Applied>, Memory>
+        requires { IsNumber s self.now.world }
+        ensures { IfOk result (λ reply. reply ≡ last_reply (commands_of (server_of self.now.servers s).applied)) }
+    {
+        self.replica(s).reply(alloc)
     }
 
     /// A server applies its next position, at its clock's time. It answers Memory also where the entry there is one

@@ -3,5 +3,7 @@
 
 pub mod laws;
 mod misfit;
+mod taken;
 
 pub use misfit::Misfit;
+pub use taken::is_taken;
