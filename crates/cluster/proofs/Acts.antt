@@ -7,9 +7,8 @@ use Rattle.cat_model.specs.declared.request.Event.TheVariants as event
 use Rattle.raft_model.specs.Node.{Node}
 use Rattle.raft_model.specs.Rules.{Input, Timeout, Beat, Receive, Propose, Probe, done}
 use Rattle.raft_model.specs.Step.{Outcome, Works, Forgets, NodeStep}
-use Rattle.raft_model.specs.Step as node
 use Rattle.raft_model.specs.World as world
-use Rattle.raft_model.specs.World.{World, WorldStep, Packet, Acts as NodeActs, numbered, raised}
+use Rattle.raft_model.specs.World.{World, WorldStep, Packet, Acts as NodeActs, IsReached, numbered, raised}
 use Rattle.raft_world.specs.Steps.{Delivers, FindsNoMemory, KeepsAgreement, StepsWhole, StepsWorking}
 use Rattle.office_rules.specs.Offices.{Office, office_from}
 use Rattle.raft_model.specs.Node.{set_server}
@@ -18,6 +17,8 @@ use Rattle.cluster_rules.specs.Cluster.{Cluster, Server, clock_of, no_node, node
 use Rattle.cluster_servers.specs.Servers.{Servers, officed}
 use Rattle.cluster_rules.specs.Requests.{halted_now, moved}
 use Rattle.cluster_rules.specs.Step.{Acts, Remembers, takes, arms, input_of, received, receiver}
+use Rattle.cluster_rules.proofs.Boundary.{acts_rise, input_is}
+use Rattle.cluster_rules.proofs.Grows.{goes_by}
 use Rattle.cluster_rules.proofs.Tools.{eq_self, is_node, is_place, item_same, length_set_server}
 use Rattle.cluster_turns.specs.declared.cut.Cut.{Cut}
 use Rattle.cluster_turns.specs.declared.cut.Cut.TheVariants.{Before, Within}
@@ -26,6 +27,7 @@ use Rattle.open_requests.specs.Requests.{Requests, cluster_of}
 use Rattle.cluster.specs.declared.moving.Seen.{Seen}
 use Rattle.cluster.specs.Moving.{Ends, MarksStep, Seats, seen_of}
 use Rattle.cluster.specs.Standing.{Stands}
+use Rattle.cluster.proofs.Carried.{Goes, all_officed, arming_goes, carries, sound_officed}
 use Rattle.cluster.proofs.Forgetting.{forgot}
 use Rattle.cluster.proofs.Kept.{each_item, each_set}
 use Rattle.cluster.proofs.Marking.{cluster_marked, stands_marked, with_room}
@@ -67,8 +69,8 @@ raised_none Probe greatest p = refl
 greatest_kept : (w : World) (i : ℕ) (input : Input) (w' : World) → IsPlain input → NodeActs w i input w' → w'.greatest ≡ w.greatest
 greatest_kept w i input w' p a = ap (λ (v : World). v.greatest) a.becomes ∙ raised_none input w.greatest p
 
-pub nodes_kept : (w : World) (i : ℕ) (input : Input) (w' : World) → NodeActs w i input w' → length w'.nodes ≡ length w.nodes
-nodes_kept w i input w' a = ap (λ (v : World). length v.nodes) a.becomes ∙ length_set_server w.nodes i a.new
+acts_go : (w : World) (i : ℕ) (made : Event) (input : Input) (w' : World) → IsReached w → input_of w i made ≡ Some input → NodeActs w i input w' → Goes w w'
+acts_go w i made input w' r is a = let m = input_is w i made input w' is a in record { on = goes_by w w' m.move r m.step; up = acts_rise w i input w' r a }
 
 -- What an act leaves.
 pub record Acted (i : ℕ) (made : Event) (c : Cluster) (w' : World) (servers' : List Server) (r' : Requests) (result : Result Unit Cut) : Type 0 where
@@ -91,10 +93,11 @@ stands_officed i o w servers r s = record {
   reached = s.reached;
   some = let k = length_set_server servers i (record (server_of servers i) { office = o }) in omega (arith, s.some, k);
   count = length_set_server servers i (record (server_of servers i) { office = o }) ∙ s.count;
+  sound = sound_officed w servers i o s.sound;
   joined = s.joined;
   proposed = s.proposed;
   ascends = s.ascends;
-  held = s.held;
+  held = all_officed w servers i o r.asked r.held s.held;
   calm = each_set servers i (record (server_of servers i) { office = o }) s.calm (each_item servers i s.calm);
 }
 
@@ -128,7 +131,7 @@ module _ (i : ℕ) (made : Event) (input : Input) (w w' : World) (servers : List
       → Stands w' (seated_servers w w' i servers) r' × ((act : Acts 0 (cluster_of w servers r) i made (cluster_of w' (seated_servers w w' i servers) r')) × ((a.outcome ≢ Forgets → Remembers act) × (a.outcome ≡ Forgets → ¬ Remembers act)))
   step_acted a m =
       let moves : cluster_of w' servers r' ≡ moved i w' (cluster_of w servers r) = cluster_marked (halted_now w w' i) i w w' servers r r' s k m in (
-        stands_seated w w' i servers r' (stands_marked (halted_now w w' i) i w w' servers r r' s k (nodes_kept w i input w' a) (greatest_kept w i input w' plain a) m),
+        stands_seated w w' i servers r' (stands_marked (halted_now w w' i) i w w' servers r r' s k (carries w w' servers (acts_go w i made input w' s.reached is a) s.sound) (greatest_kept w i input w' plain a) m),
         (takes input w' refl is a (cluster_seated w w' i servers r' ∙ ap (seated w i) moves), ((λ n. n), (λ f n. n f))),
       )
 
@@ -194,12 +197,12 @@ pub record Moves (i : ℕ) (c : Cluster) (w' : World) (servers : List Server) (r
   pub is : cluster_of w' servers r' ≡ moved i w' c
 
 pub moves_by : (i : ℕ) (w w' : World) (servers : List Server) (r r₁ r' : Requests) (before now : Seen) (room : ℕ) → Stands w servers r → r₁ ≡ record r { room = room } → KeepsAgreement w w'
-    → length w'.nodes ≡ length w.nodes → w'.greatest ≡ w.greatest → before ≡ seen_of w i → now ≡ seen_of w' i → MarksStep before now i r₁ r' → Moves i (cluster_of w servers r) w' servers r'
+    → Goes w w' → w'.greatest ≡ w.greatest → before ≡ seen_of w i → now ≡ seen_of w' i → MarksStep before now i r₁ r' → Moves i (cluster_of w servers r) w' servers r'
 moves_by i w w' servers r r₁ r' before now room s ready k n g was seen m =
     let p = with_room w servers r r₁ room s ready in
     let marks : MarksStep (seen_of w i) (seen_of w' i) i r₁ r' = subst (λ (z : Seen). MarksStep z (seen_of w' i) i r₁ r') was (subst (λ (z : Seen). MarksStep before z i r₁ r') seen m) in
     record {
-      stands = stands_marked (halted_now w w' i) i w w' servers r₁ r' p.0 k n g marks;
+      stands = stands_marked (halted_now w w' i) i w w' servers r₁ r' p.0 k (carries w w' servers n s.sound) g marks;
       is = cluster_marked (halted_now w w' i) i w w' servers r₁ r' p.0 k marks ∙ ap (moved i w') p.1;
     }
 
@@ -215,6 +218,5 @@ pub arming_acts : (i nth : ℕ) (w w' : World) (servers servers' : List Server) 
     → servers' ≡ servers → WorldStep w (world.Arms i nth) w' → before ≡ seen_of w i → now ≡ seen_of w' i → MarksStep before now i r₁ r' → ActedWhole i (event.FailKeep i nth) c w' servers' r'
 arming_acts i nth w w' servers servers' r r₁ r' c before now room s view ready k same step was seen m =
     let e = step.2 in
-    let nodes : length w'.nodes ≡ length w.nodes = ap (λ (v : World). length v.nodes) e ∙ length_set_server w.nodes i (node.arms step.0 nth) in
-    let moves = moves_by i w w' servers r r₁ r' before now room s ready k nodes (ap (λ (v : World). v.greatest) e) was seen m in
+    let moves = moves_by i w w' servers r r₁ r' before now room s ready k (arming_goes w i nth w' s.reached step) (ap (λ (v : World). v.greatest) e) was seen m in
     whole_with i (event.FailKeep i nth) (cluster_of w servers r) c w' servers servers' r' view same (record { stands = moves.stands; whole = (arms nth w' refl refl step moves.is, tt) })

@@ -1,9 +1,10 @@
 -- A cluster that has just begun.
-use Rattle.std.proofs.Common.{◌≡◌, ◌⊎◌, inl, inr, ℕ, zero, suc, ◌<◌, ◌≤◌, length, replicate, List, [], ◌∷◌, refl, sym, ap, ◌∙◌, subst, arith}
+use Rattle.std.proofs.Common.{◌≡◌, ◌⊎◌, inl, inr, ℕ, zero, suc, ◌<◌, ◌≤◌, get_or, length, replicate, List, [], ◌∷◌, refl, sym, ap, ◌∙◌, subst, arith}
 use Rattle.std.specs.List.{AllByRecursion as Each}
 use Rattle.raft_model.specs.Node.{Store}
 use Rattle.raft_model.specs.World.{World, Begins, IsReached, empty, again}
-use Rattle.cluster_rules.specs.Cluster.{Server, no_server}
+use Rattle.cluster_rules.specs.Cluster.{Server, no_server, node_of, server_of}
+use Rattle.cluster_rules.specs.Sound.{ServerIsSound}
 use Rattle.open_requests.specs.Requests as own
 use Rattle.cluster_servers.proofs.Beginning.{as_many_start}
 use Rattle.cluster.specs.Beginning.{MayBegin}
@@ -21,12 +22,22 @@ reached : (stores : List Store) (w : World) → MayBegin stores → Begins store
 reached stores w (inl none) begins = empty stores none begins
 reached stores w (inr earlier) begins = again stores earlier.1 earlier.2 begins
 
+idle_item : (count at : ℕ) → get_or (replicate count no_server) at no_server ≡ no_server
+idle_item zero at = refl
+idle_item (suc count) zero = refl
+idle_item (suc count) (suc at) = idle_item count at
+
+idle_server : (count i : ℕ) → server_of (replicate count no_server) i ≡ no_server
+idle_server count zero = refl
+idle_server count (suc at) = idle_item count at
+
 pub begun_stands : (stores : List Store) (agents count : ℕ) (w : World) (servers : List Server) → MayBegin stores → Begins stores w → 0 < count → length stores ≡ count → servers ≡ replicate count no_server → Stands w servers (own.empty agents)
 begun_stands stores agents count w servers may begins some size idle =
     record {
       reached = reached stores w may begins;
       some = omega (arith, some, ap length idle, replicated count no_server);
       count = ap length idle ∙ replicated count no_server ∙ sym size ∙ sym (as_many_start (length stores) 1 stores w.nodes begins.nodes);
+      sound = λ i. subst (λ (x : Server). ServerIsSound w.agreed (node_of w i).commit x) (sym (ap (λ (ss : List Server). server_of ss i) idle ∙ idle_server count i)) (record { front = refl; within = omega arith; clocks = refl });
       joined = sym (ap length begins.agreed);
       proposed = omega (arith, begins.greatest);
       ascends = tt;

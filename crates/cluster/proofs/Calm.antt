@@ -12,7 +12,7 @@ use Rattle.cat_model.specs.declared.row.KvRow.{KvRow}
 use Rattle.cat_model.specs.declared.row.SessionRow.{SessionRow}
 use Rattle.cat_model.specs.Keys.{text_cmp}
 use Rattle.cat_model.specs.Catalog.{Catalog, kv_at, kv_key}
-use Rattle.cat_model.specs.Kv.{put_kv, kv_set, kv_cas, write_kv, index_fits}
+use Rattle.cat_model.specs.Kv.{put_kv, kv_set, kv_cas, write_kv, index_fits, changes_nothing, holder, locks, written}
 use Rattle.cat_model.specs.Indexes.{is_reap}
 use Rattle.cat_model.specs.Machine.{Step, act, apply, at_past, catalog_at, end_sessions, ends, ended_holder, freed_row, register, unless, yes_or_no}
 use Rattle.cat_model.proofs.Lookups.{row_at-put}
@@ -52,7 +52,7 @@ unfolding act register
 act_sessions i command.Noop k e = refl
 act_sessions i (command.Register node address service checks) k e = unless_sessions _ k _ refl
 act_sessions i (command.KvSet key flags value) k e = refl
-act_sessions i (command.KvCas key flags value index) k e = answer_sessions k (kv_cas i key value flags index k.kv)
+act_sessions i (command.KvCas key flags value index) k e = answer_sessions k (kv_cas k.version i key value flags index k.kv)
 act_sessions i other k e = absurd (cc e)
 
 -- Where there is no session none ends, and no key is freed.
@@ -96,9 +96,16 @@ put_keeps q new rows e = subst (λ (o : Option KvRow). is_some o ≡ true) (sym 
     go true = refl
     go false = e
 
-set_keeps : (i : ℕ) (key value : List ℕ) (flags : ℕ) (rows : List KvRow) (q : List ℕ) → is_some (kv_at q rows) ≡ true → is_some (kv_at q (kv_set i key value flags rows)) ≡ true
+either_keeps : (b : Bool) (q : List ℕ) (rows others : List KvRow) → is_some (kv_at q rows) ≡ true → is_some (kv_at q others) ≡ true → is_some (kv_at q (cond b rows others)) ≡ true
+either_keeps true q rows others e f = e
+either_keeps false q rows others e f = f
+
+set_keeps : (version i : ℕ) (key value : List ℕ) (flags : ℕ) (rows : List KvRow) (q : List ℕ) → is_some (kv_at q rows) ≡ true → is_some (kv_at q (kv_set version i key value flags rows)) ≡ true
 unfolding kv_set write_kv
-set_keeps i key value flags rows q e = put_keeps q _ rows e
+set_keeps version i key value flags rows q e =
+    let old = kv_at key rows in
+    let new = written i key value flags (holder old) (locks old) old in
+    either_keeps (changes_nothing version new old) q rows (put_kv new rows) e (put_keeps q new rows e)
 
 answer_kv : (k : Catalog) (b : Bool) (rows : List KvRow) (q : List ℕ) → is_some (kv_at q k.kv) ≡ true → is_some (kv_at q rows) ≡ true → is_some (kv_at q (yes_or_no k (cond b (Some rows) None)).0.kv) ≡ true
 answer_kv k true rows q e f = f
@@ -108,8 +115,8 @@ act_keeps : (i : ℕ) (c : Command) (k : Catalog) → is_calm c ≡ true → (q 
 unfolding act register kv_cas
 act_keeps i command.Noop k e q f = f
 act_keeps i (command.Register node address service checks) k e q f = subst (λ (rows : List KvRow). is_some (kv_at q rows) ≡ true) (sym (unless_kv _ k _ refl)) f
-act_keeps i (command.KvSet key flags value) k e q f = set_keeps i key value flags k.kv q f
-act_keeps i (command.KvCas key flags value index) k e q f = answer_kv k (index_fits index (kv_at key k.kv)) (kv_set i key value flags k.kv) q f (set_keeps i key value flags k.kv q f)
+act_keeps i (command.KvSet key flags value) k e q f = set_keeps k.version i key value flags k.kv q f
+act_keeps i (command.KvCas key flags value index) k e q f = answer_kv k (index_fits index (kv_at key k.kv)) (kv_set k.version i key value flags k.kv) q f (set_keeps k.version i key value flags k.kv q f)
 act_keeps i other k e q f = absurd (cc e)
 
 own_row : (rows : List KvRow) → Each (λ (r : KvRow). is_some (kv_at r.key rows) ≡ true) rows

@@ -16,11 +16,14 @@ use Rattle.office_rules.specs.Offices.{Office, has_removed, looks_on}
 use Rattle.cluster_rules.specs.Cluster.{Cluster, Server, applied_of, clock_of, node_of, no_server, office_of, runs_leading, server_of, with_office}
 use Rattle.cluster_rules.specs.Proposals.{Proposals, none_left, Tends, in_turn, ends_of, looked, over_rows, reaps_of, with_ends}
 use Rattle.cluster_rules.specs.Requests.{entries_past, halts_past, moved}
+use Rattle.cluster_rules.proofs.Moved.{drops_rise}
 use Rattle.cluster_servers.specs.Servers.{Servers, officed}
 use Rattle.cluster_turns.specs.Turns.{Ticks}
 use Rattle.open_requests.specs.Requests.{Requests, cluster_of}
 use Rattle.cluster.specs.Standing.{AppliesCalm, Stands}
 use Rattle.cluster.proofs.Acts.{stands_officed}
+use Rattle.cluster.proofs.Carried.{losing_goes, ticking_goes}
+use Rattle.cluster.proofs.Marking.{world_stands}
 use Rattle.cluster.proofs.Calm.{none_over, none_to_reap}
 use Rattle.cluster.proofs.Kept.{each_item}
 
@@ -43,20 +46,17 @@ pub tick_goes_on : (i ms : ℕ) (w w' : World) (servers servers' : List Server) 
     → Stands w' servers' r × Ticks i ms c (cluster_of w' servers' r)
 tick_goes_on i ms w w' servers servers' r c s view k same step =
     let e = step.2 in
-    let stands : Stands w' servers r = record {
-      reached = (k s.reached).0;
-      some = s.some;
-      count = s.count ∙ sym (ap (λ (v : World). length v.nodes) e);
-      joined = s.joined ∙ sym (ap (λ (v : World). length v.agreed) e);
-      proposed = let g = ap (λ (v : World). v.greatest) e in omega (arith, g, s.proposed);
-      ascends = s.ascends;
-      held = s.held;
-      calm = s.calm;
-    } in
+    let stands = world_stands w w' servers r s (k s.reached).0 (ticking_goes w i ms w' s.reached step) (ap (λ (v : World). v.greatest) e) (ap (λ (v : World). v.agreed) e) in
     let moves : cluster_of w' servers r ≡ moved i w' (cluster_of w servers r) = subst (λ (v : World). cluster_of v servers r ≡ moved i v (cluster_of w servers r)) (sym e) (on_clocks i w _ servers r) in (
       subst (λ (l : List Server). Stands w' l r) (sym same) stands,
       (w', subst (λ (d : Cluster). WorldStep d.world (world.Ticks i ms) w') view step, ap (λ (l : List Server). cluster_of w' l r) same ∙ moves ∙ ap (moved i w') view),
     )
+
+-- a message that is lost
+pub lose_stands : (k : ℕ) (w w' : World) (servers servers' : List Server) (r : Requests) → Stands w servers r → KeepsAgreement w w' → servers' ≡ servers → WorldStep w (world.Drops k) w' → Stands w' servers' r
+lose_stands k w w' servers servers' r s keeps same step =
+    let up = drops_rise w k w' step in
+    subst (λ (l : List Server). Stands w' l r) (sym same) (world_stands w w' servers r s (keeps s.reached).0 (losing_goes w k w' s.reached step) up.1 up.2)
 
 -- a server in its own place
 own_set : (servers : List Server) (i : ℕ) → set_server servers i (server_of servers i) ≡ servers

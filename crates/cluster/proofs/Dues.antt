@@ -1,9 +1,8 @@
 -- What is due first is due.
-use Rattle.std.proofs.Common.{◌≡◌, ◌≢◌, ℕ, ◌<◌, List, [], ◌∷◌, ◌++◌, length, Option, Some, None, Result, Ok, Err, Bool, true, cond, refl, sym, ap, ◌∙◌, subst}
-use Rattle.std.specs.Prelude.{OnOk, nat_lt}
+use Rattle.std.proofs.Common.{◌≡◌, ◌≢◌, ℕ, ◌<◌, List, [], ◌∷◌, ◌++◌, length, Option, Some, None, Result, Ok, Err, Bool, refl, sym, ap, ◌∙◌, subst}
+use Rattle.std.specs.Prelude.{OnOk}
 use Rattle.cat_model.specs.declared.reply.Kind.{Kind}
-use Rattle.std.specs.List.{AllByRecursion as Each}
-use Rattle.raft_model.proofs.Tests.{lt_is}
+use Rattle.std.specs.List.{AllByRecursion as Each, find}
 use Rattle.cluster_rules.specs.Cluster.{Pending, Cluster, applied_of, contact_of, knows, node_of}
 use Rattle.cluster_rules.specs.Due.{Work, Replies, Holds, Closes, Applies, answered, applies, did, due, early_work, first_work, late_work, next_work, or_work, IsDue, early, next_one, late}
 use Rattle.cluster_rules.specs.Replies.{Question, shown}
@@ -12,6 +11,7 @@ use Rattle.open_requests.specs.declared.content.Content.{Content}
 use Rattle.open_requests.specs.Contents.{content_of}
 use Rattle.cluster.specs.declared.work.Work as own
 use Rattle.cluster.specs.declared.work.Work.TheVariants.{Answer, Close, Apply}
+use Rattle.cluster.specs.Looking.{is_early}
 use Rattle.cluster.specs.Working.{IsWork, closed}
 
 some_is : {A : Type 0} (x y : A) → Some x ≡ Some y → x ≡ y
@@ -65,11 +65,8 @@ all_held : (hs : List Pending) → Each (λ (h : Pending). Unit {0}) hs
 all_held [] = tt
 all_held (h ∷ hs) = (tt, all_held hs)
 
-pub applies_next : (c : Cluster) (i : ℕ) → due i c ≡ Some Applies → length (applied_of c i) < (node_of c.world i).commit
+applies_next : (c : Cluster) (i : ℕ) → due i c ≡ Some Applies → length (applied_of c i) < (node_of c.world i).commit
 applies_next c i e = due_cases c i (AppliesNext c i) (λ h. Unit {0}) (all_held c.held) (λ h _ _. anything c i h) (λ l. l) Applies (due_is i c Applies e)
-
-next_from : (a b : ℕ) → a < b → cond (nat_lt a b) (Some Applies) None ≡ Some Applies
-next_from a b l = ap (λ t. cond t (Some Applies) None) (lt_is a b l)
 
 -- the work that was found is what is due
 abbrev Found : Cluster → ℕ → own.Work → Type 0
@@ -81,10 +78,20 @@ apply_is c i (Replies q kind) f = absurd f
 apply_is c i (Holds h) f = absurd f
 apply_is c i (Closes number event) f = absurd f
 
-pub next_due : (c : Cluster) (i : ℕ) (work : own.Work) → Found c i work → work ≡ Apply → next_work c i ≡ Some Applies
+apply_none : (c : Cluster) (i : ℕ) (w : Work) → IsWork c i Apply w → find (is_early c i) c.held ≡ None
+apply_none c i Applies f = f
+apply_none c i (Replies q kind) f = absurd f
+apply_none c i (Holds h) f = absurd f
+apply_none c i (Closes number event) f = absurd f
+
+-- where a position is to be applied, more is committed, and nothing is due before
+pub next_due : (c : Cluster) (i : ℕ) (work : own.Work) → Found c i work → work ≡ Apply → length (applied_of c i) < (node_of c.world i).commit
 next_due c i work found is =
     let a = apply_is c i found.0 (subst (λ x. IsWork c i x found.0) is found.2) in
-    next_from (length (applied_of c i)) (node_of c.world i).commit (applies_next c i (found.1 ∙ ap Some a))
+    applies_next c i (found.1 ∙ ap Some a)
+
+pub none_due : (c : Cluster) (i : ℕ) (work : own.Work) → Found c i work → work ≡ Apply → find (is_early c i) c.held ≡ None
+none_due c i work found is = apply_none c i found.0 (subst (λ x. IsWork c i x found.0) is found.2)
 
 -- whatever is due then is what was found
 same_due : (c : Cluster) (i : ℕ) (work : own.Work) (found : Found c i work) (w : Work) → due i c ≡ Some w → IsWork c i work w

@@ -3,10 +3,9 @@ use Rattle.std.proofs.Common.{◌≡◌, ◌≢◌, ℕ, ◌-◌, ◌≤◌, ◌
 use Rattle.std.proofs.lemmas.Bool.Decides.{nat_tests}
 use Rattle.std.specs.Prelude.{IfOk}
 use Rattle.std.specs.List.{AllByRecursion as Each, find}
-use Rattle.cat_model.specs.declared.applied.Applied.TheVariants.{Yes}
+use Rattle.cat_model.specs.declared.applied.Applied.{Applied}
 use Rattle.cat_model.specs.declared.command.Entry.{Entry}
 use Rattle.cat_model.specs.declared.command.Command.{Command}
-use Rattle.cat_model.specs.declared.command.Command.TheVariants.{Noop, Register, Deregister, KvSet, KvCas, KvLock, KvUnlock, KvDelete, KvDeleteCas, KvDeleteTree, Txn, SessionCreate, SessionDestroy, QuerySet, QueryDelete, Reap, Upgrade}
 use Rattle.cat_model.specs.declared.query.Query.{Query}
 use Rattle.cat_model.specs.declared.request.Mode.{Mode}
 use Rattle.cat_model.specs.declared.request.Asked.{Asked}
@@ -16,12 +15,13 @@ use Rattle.cat_model.specs.declared.reply.Kind.TheVariants.{Acked, At, Refused}
 use Rattle.cat_model.specs.declared.reply.Refusal.TheVariants as refusal
 use Rattle.cat_model.specs.Indexes.{index_of}
 use Rattle.cat_model.specs.Log.{commands_of}
-use Rattle.cat_model.specs.Machine.{act, apply, catalog_at, reply_to}
+use Rattle.cat_model.specs.Machine.{catalog_at}
 use Rattle.cat_model.specs.Queries.{answer}
 use Rattle.cat_model.proofs.IndexLaw.{index_within}
+use Rattle.raft_model.proofs.Tests.{eq_tells, le_tells}
 use Rattle.raft_model.specs.World.{World}
-use Rattle.script_runs.specs.Taken.{IsPut, IsTakenAsked}
-use Rattle.cluster_rules.specs.Replies.{Question, Tells, entered, shown, shown_write, shown_read}
+use Rattle.script_runs.specs.Taken.{IsTakenAsked}
+use Rattle.cluster_rules.specs.Replies.{Question, Tells, shown, shown_read}
 use Rattle.cluster_rules.specs.Cluster.{Cluster, Pending, Server, Stand, AtPlace, InRound, ForIndex, Ended, applied_of, clock_of, node_of}
 use Rattle.cluster_rules.specs.Due as rules
 use Rattle.cluster_rules.specs.Due.{asks, asks_read, due, early_stand, early_work, first_work, is_ended, is_new, late_work, next_work, or_work, was_seen}
@@ -29,73 +29,18 @@ use Rattle.open_requests.specs.Contents.{read_content, write_content}
 use Rattle.open_requests.specs.Requests.{Requests, cluster_of}
 use Rattle.cluster.specs.declared.work.Work.{Work}
 use Rattle.cluster.specs.Looking.{is_early, is_read, is_stand_due}
-use Rattle.cluster.specs.Standing.{IsHeld, IsNoRound, Stands}
+use Rattle.cluster.specs.Standing.{IsAwaited, IsHeld, IsNoRound, Stands}
 use Rattle.cluster.specs.Working.{IsFound, IsWork}
+use Rattle.cluster.proofs.Taken.{entered_is, names_none}
 
 clash : {A : Type 0} → true ≡ false → A
 clash e = absurd cc
 
 -- Contents.
--- a set is entered as it was asked
-put_content : (q : Question) (command : Command) → IsPut command → Tells command Yes ≡ write_content q (Good (Write command)) Yes
-unfolding entered
-put_content q (KvSet key flags value) put = refl
-put_content q Noop put = absurd put
-put_content q (Register a b c d) put = absurd put
-put_content q (Deregister a b c) put = absurd put
-put_content q (KvCas a b c d) put = absurd put
-put_content q (KvLock a b c d) put = absurd put
-put_content q (KvUnlock a b c d) put = absurd put
-put_content q (KvDelete a) put = absurd put
-put_content q (KvDeleteCas a b) put = absurd put
-put_content q (KvDeleteTree a) put = absurd put
-put_content q (Txn a) put = absurd put
-put_content q (SessionCreate a b c d e f g) put = absurd put
-put_content q (SessionDestroy a) put = absurd put
-put_content q (QuerySet a b c d e f g h) put = absurd put
-put_content q (QueryDelete a) put = absurd put
-put_content q Reap put = absurd put
-put_content q Upgrade put = absurd put
-
-pub copied_content : (q : Question) (command copy : Command) → q.asked ≡ Good (Write command) → IsTakenAsked q.asked → copy ≡ command → Tells copy Yes ≡ write_content q q.asked Yes
-copied_content q command copy e t same =
-    ap (λ c. Tells c Yes) same
-    ∙ put_content q command (subst IsTakenAsked e t)
-    ∙ ap (λ a. write_content q a Yes) (sym e)
-
-set_answer : (q : Question) (key : List ℕ) (flags : ℕ) (value : List ℕ) (log : List Command) → reply_to log (entered q (KvSet key flags value)) ≡ Yes
-unfolding entered apply act
-set_answer q key flags value log = refl
-
-write_done : (q : Question) (asked : Asked) (position : ℕ) (log : List Entry) → IsTakenAsked asked → write_content q asked Yes ≡ shown_write q asked position log
-write_done q (Good (Read query mode least wait raw)) position log t = refl
-write_done q (Good (Execute name limit mode)) position log t = absurd t
-write_done q (Good (Write Noop)) position log t = absurd t
-write_done q (Good (Write (Register a b c d))) position log t = absurd t
-write_done q (Good (Write (Deregister a b c))) position log t = absurd t
-write_done q (Good (Write (KvSet key flags value))) position log t =
-    ap (λ applied. write_content q (Good (Write (KvSet key flags value))) applied) (sym (set_answer q key flags value (commands_of (take (position - 1) log))))
-write_done q (Good (Write (KvCas a b c d))) position log t = absurd t
-write_done q (Good (Write (KvLock a b c d))) position log t = absurd t
-write_done q (Good (Write (KvUnlock a b c d))) position log t = absurd t
-write_done q (Good (Write (KvDelete a))) position log t = absurd t
-write_done q (Good (Write (KvDeleteCas a b))) position log t = absurd t
-write_done q (Good (Write (KvDeleteTree a))) position log t = absurd t
-write_done q (Good (Write (Txn a))) position log t = absurd t
-write_done q (Good (Write (SessionCreate a b c d e f g))) position log t = absurd t
-write_done q (Good (Write (SessionDestroy a))) position log t = absurd t
-write_done q (Good (Write (QuerySet a b c d e f g h))) position log t = absurd t
-write_done q (Good (Write (QueryDelete a))) position log t = absurd t
-write_done q (Good (Write Reap)) position log t = absurd t
-write_done q (Good (Write Upgrade)) position log t = absurd t
-write_done q (Good (Renew id)) position log t = absurd t
-write_done q (Good (Agent op)) position log t = absurd t
-write_done q (Bad why) position log t = refl
-
--- what a write shows that stands where it was proposed
-pub written_shown : (q : Question) (position : ℕ) (log : List Entry) → IsTakenAsked q.asked → write_content q q.asked Yes ≡ shown q (Acked position) log
-unfolding shown
-written_shown q position log t = write_done q q.asked position log t
+-- a write that is taken is entered as it was asked
+pub copied_content : (q : Question) (command copy : Command) (applied : Applied) → q.asked ≡ Good (Write command) → IsTakenAsked q.asked → copy ≡ command → Tells copy applied ≡ write_content q q.asked applied
+copied_content q command copy applied e t same =
+    ap (λ c. Tells c applied) (same ∙ sym (entered_is q command (subst IsTakenAsked e t))) ∙ ap (λ a. write_content q a applied) (sym e)
 
 taken_whole : {A : Type 0} (xs : List A) → take (length xs) xs ≡ xs
 taken_whole [] = refl
@@ -135,7 +80,7 @@ read_found c i q h others deadline seen asked query mode least wait raw work e t
     let taken : IsTakenAsked (Good (Read query mode least wait raw)) = subst IsTakenAsked e t in
     let kind = At mode (length (applied_of c i)) (index_of query (commands_of (applied_of c i))) (clock_of c.world i) deadline in
     subst (λ (a : Asked). IsFound c i (asks_read h others (clock_of c.world i) (applied_of c i) deadline seen a) (Some work)) (sym e)
-    (subst (λ (o : Option rules.Work). IsFound c i o (Some work)) (sym (asked_at c i h others deadline seen query mode least taken.2))
+    (subst (λ (o : Option rules.Work). IsFound c i o (Some work)) (sym (asked_at c i h others deadline seen query mode least (names_none mode least taken)))
     (subst (λ (p : Question). IsWork c i work (rules.Replies p kind)) (sym same) w))
 
 -- the answer to a read that was made
@@ -151,8 +96,8 @@ read_call c i q deadline query mode least wait raw (Err why) e t w = tt
 -- Which held requests have something due.
 read_due : (c : Cluster) (i : ℕ) (h : Pending) (others deadline : ℕ) (seen : Option ℕ) (asked : Asked) → IsTakenAsked asked
     → is_read asked ≡ is_some (asks_read h others (clock_of c.world i) (applied_of c i) deadline seen asked)
-read_due c i h others deadline seen (Good (Read query mode least wait raw)) t = sym (ap is_some (asked_at c i h others deadline seen query mode least t.2))
-read_due c i h others deadline seen (Good (Execute name limit mode)) t = absurd t
+read_due c i h others deadline seen (Good (Read query mode least wait raw)) t = sym (ap is_some (asked_at c i h others deadline seen query mode least (names_none mode least t)))
+read_due c i h others deadline seen (Good (Execute name limit mode)) t = absurd cc
 read_due c i h others deadline seen (Good (Write command)) t = refl
 read_due c i h others deadline seen (Good (Renew id)) t = refl
 read_due c i h others deadline seen (Good (Agent op)) t = refl
@@ -195,23 +140,39 @@ first_by f b h later works e same = by (f h) refl b e
     by (Some w) g true e = ap (λ v. or_work v works) g ∙ sym g
     by (Some w) g false e = clash (sym (subst (λ w. false ≡ is_some w) g e))
 
-pub first_is : (c : Cluster) (i n : ℕ) (held : List Pending) → Each (IsHeld n) held → first_work (early_work c i) held ≡ first_of (early_work c i) (find (is_early c i) held)
+pub first_is : (c : Cluster) (i n : ℕ) (held : List Pending) → Each (IsHeld c.world c.servers n) held → first_work (early_work c i) held ≡ first_of (early_work c i) (find (is_early c i) held)
 first_is c i n [] each = refl
 first_is c i n (h ∷ held) each =
     first_by (early_work c i) (is_early c i h) h (find (is_early c i) held) (first_work (early_work c i) held) (early_is c i h each.0.taken) (first_is c i n held each.1)
 
 -- what is found is held, and passes
-pub record IsPassing (test : Pending → Bool) (n : ℕ) (h : Pending) : Type 0 where
+pub record IsPassing (test : Pending → Bool) (P : Pending → Type 0) (h : Pending) : Type 0 where
   pub passes : test h ≡ true
-  pub held : IsHeld n h
+  pub held : P h
 
-found_by : (test : Pending → Bool) (n : ℕ) (b : Bool) (x h : Pending) (later : Option Pending) → test x ≡ b → IsHeld n x → (later ≡ Some h → IsPassing test n h) → cond b (Some x) later ≡ Some h → IsPassing test n h
-found_by test n true x h later e held go found = let same : x ≡ h = cc in subst (λ (y : Pending). IsPassing test n y) same (record { passes = e; held = held })
-found_by test n false x h later e held go found = go found
+found_by : (test : Pending → Bool) (P : Pending → Type 0) (b : Bool) (x h : Pending) (later : Option Pending) → test x ≡ b → P x → (later ≡ Some h → IsPassing test P h) → cond b (Some x) later ≡ Some h → IsPassing test P h
+found_by test P true x h later e held go found = let same : x ≡ h = cc in subst (λ (y : Pending). IsPassing test P y) same (record { passes = e; held = held })
+found_by test P false x h later e held go found = go found
 
-pub found_held : (test : Pending → Bool) (n : ℕ) (held : List Pending) (h : Pending) → Each (IsHeld n) held → find test held ≡ Some h → IsPassing test n h
-found_held test n [] h each found = absurd cc
-found_held test n (x ∷ held) h each found = found_by test n (test x) x h (find test held) refl each.0 (λ e. found_held test n held h each.1 e) found
+pub found_held : (test : Pending → Bool) (P : Pending → Type 0) (held : List Pending) (h : Pending) → Each P held → find test held ≡ Some h → IsPassing test P h
+found_held test P [] h each found = absurd cc
+found_held test P (x ∷ held) h each found = found_by test P (test x) x h (find test held) refl each.0 (λ e. found_held test P held h each.1 e) found
+
+-- what is found to be due at a server is held there
+here_first : (a b : Bool) → (a && b) ≡ true → a ≡ true
+here_first true b e = refl
+here_first false b e = absurd cc
+
+pub awaited_here : (c : Cluster) (i n : ℕ) (h : Pending) → IsPassing (is_early c i) (IsHeld c.world c.servers n) h → IsAwaited c.world (length (applied_of c i)) h.question h.stand
+awaited_here c i n h found =
+    let here : h.server ≡ i = eq_tells h.server i (here_first (h.server == i) ((node_of c.world i).halted || is_stand_due c i h.question.asked h.stand) found.passes) in
+    subst (λ k. IsAwaited c.world (length (applied_of c k)) h.question h.stand) here found.held.awaited
+
+-- a position that is due is applied
+pub reached_by : (c : Cluster) (i : ℕ) (h : Pending) (index term : ℕ) → h.stand ≡ AtPlace index term → is_some (early_stand c i h h.stand) ≡ true → index ≤ length (applied_of c i)
+reached_by c i h index term is early =
+    let due : is_some (early_stand c i h (AtPlace index term)) ≡ true = subst (λ s. is_some (early_stand c i h s) ≡ true) is early in
+    le_tells index (length (applied_of c i)) (is_some_if (nat_le index (length (applied_of c i))) (rules.Replies h.question (rules.landed index term (applied_of c i))) ∙ due)
 
 -- No request waits for a round.
 no_late_stand : (c : Cluster) (i : ℕ) (h : Pending) (s : Stand) → IsNoRound s → rules.late_stand c i h s ≡ None
@@ -224,7 +185,7 @@ no_late_at : (c : Cluster) (i : ℕ) (h : Pending) (here : Bool) → IsNoRound h
 no_late_at c i h true t = no_late_stand c i h h.stand t
 no_late_at c i h false t = refl
 
-no_late : (c : Cluster) (i n : ℕ) (held : List Pending) → Each (IsHeld n) held → first_work (late_work c i) held ≡ None
+no_late : (c : Cluster) (i n : ℕ) (held : List Pending) → Each (IsHeld c.world c.servers n) held → first_work (late_work c i) held ≡ None
 no_late c i n [] each = refl
 no_late c i n (h ∷ held) each = ap (λ w. or_work w (first_work (late_work c i) held)) (no_late_at c i h (h.server == i) each.0.no_round) ∙ no_late c i n held each.1
 
@@ -232,14 +193,14 @@ or_none : (w : Option rules.Work) → or_work w None ≡ w
 or_none None = refl
 or_none (Some w) = refl
 
-due_now : (c : Cluster) (i n : ℕ) → Each (IsHeld n) c.held → due i c ≡ or_work (first_of (early_work c i) (find (is_early c i) c.held)) (next_work c i)
+due_now : (c : Cluster) (i n : ℕ) → Each (IsHeld c.world c.servers n) c.held → due i c ≡ or_work (first_of (early_work c i) (find (is_early c i) c.held)) (next_work c i)
 due_now c i n each =
     ap (λ w. or_work (first_work (early_work c i) c.held) (or_work (next_work c i) w)) (no_late c i n c.held each)
     ∙ ap (λ w. or_work (first_work (early_work c i) c.held) w) (or_none (next_work c i))
     ∙ ap (λ w. or_work w (next_work c i)) (first_is c i n c.held each)
 
 -- nothing is early: the next position
-pub next_found : (c : Cluster) (i n : ℕ) (work : Option Work) → Each (IsHeld n) c.held → find (is_early c i) c.held ≡ None → IsFound c i (next_work c i) work → IsFound c i (due i c) work
+pub next_found : (c : Cluster) (i n : ℕ) (work : Option Work) → Each (IsHeld c.world c.servers n) c.held → find (is_early c i) c.held ≡ None → IsFound c i (next_work c i) work → IsFound c i (due i c) work
 next_found c i n work each none found =
     subst (λ w. IsFound c i w work) (sym (due_now c i n each ∙ ap (λ h. or_work (first_of (early_work c i) h) (next_work c i)) none)) found
 
@@ -247,11 +208,11 @@ some_of : (w : Option rules.Work) → is_some w ≡ true → (v : rules.Work) ×
 some_of None e = clash (sym e)
 some_of (Some v) e = (v, refl)
 
-pub some_early : (c : Cluster) (i n : ℕ) (h : Pending) → Each (IsHeld n) c.held → find (is_early c i) c.held ≡ Some h → is_some (early_work c i h) ≡ true
-some_early c i n h each found = let p = found_held (is_early c i) n c.held h each found in sym (early_is c i h p.held.taken) ∙ p.passes
+pub some_early : (c : Cluster) (i n : ℕ) (h : Pending) → Each (IsHeld c.world c.servers n) c.held → find (is_early c i) c.held ≡ Some h → is_some (early_work c i h) ≡ true
+some_early c i n h each found = let p = found_held (is_early c i) (IsHeld c.world c.servers n) c.held h each found in sym (early_is c i h p.held.taken) ∙ p.passes
 
 -- the first early work is due
-due_early : (c : Cluster) (i n : ℕ) (h : Pending) → Each (IsHeld n) c.held → find (is_early c i) c.held ≡ Some h → due i c ≡ early_work c i h
+due_early : (c : Cluster) (i n : ℕ) (h : Pending) → Each (IsHeld c.world c.servers n) c.held → find (is_early c i) c.held ≡ Some h → due i c ≡ early_work c i h
 due_early c i n h each found =
     let v = some_of (early_work c i h) (some_early c i n h each found) in
     due_now c i n each
@@ -259,16 +220,16 @@ due_early c i n h each found =
     ∙ ap (λ w. or_work w (next_work c i)) v.1
     ∙ sym v.1
 
-pub early_found : (c : Cluster) (i n : ℕ) (h : Pending) (work : Option Work) → Each (IsHeld n) c.held → find (is_early c i) c.held ≡ Some h → IsFound c i (early_work c i h) work → IsFound c i (due i c) work
+pub early_found : (c : Cluster) (i n : ℕ) (h : Pending) (work : Option Work) → Each (IsHeld c.world c.servers n) c.held → find (is_early c i) c.held ≡ Some h → IsFound c i (early_work c i h) work → IsFound c i (due i c) work
 early_found c i n h work each found is = subst (λ w. IsFound c i w work) (sym (due_early c i n h each found)) is
 
-pub early_behind : (c : Cluster) (i n : ℕ) (h : Pending) → Each (IsHeld n) c.held → find (is_early c i) c.held ≡ Some h → due i c ≢ None
+pub early_behind : (c : Cluster) (i n : ℕ) (h : Pending) → Each (IsHeld c.world c.servers n) c.held → find (is_early c i) c.held ≡ Some h → due i c ≢ None
 early_behind c i n h each found none =
     clash (sym (subst (λ w. is_some w ≡ true) (sym (due_early c i n h each found) ∙ none) (some_early c i n h each found)))
 
 -- what is known of the held requests of a cluster
-pub held_each : (w : World) (servers : List Server) (r : Requests) (c : Cluster) → Stands w servers r → cluster_of w servers r ≡ c → Each (IsHeld c.asked) c.held
-held_each w servers r c stands view = subst (λ (d : Cluster). Each (IsHeld d.asked) d.held) view stands.held
+pub held_each : (w : World) (servers : List Server) (r : Requests) (c : Cluster) → Stands w servers r → cluster_of w servers r ≡ c → Each (IsHeld c.world c.servers c.asked) c.held
+held_each w servers r c stands view = subst (λ (d : Cluster). Each (IsHeld d.world d.servers d.asked) d.held) view stands.held
 
 pub found_in : (w : World) (servers : List Server) (r : Requests) (c : Cluster) (i : ℕ) (held : List Pending) (found known : Option Pending) → cluster_of w servers r ≡ c → held ≡ r.held
     → found ≡ find (is_early c i) held → found ≡ known → find (is_early c i) c.held ≡ known

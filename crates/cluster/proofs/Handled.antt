@@ -15,8 +15,7 @@ use Rattle.cat_model.specs.declared.reply.Refusal.TheVariants as refusal
 use Rattle.raft_model.specs.Log.{last_term}
 use Rattle.raft_model.specs.World.{World}
 use Rattle.script_runs.specs.Taken.{IsTakenAsked}
-use Rattle.cluster_rules.specs.Cluster.{Cluster, ForIndex, Looked, Pending, Server, Stand, Start, applied_of, clock_of, node_of}
-use Rattle.cluster_rules.specs.Lasting.{is_stale}
+use Rattle.cluster_rules.specs.Cluster.{Cluster, ForIndex, Looked, Pending, Server, Stand, Start, applied_of, clock_of, node_of, server_of}
 use Rattle.cluster_rules.specs.Replies.{Question, Says, shown}
 use Rattle.cluster_rules.specs.Requests.{Handles, holding, is_ready, is_stale_read, look_of, refused, unready, reads, wait_of}
 use Rattle.cluster_rules.specs.Sound.{Ascends}
@@ -25,9 +24,11 @@ use Rattle.cluster_turns.specs.Turns.{HandlesNewest, IsCome, newest, numbered}
 use Rattle.open_requests.specs.Notes.{IsMadeLast, past_of}
 use Rattle.open_requests.specs.Requests.{Requests, answered_with, cluster_of, holding_with, numbered_with, used}
 use Rattle.cluster.specs.Asking.{ForRead}
-use Rattle.cluster.specs.Standing.{IsHeld, IsNoRound, Stands}
+use Rattle.cluster.specs.Standing.{IsAwaited, IsHeld, IsNoRound, Stands}
+use Rattle.cluster.proofs.Carried.{all_more}
 use Rattle.cluster.proofs.Kept.{answer_stands}
 use Rattle.cluster.proofs.Notes.{come_made, joined_placed, numbers_by}
+use Rattle.cluster.proofs.Taken.{default_read, not_stale}
 
 -- what a request that came last is handled on
 pub record Comes (w : World) (servers : List Server) (r : Requests) (c : Cluster) (agent : ℕ) (asked : Asked) (draw : Draw) : Type 0 where
@@ -54,10 +55,11 @@ module _ (w : World) (servers : List Server) (r : Requests) (c : Cluster) (agent
     reached = at.stands.reached;
     some = at.stands.some;
     count = at.stands.count;
+    sound = at.stands.sound;
     joined = joined_placed (mark.Asked (r.asked + 1) agent asked draw) r.notes ∙ at.stands.joined;
     proposed = omega (arith, at.stands.proposed);
     ascends = at.stands.ascends;
-    held = each_map (IsHeld r.asked) (IsHeld (r.asked + 1)) (λ h l. record { numbered = omega (arith, l.numbered); taken = l.taken; no_round = l.no_round }) r.held at.stands.held;
+    held = all_more w servers r.asked (r.asked + 1) r.held (omega arith) at.stands.held;
     calm = at.stands.calm;
   }
 
@@ -78,14 +80,7 @@ refuses_as w servers r new q why c number n view e =
 pub refusal_stands : (w : World) (servers : List Server) (r new : Requests) (number : ℕ) (why : Refusal) → Stands w servers r → new ≡ used (answered_with number (Refused why) false 0 (Says why) r) → Stands w servers new
 refusal_stands w servers r new number why s e =
     let a = answer_stands w servers r number (Refused why) false 0 (Says why) s in
-    subst (Stands w servers) (sym e) (record { reached = a.reached; some = a.some; count = a.count; joined = a.joined; proposed = a.proposed; ascends = a.ascends; held = a.held; calm = a.calm })
-
--- a request that is taken is no stale read
-not_stale : (a : Asked) → IsTakenAsked a → is_stale_read a ≡ false
-not_stale (Good (Read query mode least wait raw)) t = ap is_stale t.1
-not_stale (Good (Write command)) t = refl
-not_stale (Good other) t = absurd t
-not_stale (Bad why) t = refl
+    subst (Stands w servers) (sym e) (record { reached = a.reached; some = a.some; count = a.count; sound = a.sound; joined = a.joined; proposed = a.proposed; ascends = a.ascends; held = a.held; calm = a.calm })
 
 pub unready_handles : (w : World) (servers : List Server) (r r' : Requests) (c : Cluster) (i agent : ℕ) (asked : Asked) (draw : Draw) (number term applied : ℕ) → Comes w servers r c agent asked draw → IsTakenAsked asked → is_ready c i ≡ false
     → number ≡ r.asked + 1 → term ≡ (node_of c.world i).term → applied ≡ last_term (applied_of c i)
@@ -106,24 +101,25 @@ ascends_last [] h a b = (tt, tt)
 ascends_last (g ∷ hs) h a b = (each_append (λ (x : Pending). g.question.number < x.question.number) hs (h ∷ []) a.0 (b.0, tt), ascends_last hs h a.1 b.1)
 
 default_mode : (query : Query) (mode : Mode) (least wait : ℕ) (raw : Bool) (a : Asked) → a ≡ Good (Read query mode least wait raw) → IsTakenAsked a → mode ≡ Default
-default_mode query mode least wait raw a e t = (subst IsTakenAsked e t).1
+default_mode query mode least wait raw a e t = default_read mode least (subst IsTakenAsked e t)
 
 not_consistent : (mode : Mode) → mode ≡ Default → mode ≢ Consistent
 not_consistent mode e f = cc (e, f)
 
 -- a request that is held behind all others
 pub hold_stands : (w : World) (servers : List Server) (r new : Requests) (q : Question) (i : ℕ) (stand : Stand) (start : Start) → Stands w servers r → Each (λ (h : Pending). h.question.number < q.number) r.held → q.number ≤ r.asked → IsTakenAsked q.asked → IsNoRound stand
-    → new ≡ used (holding_with q i stand start r) → Stands w servers new
-hold_stands w servers r new q i stand start s below given taken no_round e =
+    → IsAwaited w (length (server_of servers i).applied) q stand → new ≡ used (holding_with q i stand start r) → Stands w servers new
+hold_stands w servers r new q i stand start s below given taken no_round awaited e =
     let h : Pending = record { question = q; server = i; stand = stand } in
     subst (Stands w servers) (sym e) (record {
       reached = s.reached;
       some = s.some;
       count = s.count;
+      sound = s.sound;
       joined = s.joined;
       proposed = s.proposed;
       ascends = ascends_last r.held h s.ascends below;
-      held = each_append (IsHeld r.asked) r.held (h ∷ []) s.held (record { numbered = given; taken = taken; no_round = no_round }, tt);
+      held = each_append (IsHeld w servers r.asked) r.held (h ∷ []) s.held (record { numbered = given; taken = taken; no_round = no_round; awaited = awaited }, tt);
       calm = s.calm;
     })
 
@@ -132,7 +128,7 @@ holds_as w servers r new q i stand start c view e = ap (cluster_of w servers) e 
 
 -- all that are held have numbers below the next one
 pub below_next : (w : World) (servers : List Server) (r : Requests) (number : ℕ) → Stands w servers r → number ≡ r.asked + 1 → Each (λ (h : Pending). h.question.number < number) r.held
-below_next w servers r number s n = each_map (IsHeld r.asked) (λ (h : Pending). h.question.number < number) (λ h l. omega (arith, l.numbered, n)) r.held s.held
+below_next w servers r number s n = each_map (IsHeld w servers r.asked) (λ (h : Pending). h.question.number < number) (λ h l. omega (arith, l.numbered, n)) r.held s.held
 
 -- a default read is held, to be looked for at once
 pub read_handles : (w : World) (servers : List Server) (r r' : Requests) (c : Cluster) (i agent : ℕ) (asked : Asked) (draw : Draw) (query : Query) (mode : Mode) (least wait : ℕ) (raw : Bool) (number deadline applied : ℕ) →
@@ -149,7 +145,7 @@ read_handles w servers r r' c i agent asked draw query mode least wait raw numbe
           (done ∙ ap (λ (p : Question). holding p i (ForIndex deadline None) (Looked p.number i applied) c₁) same
           ∙ ap (λ k. holding (newest agent asked draw c₁) i (ForIndex k None) (Looked (newest agent asked draw c₁).number i applied) c₁) d
           ∙ ap (λ k. holding (newest agent asked draw c₁) i (ForIndex (clock_of c.world i + wait_of wait) None) (Looked (newest agent asked draw c₁).number i k) c₁) l),
-      hold_stands w servers r₂ r' q i (ForIndex deadline None) (Looked number i applied) (numbered_stands w servers r c agent asked draw at) (below_next w servers r number at.stands n) (omega (arith, n)) taken tt e,
+      hold_stands w servers r₂ r' q i (ForIndex deadline None) (Looked number i applied) (numbered_stands w servers r c agent asked draw at) (below_next w servers r number at.stands n) (omega (arith, n)) taken tt tt e,
     )
 
 -- a read, by its wait

@@ -1,33 +1,37 @@
 -- What stands of a cluster once something was done.
-use Rattle.std.proofs.Common.{◌≡◌, ℕ, zero, suc, ◌+◌, ◌≤◌, Bool, true, length, List, [], ◌∷◌, ◌++◌, map, Option, Some, None, Result, Ok, Err, refl, sym, ap, ◌∙◌, subst, arith}
+use Rattle.std.proofs.Common.{◌≡◌, ℕ, zero, suc, ◌+◌, ◌<◌, ◌≤◌, ◌==◌, ◌||◌, Bool, true, false, cond, length, take, List, [], ◌∷◌, ◌++◌, map, Option, Some, None, Result, Ok, Err, refl, sym, ap, ◌∙◌, subst, arith}
 use Rattle.std.specs.Prelude.{OnOk, OnErr, ◌&&◌}
-use Rattle.std.specs.List.{AllByRecursion as Each, list_all}
-use Rattle.std.proofs.lemmas.List.{map-append}
+use Rattle.std.specs.List.{AllByRecursion as Each, find, list_all}
+use Rattle.std.proofs.lemmas.List.{length-append, map-append}
 use Rattle.cat_model.specs.declared.command.Command.{Command}
 use Rattle.cat_model.specs.declared.command.Entry.{Entry}
 use Rattle.cat_model.specs.declared.reply.Kind.{Kind}
 use Rattle.cat_model.specs.Log.{commands_of}
-use Rattle.raft_model.specs.Log.{entry_at}
+use Rattle.raft_model.specs.Log.{Log, entry_at}
 use Rattle.raft_model.specs.Node.{set_server}
 use Rattle.raft_model.specs.World.{World}
-use Rattle.cluster_rules.specs.Cluster.{Pending, Server, clock_of, item_of, no_server, node_of, server_of}
+use Rattle.cluster_rules.specs.Cluster.{AtPlace, Cluster, Ended, ForIndex, InRound, Pending, Server, Stand, applied_of, clock_of, item_of, no_server, node_of, server_of}
 use Rattle.cluster_rules.specs.Due.{applies_entry, without}
-use Rattle.cluster_rules.specs.Replies.{Content}
+use Rattle.cluster_rules.specs.Replies.{Content, Question}
+use Rattle.cluster_rules.specs.Sound.{ServerIsSound}
 use Rattle.cluster.specs.Calm.{is_calm}
-use Rattle.cluster_rules.proofs.Tools.{length_set_server}
-use Rattle.cluster_rules.proofs.Works.{ascends_without, each_kept}
-use Rattle.open_requests.specs.Requests.{Requests, answered_with, closed_with}
+use Rattle.cluster_rules.proofs.Entries.{agree_entry, take_next}
+use Rattle.cluster_rules.proofs.Tools.{at_item, eq_self, le_tells_not, length_set_server}
+use Rattle.cluster_rules.proofs.Works.{ascends_without, commit_agrees, each_kept}
+use Rattle.open_requests.specs.Requests.{Requests, answered_with, closed_with, cluster_of}
 use Rattle.cluster_servers.specs.Servers.{Servers, applies_next}
-use Rattle.cluster.specs.Standing.{AppliesCalm, IsHeld, Stands}
+use Rattle.cluster.specs.Looking.{is_early, is_stand_due}
+use Rattle.cluster.specs.Standing.{AppliesCalm, IsAwaited, IsHeld, Stands}
 use Rattle.cluster.specs.Working.{is_calm_entry}
+use Rattle.cluster.proofs.Carried.{sound_with}
 
 pub answer_stands : (w : World) (servers : List Server) (r : Requests) (number : ℕ) (kind : Kind) (known : Bool) (contact : ℕ) (content : Content) → Stands w servers r → Stands w servers (answered_with number kind known contact content r)
 answer_stands w servers r number kind known contact content s =
-    record { reached = s.reached; some = s.some; count = s.count; joined = s.joined; proposed = s.proposed; ascends = ascends_without number r.held s.ascends; held = each_kept (IsHeld r.asked) number r.held s.held; calm = s.calm }
+    record { reached = s.reached; some = s.some; count = s.count; sound = s.sound; joined = s.joined; proposed = s.proposed; ascends = ascends_without number r.held s.ascends; held = each_kept (IsHeld w servers r.asked) number r.held s.held; calm = s.calm }
 
 closing_stands : (w : World) (servers : List Server) (r : Requests) (number event : ℕ) → Stands w servers r → Stands w servers (closed_with number event r)
 closing_stands w servers r number event s =
-    record { reached = s.reached; some = s.some; count = s.count; joined = s.joined; proposed = s.proposed; ascends = ascends_without number r.held s.ascends; held = each_kept (IsHeld r.asked) number r.held s.held; calm = s.calm }
+    record { reached = s.reached; some = s.some; count = s.count; sound = s.sound; joined = s.joined; proposed = s.proposed; ascends = ascends_without number r.held s.ascends; held = each_kept (IsHeld w servers r.asked) number r.held s.held; calm = s.calm }
 
 -- after a call that did something or nothing
 pub call_stands : {A B : Type 0} (w : World) (servers : List Server) (r done new : Requests) (result : Result A B) → Stands w servers r → Stands w servers done → OnOk result (new ≡ done) → OnErr result (new ≡ r) → Stands w servers new
@@ -75,15 +79,83 @@ each_set [] (suc i) x a t = tt
 each_set (s ∷ ss) (suc zero) x a t = (t, a.1)
 each_set (s ∷ ss) (suc (suc i)) x a t = (a.0, each_set ss (suc i) x a.1 t)
 
-applying_stands : (s : Servers) (r : Requests) (i : ℕ) → Stands s.world s.servers r → true ≡ is_calm_entry (entry_at (length (server_of s.servers i).applied + 1) (node_of s.world i).log) → Stands (applies_next i s).world (applies_next i s).servers r
-applying_stands s r i a t =
+-- one more position of a server
+next_sound : (agreed log : Log) (commit clock : ℕ) (s : Server) → take commit log ≡ take commit agreed → length s.applied < commit → ServerIsSound agreed commit s →
+    (o : Option Entry) → entry_at (suc (length s.applied)) log ≡ o → ServerIsSound agreed commit (applies_entry clock s o)
+next_sound agreed log commit clock s a l x None e = x
+next_sound agreed log commit clock s a l x (Some n) e =
+    let there : entry_at (suc (length s.applied)) agreed ≡ Some n = sym (agree_entry (suc (length s.applied)) commit log agreed (omega arith) a) ∙ e in
+    let k = length-append s.applied (n ∷ []) in
+    let front : s.applied ++ n ∷ [] ≡ take (suc (length s.applied)) agreed = ap (λ z. z ++ n ∷ []) x.front ∙ sym (take_next (length s.applied) agreed n there) in
+    let long : suc (length s.applied) ≡ length (s.applied ++ n ∷ []) = omega (arith, k) in
+    record {
+      front = front ∙ ap (λ z. take z agreed) long;
+      within = omega (arith, k);
+      clocks = let c = length-append s.clocks (clock ∷ []) in let e = x.clocks in omega (arith, k, c);
+    }
+
+one_longer : (clock : ℕ) (s : Server) (o : Option Entry) → length (applies_entry clock s o).applied ≤ suc (length s.applied)
+one_longer clock s None = omega arith
+one_longer clock s (Some e) = let k = length-append s.applied (e ∷ []) in omega arith
+
+-- Nothing that waits for a position at the server is due: its position comes later.
+not_due : (a b c : Bool) → a ≡ true → (a && (b || c)) ≡ false → c ≡ false
+not_due true false c e n = n
+not_due true true c e n = absurd cc
+not_due false b c e n = absurd cc
+
+awaited_next : (c : Cluster) (i : ℕ) (w : World) (q : Question) (s : Stand) (n m : ℕ) → n ≡ length (applied_of c i) → m ≤ suc n → is_stand_due c i q.asked s ≡ false → IsAwaited w n q s → IsAwaited w m q s
+awaited_next c i w q (AtPlace index term) n m e l d x = (x.0, (let k = le_tells_not index (length (applied_of c i)) d in omega arith), x.2)
+awaited_next c i w q (InRound round deadline) n m e l d x = tt
+awaited_next c i w q (ForIndex deadline seen) n m e l d x = tt
+awaited_next c i w q (Ended event) n m e l d x = tt
+
+module _ (c : Cluster) (i : ℕ) (x : Server) (more : length x.applied ≤ suc (length (applied_of c i))) where
+  one_held : (h : Pending) → is_early c i h ≡ false → IsHeld c.world c.servers c.asked h → IsHeld c.world (set_server c.servers i x) c.asked h
+  one_held h none held = record {
+    numbered = held.numbered;
+    taken = held.taken;
+    no_round = held.no_round;
+    awaited = at_item (λ (y : Server). IsAwaited c.world (length y.applied) h.question h.stand) no_server c.servers i x h.server
+        (λ e. let same : length (server_of c.servers h.server).applied ≡ length (applied_of c i) = ap (λ k. length (server_of c.servers k).applied) e in
+        let here : (h.server == i) ≡ true = ap (λ k. k == i) e ∙ eq_self i in
+        awaited_next c i c.world h.question h.stand (length (server_of c.servers h.server).applied) (length x.applied) same (omega (arith, more, same))
+        (not_due (h.server == i) (node_of c.world i).halted (is_stand_due c i h.question.asked h.stand) here none) held.awaited)
+        held.awaited;
+  }
+
+  one_more : (h : Pending) (held : List Pending) (b : Bool) → is_early c i h ≡ b → IsHeld c.world c.servers c.asked h → (find (is_early c i) held ≡ None → Each (IsHeld c.world (set_server c.servers i x) c.asked) held)
+      → cond b (Some h) (find (is_early c i) held) ≡ None → Each (IsHeld c.world (set_server c.servers i x) c.asked) (h ∷ held)
+  one_more h held true e now others n = absurd cc
+  one_more h held false e now others n = (one_held h e now, others n)
+
+  pub all_held : (held : List Pending) → find (is_early c i) held ≡ None → Each (IsHeld c.world c.servers c.asked) held → Each (IsHeld c.world (set_server c.servers i x) c.asked) held
+  all_held [] none all = tt
+  all_held (h ∷ held) none all = one_more h held (is_early c i h) refl all.0 (λ n. all_held held n all.1) none
+
+-- a server's next position is applied, where nothing is due before
+applying_stands : (s : Servers) (r : Requests) (i : ℕ) → Stands s.world s.servers r → true ≡ is_calm_entry (entry_at (length (server_of s.servers i).applied + 1) (node_of s.world i).log)
+    → length (server_of s.servers i).applied < (node_of s.world i).commit → find (is_early (cluster_of s.world s.servers r) i) r.held ≡ None → Stands (applies_next i s).world (applies_next i s).servers r
+applying_stands s r i a t more none =
     let one : length (server_of s.servers i).applied + 1 ≡ suc (length (server_of s.servers i).applied) = omega arith in
-    let x = applies_entry (clock_of s.world i) (server_of s.servers i) (entry_at (suc (length (server_of s.servers i).applied)) (node_of s.world i).log) in
-    let calm = calm_entry (clock_of s.world i) (server_of s.servers i) (entry_at (suc (length (server_of s.servers i).applied)) (node_of s.world i).log) (each_item s.servers i a.calm)
-    (t ∙ ap (λ k. is_calm_entry (entry_at k (node_of s.world i).log)) one) in
-    record { reached = a.reached; some = omega (arith, a.some, length_set_server s.servers i x); count = length_set_server s.servers i x ∙ a.count; joined = a.joined; proposed = a.proposed; ascends = a.ascends; held = a.held; calm = each_set s.servers i x a.calm calm }
+    let o = entry_at (suc (length (server_of s.servers i).applied)) (node_of s.world i).log in
+    let x = applies_entry (clock_of s.world i) (server_of s.servers i) o in
+    let calm = calm_entry (clock_of s.world i) (server_of s.servers i) o (each_item s.servers i a.calm) (t ∙ ap (λ k. is_calm_entry (entry_at k (node_of s.world i).log)) one) in
+    let sound = next_sound s.world.agreed (node_of s.world i).log (node_of s.world i).commit (clock_of s.world i) (server_of s.servers i) (commit_agrees s.world a.reached i) more (a.sound i) o refl in
+    record {
+      reached = a.reached;
+      some = omega (arith, a.some, length_set_server s.servers i x);
+      count = length_set_server s.servers i x ∙ a.count;
+      sound = sound_with s.world s.servers i x a.sound sound;
+      joined = a.joined;
+      proposed = a.proposed;
+      ascends = a.ascends;
+      held = all_held (cluster_of s.world s.servers r) i x (one_longer (clock_of s.world i) (server_of s.servers i) o) r.held none a.held;
+      calm = each_set s.servers i x a.calm calm;
+    }
 
 pub apply_call : {A B : Type 0} (s new : Servers) (r : Requests) (i : ℕ) (result : Result A B) → Stands s.world s.servers r → true ≡ is_calm_entry (entry_at (length (server_of s.servers i).applied + 1) (node_of s.world i).log)
+    → length (server_of s.servers i).applied < (node_of s.world i).commit → find (is_early (cluster_of s.world s.servers r) i) r.held ≡ None
     → OnOk result (new ≡ applies_next i s) → OnErr result (new ≡ s) → Stands new.world new.servers r
-apply_call s new r i (Ok a) stands t ok err = subst (λ (q : Servers). Stands q.world q.servers r) (sym ok) (applying_stands s r i stands t)
-apply_call s new r i (Err b) stands t ok err = subst (λ (q : Servers). Stands q.world q.servers r) (sym err) stands
+apply_call s new r i (Ok a) stands t more none ok err = subst (λ (q : Servers). Stands q.world q.servers r) (sym ok) (applying_stands s r i stands t more none)
+apply_call s new r i (Err b) stands t more none ok err = subst (λ (q : Servers). Stands q.world q.servers r) (sym err) stands

@@ -1,6 +1,7 @@
 pub mod Acts
 pub mod Beginning
 pub mod Calm
+pub mod Carried
 pub mod Dues
 pub mod Finding
 pub mod Forgetting
@@ -13,8 +14,10 @@ pub mod Numbers
 pub mod Outs
 pub mod Proposing
 pub mod Refused
+pub mod Replying
 pub mod Restarts
 pub mod Stores
+pub mod Taken
 pub mod Clocks
 pub mod Turns
 pub mod Notes

@@ -4,7 +4,6 @@ use Rattle.std.specs.Prelude.{OnOk, OnErr, ◌&&◌, ◌<◌}
 use Rattle.std.specs.List.{AllByRecursion as Each}
 use Rattle.std.proofs.lemmas.List.{length-append}
 use Rattle.cat_model.specs.declared.command.Command.{Command}
-use Rattle.cat_model.specs.declared.command.Command.TheVariants.{KvSet}
 use Rattle.cat_model.specs.declared.command.Entry.{Entry}
 use Rattle.cat_model.specs.declared.memory.Memory as memory
 use Rattle.cat_model.specs.declared.request.Asked.{Asked}
@@ -17,6 +16,7 @@ use Rattle.cat_model.specs.declared.reply.Refusal.{Refusal}
 use Rattle.cat_model.specs.declared.reply.Refusal.TheVariants as refusal
 use Rattle.cat_model.specs.LogLimits.{command_bytes, is_noop, log_bytes}
 use Rattle.raft_model.specs.declared.message.Place.{Place}
+use Rattle.raft_model.specs.Facts.{IsPlaced}
 use Rattle.raft_model.specs.Log.{Log}
 use Rattle.raft_model.specs.Node.{Node, last}
 use Rattle.raft_model.specs.Rules.{Propose, has_room, proposal}
@@ -25,11 +25,12 @@ use Rattle.raft_model.specs.World.{World, Acts as NodeActs, IsServer}
 use Rattle.raft_node.specs.declared.fault.ProposeFault.{ProposeFault}
 use Rattle.raft_node.specs.declared.fault.ProposeFault.TheVariants as fault
 use Rattle.raft_world.specs.Steps.{IsProposed, KeepsAgreement, Proposes}
-use Rattle.script_runs.specs.Taken.{IsPut, IsTakenAsked}
-use Rattle.cluster_rules.specs.Cluster.{AtPlace, Cluster, Pending, Proposed, Server, node_of, runs_leading}
+use Rattle.script_runs.specs.Taken.{IsTakenAsked, is_command_taken}
+use Rattle.cluster_rules.specs.Cluster.{AtPlace, Cluster, Pending, Proposed, Server, node_of, runs_leading, server_of}
+use Rattle.cluster_rules.specs.Lasting.{IsWrite}
 use Rattle.cluster_rules.specs.Replies.{Question, Says, entered}
 use Rattle.cluster_rules.specs.Requests.{Handles, full, holding, delayed_at, is_ready, log_with, moved, proposes, refused, stops}
-use Rattle.cluster_rules.proofs.Boundary.{acts_greatest, acts_server, leader_there, leading_tells}
+use Rattle.cluster_rules.proofs.Boundary.{acts_greatest, acts_server, commit_within, leader_there, leading_tells, proposed as placed_by}
 use Rattle.cluster_rules.proofs.Tools.{is_node}
 use Rattle.cluster_turns.specs.Turns.{HandlesNewest, IsCome, newest, numbered}
 use Rattle.cluster_servers.specs.Servers.{Servers}
@@ -38,24 +39,18 @@ use Rattle.cluster.specs.declared.asking.Write.{Write}
 use Rattle.cluster.specs.declared.moving.Seen.{Seen}
 use Rattle.cluster.specs.Asking.{EndsWrite, HoldsWrite, IsCopied, RefusesWrite}
 use Rattle.cluster.specs.Moving.{IsMarked, MarksStep, seen_of}
-use Rattle.cluster.specs.Standing.{Stands}
-use Rattle.cluster.proofs.Acts.{nodes_kept}
+use Rattle.cluster.specs.Standing.{HasPlace, IsAwaited, Stands}
+use Rattle.cluster.proofs.Carried.{carries, proposing_goes}
 use Rattle.cluster.proofs.Handled.{Comes, below_next, hold_stands, holds_as, numbered_cluster, numbered_stands, refusal_stands, refuses_as}
 use Rattle.cluster.proofs.Marking.{cluster_marked, stands_proposed, with_room}
+use Rattle.cluster.proofs.Taken.{entered_is, is_counted, is_free}
 
--- of a set
-put_entered : (q : Question) (command : Command) → IsPut command → entered q command ≡ command
-unfolding entered
-put_entered q (KvSet key flags value) p = refl
-put_entered q other p = absurd p
-
-put_is_free : (c : Cluster) (i : ℕ) (command : Command) → IsPut command → delayed_at c i command ≡ None
-put_is_free c i (KvSet key flags value) p = refl
-put_is_free c i other p = absurd p
-
-put_counts : (command : Command) → IsPut command → is_noop command ≡ false
-put_counts (KvSet key flags value) p = refl
-put_counts other p = absurd p
+-- the entry of a write that was taken, at its place
+awaits : (w w' : World) (servers : List Server) (i index term : ℕ) (q : Question) (command : Command) → q.asked ≡ Good (Writes command) → index ≡ suc (length (node_of w i).log) → term ≡ (node_of w i).term
+    → length (server_of servers i).applied ≤ length (node_of w i).log → IsPlaced w' (suc (length (node_of w i).log)) (proposal (node_of w i) q.number (entered q command)) → IsAwaited w' (length (server_of servers i).applied) q (AtPlace index term)
+awaits w w' servers i index term q command asked at known within placed =
+    let here : HasPlace w' index term q command = subst (λ k. HasPlace w' k term q command) (sym at) (subst (λ k. HasPlace w' (suc (length (node_of w i).log)) k q command) (sym known) placed) in
+    (omega (arith, at), omega (arith, at, within), subst (λ (a : Asked). IsWrite a (HasPlace w' index term q)) (sym asked) here)
 
 entry_bytes : (b : Bool) (k : ℕ) → b ≡ false → (cond b 0 k) + 0 ≡ k
 entry_bytes true k e = absurd cc
@@ -79,7 +74,6 @@ pub record IsProposing (w : World) (servers : List Server) (r : Requests) (i : �
   pub at : Comes w servers r (cluster_of w servers r) write.question.agent write.asked write.question.draw
   pub copied : IsCopied (cluster_of w servers r) i write.question.agent write.asked write.question.draw command write
   pub asked : write.asked ≡ Good (Writes command)
-  pub put : IsPut command
   pub taken : IsTakenAsked write.asked
   pub leads : runs_leading w i ≡ true
   pub ready : is_ready (cluster_of w servers r) i ≡ true
@@ -106,8 +100,11 @@ module _ (w w' : World) (servers : List Server) (r r' : Requests) (i : ℕ) (wri
   number_is : write.question.number ≡ q.number
   number_is = ap (λ (x : Question). x.number) question_is
 
+  taken_write : is_command_taken command ≡ true
+  taken_write = subst IsTakenAsked is.asked is.taken
+
   command_is : entered q command ≡ command
-  command_is = put_entered q command is.put
+  command_is = entered_is q command taken_write
 
   entry_is : write.entry ≡ proposal (node_of w i) q.number (entered q command)
   entry_is =
@@ -131,7 +128,7 @@ module _ (w w' : World) (servers : List Server) (r r' : Requests) (i : ℕ) (wri
     low = omega (arith, acts_greatest w i (Propose write.question.number command) w' a, is.at.stands.proposed, ap (λ (x : Question). x.number) is.copied.question)
 
     moved_stands : Stands w' servers mid
-    moved_stands = stands_proposed (not (node_of w i).halted && (node_of w' i).halted) i w w' servers r₁ mid stands₁ keeps (nodes_kept w i (Propose write.question.number command) w' a) low marks
+    moved_stands = stands_proposed (not (node_of w i).halted && (node_of w' i).halted) i w w' servers r₁ mid stands₁ keeps (carries w w' servers (proposing_goes w i write.question.number command w' is.at.stands.reached a) is.at.stands.sound) low marks
 
     acts_now : NodeActs w i (Propose q.number (entered q command)) w'
     acts_now = subst (λ (x : Command). NodeActs w i (Propose q.number x) w') (sym command_is) (subst (λ k. NodeActs w i (Propose k command) w') number_is a)
@@ -151,11 +148,11 @@ module _ (w w' : World) (servers : List Server) (r r' : Requests) (i : ℕ) (wri
     held_so place here room up e =
         let at : place ≡ record { index = suc (length (node_of w i).log); term = (node_of w i).term } = here ∙ ap (λ (n : Node). record { index = suc (length n.log); term = n.term }) (sym same_node) in
         let done = holds_as w' servers mid r' write.question i (AtPlace place.index place.term) (Proposed place.index write.entry) (moved i w' c₁) moved_cluster e in (
-          proposes command w' is.asked (put_is_free c₁ i command is.put) (inr is.ready) (room_is true room) acts_now (ap (λ (n : Node). n.halted) (acts_server w i (Propose write.question.number command) w' a) ∙ up)
+          proposes command w' is.asked (is_free c₁ i command taken_write) (inr is.ready) (room_is true room) acts_now (ap (λ (n : Node). n.halted) (acts_server w i (Propose write.question.number command) w' a) ∙ up)
               (done ∙ ap (λ (x : Question). holding x i (AtPlace place.index place.term) (Proposed place.index write.entry) (moved i w' c₁)) question_is
               ∙ ap (λ (x : Entry). holding q i (AtPlace place.index place.term) (Proposed place.index x) (moved i w' c₁)) entry_is
               ∙ ap (λ (p : Place). holding q i (AtPlace p.index p.term) (Proposed p.index (proposal (node_of w i) q.number (entered q command))) (moved i w' c₁)) at),
-          hold_stands w' servers mid r' write.question i (AtPlace place.index place.term) (Proposed place.index write.entry) moved_stands below given asked_taken tt e,
+          hold_stands w' servers mid r' write.question i (AtPlace place.index place.term) (Proposed place.index write.entry) moved_stands below given asked_taken tt (waits_at place at room up) e,
         )
       where
         held_same : mid.held ≡ r.held
@@ -167,8 +164,27 @@ module _ (w w' : World) (servers : List Server) (r r' : Requests) (i : ℕ) (wri
         given : write.question.number ≤ mid.asked
         given = omega (arith, ap (λ (x : Question). x.number) is.copied.question, marked_asked (not (node_of w i).halted && (node_of w' i).halted) i (length w'.agreed - length w.agreed) r₁ mid marks)
 
+        same_asked : write.question.asked ≡ write.asked
+        same_asked = ap (λ (x : Question). x.asked) is.copied.question
+
         asked_taken : IsTakenAsked write.question.asked
-        asked_taken = subst IsTakenAsked (sym (ap (λ (x : Question). x.asked) is.copied.question)) is.taken
+        asked_taken = subst IsTakenAsked (sym same_asked) is.taken
+
+        applied_within : length (server_of servers i).applied ≤ length (node_of w i).log
+        applied_within =
+            let k = (is.at.stands.sound i).within in
+            let l = commit_within w is.at.stands.reached i (node_of w i) (leader_there w i is.leads) in
+            omega arith
+
+        placed_now : a.new.halted ≡ false → has_room a.old write.question.number command ≡ true → IsPlaced w' (suc (length (node_of w i).log)) (proposal (node_of w i) q.number (entered q command))
+        placed_now up room =
+            placed_by w is.at.stands.reached i q.number (entered q command) w' acts_now is.leads (room_is true room) (ap (λ (n : Node). n.halted) (acts_server w i (Propose write.question.number command) w' a) ∙ up)
+
+        waits_at : (place : Place) → place ≡ record { index = suc (length (node_of w i).log); term = (node_of w i).term } → has_room a.old write.question.number command ≡ true → a.new.halted ≡ false
+            → IsAwaited w' (length (server_of servers i).applied) write.question (AtPlace place.index place.term)
+        waits_at place at room up =
+            subst (λ (x : Question). IsAwaited w' (length (server_of servers i).applied) x (AtPlace place.index place.term)) (sym question_is)
+            (awaits w w' servers i place.index place.term q command is.asked (ap (λ (p : Place). p.index) at) (ap (λ (p : Place). p.term) at) applied_within (placed_now up room))
 
     -- it is refused
     refused_so : (why : Refusal) → r' ≡ used (answered_with write.question.number (Refused why) false 0 (Says why) mid) → (cluster_of w' servers r' ≡ refused q why (moved i w' c₁)) × Stands w' servers r'
@@ -179,11 +195,11 @@ module _ (w w' : World) (servers : List Server) (r r' : Requests) (i : ℕ) (wri
     full_so room e =
         let log = (node_of w i).log in
         let entries : write.entries ≡ length (log_with (node_of w i) q command) = is.copied.entries ∙ sym (length-append log (proposal (node_of w i) q.number (entered q command) ∷ [])) in
-        let counts : is_noop (entered q command) ≡ false = ap is_noop command_is ∙ put_counts command is.put in
+        let counts : is_noop (entered q command) ≡ false = ap is_noop command_is ∙ is_counted command taken_write in
         let bytes : write.bytes ≡ log_bytes (log_with (node_of w i) q command) =
         is.copied.bytes ∙ ap (λ x. log_bytes log + command_bytes x) (sym command_is) ∙ sym (bytes_more log (proposal (node_of w i) q.number (entered q command)) counts) in
         let done = refused_so (refusal.LogFull write.entries write.bytes) e in (
-          full command w' is.asked (put_is_free c₁ i command is.put) (inr is.ready) (room_is false room) acts_now
+          full command w' is.asked (is_free c₁ i command taken_write) (inr is.ready) (room_is false room) acts_now
               (done.0 ∙ ap (λ k. refused q (refusal.LogFull k write.bytes) (moved i w' c₁)) entries ∙ ap (λ k. refused q (refusal.LogFull (length (log_with (node_of w i) q command)) k) (moved i w' c₁)) bytes),
           done.1,
         )
@@ -194,7 +210,7 @@ module _ (w w' : World) (servers : List Server) (r r' : Requests) (i : ℕ) (wri
         let step : NodeStep LogFails a.old (Propose write.question.number command) a.new a.sent = subst (λ (o : Outcome). NodeStep o a.old (Propose write.question.number command) a.new a.sent) fails a.step in
         let down : (node_of w' i).halted ≡ true = ap (λ (n : Node). n.halted) (acts_server w i (Propose write.question.number command) w' a ∙ step.4) in
         let done = refused_so (refusal.Halted i) e in
-        (stops command w' is.asked (put_is_free c₁ i command is.put) (inr is.ready) (room_is true room) acts_now down done.0, done.1)
+        (stops command w' is.asked (is_free c₁ i command taken_write) (inr is.ready) (room_is true room) acts_now down done.0, done.1)
 
   -- what comes of it
   abbrev Ended : Result Unit memory.Memory → Type 0
@@ -228,19 +244,18 @@ module _ (w w' : World) (servers : List Server) (r r' : Requests) (i : ℕ) (wri
 -- the same for a cluster that is seen so
 pub done_write : (s s' : Servers) (r p r' : Requests) (i : ℕ) (write : Write) (command : Command) (c : Cluster) (before now : Seen) (number : ℕ) (proposed : Result Place ProposeFault) (result : Result Unit memory.Memory) →
     Stands s.world s.servers r → cluster_of s.world s.servers r ≡ c → IsCome write.question.agent write.asked write.question.draw c.past → IsCopied c i write.question.agent write.asked write.question.draw command write
-    → write.asked ≡ Good (Writes command) → IsPut command → IsTakenAsked write.asked → runs_leading c.world i ≡ true → is_ready c i ≡ true
+    → write.asked ≡ Good (Writes command) → IsTakenAsked write.asked → runs_leading c.world i ≡ true → is_ready c i ≡ true
     → p ≡ record r { room = 4 } → number ≡ write.question.number → before ≡ seen_of s.world i → now ≡ seen_of s'.world i
     → Proposes s.world i number command s'.world proposed → KeepsAgreement s.world s'.world → s'.servers ≡ s.servers → EndsWrite write before now i proposed result p r'
     → OnOk result (HandlesNewest i write.question.agent write.asked write.question.draw c (cluster_of s'.world s'.servers r'))
     × OnErr result (cluster_of s'.world s'.servers r' ≡ c) × Stands s'.world s'.servers r'
-done_write s s' r p r' i write command c before now number proposed result stands view come copied asked put taken leads ready prepared n was seen made keeps same ends =
+done_write s s' r p r' i write command c before now number proposed result stands view come copied asked taken leads ready prepared n was seen made keeps same ends =
     let Goal : Cluster → List Server → Type 0 = λ d ss.
     OnOk result (HandlesNewest i write.question.agent write.asked write.question.draw d (cluster_of s'.world ss r')) × OnErr result (cluster_of s'.world ss r' ≡ d) × Stands s'.world ss r' in
     let is : IsProposing s.world s.servers r i write command = record {
       at = record { stands = stands; view = refl; come = subst (λ (d : Cluster). IsCome write.question.agent write.asked write.question.draw d.past) (sym view) come };
       copied = subst (λ (d : Cluster). IsCopied d i write.question.agent write.asked write.question.draw command write) (sym view) copied;
       asked = asked;
-      put = put;
       taken = taken;
       leads = subst (λ (d : Cluster). runs_leading d.world i ≡ true) (sym view) leads;
       ready = subst (λ (d : Cluster). is_ready d i ≡ true) (sym view) ready;
@@ -253,10 +268,10 @@ done_write s s' r p r' i write command c before now number proposed result stand
 -- Each part of it, for a cluster that is seen so afterwards.
 pub write_handled : (s s' : Servers) (r p r' : Requests) (i : ℕ) (write : Write) (command : Command) (c c' : Cluster) (before now : Seen) (number : ℕ) (proposed : Result Place ProposeFault) (result : Result Unit memory.Memory) →
     Stands s.world s.servers r → cluster_of s.world s.servers r ≡ c → IsCome write.question.agent write.asked write.question.draw c.past → IsCopied c i write.question.agent write.asked write.question.draw command write
-    → write.asked ≡ Good (Writes command) → IsPut command → IsTakenAsked write.asked → runs_leading c.world i ≡ true → is_ready c i ≡ true
+    → write.asked ≡ Good (Writes command) → IsTakenAsked write.asked → runs_leading c.world i ≡ true → is_ready c i ≡ true
     → p ≡ record r { room = 4 } → number ≡ write.question.number → before ≡ seen_of s.world i → now ≡ seen_of s'.world i
     → Proposes s.world i number command s'.world proposed → KeepsAgreement s.world s'.world → s'.servers ≡ s.servers → EndsWrite write before now i proposed result p r' → cluster_of s'.world s'.servers r' ≡ c'
     → OnOk result (HandlesNewest i write.question.agent write.asked write.question.draw c c') × OnErr result (c' ≡ c)
-write_handled s s' r p r' i write command c c' before now number proposed result stands view come copied asked put taken leads ready prepared n was seen made keeps same ends shown =
-    let t = done_write s s' r p r' i write command c before now number proposed result stands view come copied asked put taken leads ready prepared n was seen made keeps same ends in
+write_handled s s' r p r' i write command c c' before now number proposed result stands view come copied asked taken leads ready prepared n was seen made keeps same ends shown =
+    let t = done_write s s' r p r' i write command c before now number proposed result stands view come copied asked taken leads ready prepared n was seen made keeps same ends in
     subst (λ (d : Cluster). OnOk result (HandlesNewest i write.question.agent write.asked write.question.draw c d) × OnErr result (d ≡ c)) shown (t.0, t.1)

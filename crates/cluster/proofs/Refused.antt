@@ -12,11 +12,11 @@ use Rattle.cluster_rules.specs.Cluster.{Cluster, Server}
 use Rattle.cluster_rules.specs.Replies.{Says, shown}
 use Rattle.cluster_rules.specs.Requests.{refused}
 use Rattle.cluster_rules.specs.Step.{marked}
-use Rattle.cluster_rules.proofs.Tools.{each_map}
 use Rattle.cluster_turns.specs.Turns.{newest}
 use Rattle.open_requests.specs.declared.note.Note.TheVariants.{Marked}
 use Rattle.open_requests.specs.Requests.{Requests, answered_with, came_with, cluster_of}
-use Rattle.cluster.specs.Standing.{IsHeld, Stands}
+use Rattle.cluster.specs.Standing.{Stands}
+use Rattle.cluster.proofs.Carried.{all_more}
 use Rattle.cluster.proofs.Kept.{answer_stands, call_stands}
 
 -- the requests with it
@@ -38,10 +38,11 @@ came_stands w servers r agent asked draw s = record {
   reached = s.reached;
   some = s.some;
   count = s.count;
+  sound = s.sound;
   joined = s.joined;
   proposed = omega (arith, s.proposed);
   ascends = s.ascends;
-  held = each_map (IsHeld r.asked) (IsHeld (r.asked + 1)) (λ h l. record { numbered = omega (arith, l.numbered); taken = l.taken; no_round = l.no_round }) r.held s.held;
+  held = all_more w servers r.asked (r.asked + 1) r.held (omega arith) s.held;
   calm = s.calm;
 }
 

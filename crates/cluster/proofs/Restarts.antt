@@ -1,17 +1,19 @@
 -- A restart: the server has applied nothing, and what it holds is to be closed.
-use Rattle.std.proofs.Common.{◌≡◌, ℕ, zero, suc, ◌-◌, ◌<◌, cond, List, [], ◌∷◌, length, map, set, refl, sym, ◌∙◌, ap, subst, arith}
+use Rattle.std.proofs.Common.{◌≡◌, ℕ, zero, suc, ◌-◌, ◌<◌, ◌≤◌, Bool, true, false, cond, List, [], ◌∷◌, length, map, set, refl, sym, ◌∙◌, ap, subst, arith}
 use Rattle.std.specs.Prelude.{◌==◌}
 use Rattle.std.specs.List.{AllByRecursion as Each}
 use Rattle.cat_model.specs.declared.request.Event.TheVariants as event
-use Rattle.raft_model.proofs.Tests.{at_bool}
-use Rattle.raft_model.specs.Node.{set_server}
-use Rattle.raft_model.specs.World.{World, WorldStep}
+use Rattle.raft_model.proofs.Tests.{at_bool, eq_tells}
+use Rattle.raft_model.specs.Log.{Log}
+use Rattle.raft_model.specs.Node.{Node, set_server}
+use Rattle.raft_model.specs.World.{World, WorldStep, IsReached}
 use Rattle.raft_model.specs.World as world
 use Rattle.raft_world.specs.Steps.{KeepsAgreement}
-use Rattle.cluster_rules.specs.Cluster.{Cluster, Ended, Pending, Server, no_server, node_of}
-use Rattle.cluster_rules.specs.Sound.{Ascends}
+use Rattle.cluster_rules.specs.Cluster.{Cluster, Ended, Pending, Server, no_node, no_server, node_of, server_of}
+use Rattle.cluster_rules.specs.Sound.{Ascends, ServerIsSound}
 use Rattle.cluster_rules.specs.Step.{begun_anew, ended, restarts}
-use Rattle.cluster_rules.proofs.Tools.{length_set_server}
+use Rattle.cluster_rules.proofs.Grows.{GoesTo, goes_by}
+use Rattle.cluster_rules.proofs.Tools.{at_item, eq_tells_not, is_place, item_other, item_same, length_set_server}
 use Rattle.open_requests.proofs.Lifting.{ends_by}
 use Rattle.open_requests.specs.Notes.{events_noted}
 use Rattle.open_requests.specs.Requests.{Requests, cluster_of, ended_all}
@@ -19,6 +21,7 @@ use Rattle.cluster.specs.declared.moving.Seen.{Seen}
 use Rattle.cluster.specs.Moving.{IsMarked, seen_of}
 use Rattle.cluster.specs.Standing.{AppliesCalm, IsHeld, Stands}
 use Rattle.cluster.proofs.Acts.{ActedWhole, whole_with}
+use Rattle.cluster.proofs.Carried.{AreSound, Carries, held_less, server_later, sound_with}
 use Rattle.cluster.proofs.Marking.{cluster_marked, stands_marked, with_room}
 
 number_kept : (i made : ℕ) (h : Pending) → (ended i made h).question.number ≡ h.question.number
@@ -32,12 +35,21 @@ ascends_kept : (i made : ℕ) (held : List Pending) → Ascends held → Ascends
 ascends_kept i made [] a = tt
 ascends_kept i made (h ∷ held) a = (above_kept i made h.question.number (ended i made h).question.number held (number_kept i made h) a.0, ascends_kept i made held a.1)
 
-is_held : (i made asked : ℕ) (h : Pending) → IsHeld asked h → IsHeld asked (ended i made h)
-is_held i made asked h s = at_bool (λ b. IsHeld asked (cond b (record h { stand = Ended made }) h)) (h.server == i) (λ _. record { numbered = s.numbered; taken = s.taken; no_round = tt }) (λ _. s)
+-- the server that begins again has applied nothing
+none_more : (servers : List Server) (i j : ℕ) → length (server_of (set_server servers i no_server) j).applied ≤ length (server_of servers j).applied
+none_more servers i j = at_item (λ (x : Server). length x.applied ≤ length (server_of servers j).applied) no_server servers i no_server j (λ e. omega arith) (omega arith)
 
-held_kept : (i made asked : ℕ) (held : List Pending) → Each (IsHeld asked) held → Each (IsHeld asked) (map (ended i made) held)
-held_kept i made asked [] all = tt
-held_kept i made asked (h ∷ held) all = (is_held i made asked h all.0, held_kept i made asked held all.1)
+is_held : (w : World) (servers : List Server) (i made asked : ℕ) (h : Pending) → IsHeld w servers asked h → IsHeld w (set_server servers i no_server) asked (ended i made h)
+is_held w servers i made asked h s = at_bool (λ b. IsHeld w (set_server servers i no_server) asked (cond b (record h { stand = Ended made }) h)) (h.server == i)
+    (λ _. record { numbered = s.numbered; taken = s.taken; no_round = tt; awaited = tt })
+    (λ _. held_less w servers (set_server servers i no_server) asked h (none_more servers i h.server) s)
+
+held_kept : (w : World) (servers : List Server) (i made asked : ℕ) (held : List Pending) → Each (IsHeld w servers asked) held → Each (IsHeld w (set_server servers i no_server) asked) (map (ended i made) held)
+held_kept w servers i made asked [] all = tt
+held_kept w servers i made asked (h ∷ held) all = (is_held w servers i made asked h all.0, held_kept w servers i made asked held all.1)
+
+nothing_sound : (agreed : Log) (commit : ℕ) → ServerIsSound agreed commit no_server
+nothing_sound agreed commit = record { front = refl; within = omega arith; clocks = refl }
 
 calm_set : (l : List Server) → Each AppliesCalm l → (at : ℕ) → Each AppliesCalm (set l at no_server)
 calm_set [] all at = tt
@@ -48,18 +60,55 @@ calm_kept : (servers : List Server) → Each AppliesCalm servers → (i : ℕ) �
 calm_kept servers all zero = all
 calm_kept servers all (suc at) = calm_set servers all at
 
+-- what server i holds is to be closed
+abbrev ended_with : ℕ → ℕ → Requests → Requests
+ended_with i made r = record r { held = map (ended i made) r.held }
+
 -- the parts of a server that begins again stand
-stands_ended : (i : ℕ) (w : World) (servers : List Server) (r : Requests) → Stands w servers r → Stands w (set_server servers i no_server) (ended_all i r)
-stands_ended i w servers r s = record {
+stands_ended : (i made : ℕ) (w : World) (servers : List Server) (r : Requests) → Stands w servers r → Stands w (set_server servers i no_server) (ended_with i made r)
+stands_ended i made w servers r s = record {
   reached = s.reached;
   some = omega (arith, s.some, length_set_server servers i no_server);
   count = length_set_server servers i no_server ∙ s.count;
+  sound = sound_with w servers i no_server s.sound (nothing_sound w.agreed (node_of w i).commit);
   joined = s.joined;
   proposed = s.proposed;
-  ascends = ascends_kept i (events_noted r.notes) r.held s.ascends;
-  held = held_kept i (events_noted r.notes) r.asked r.held s.held;
+  ascends = ascends_kept i made r.held s.ascends;
+  held = held_kept w servers i made r.asked r.held s.held;
   calm = calm_kept servers s.calm i;
 }
+
+ended_marked : (failed : Bool) (i made count : ℕ) (r r' : Requests) → IsMarked failed i count r r' → IsMarked failed i count (ended_with i made r) (ended_with i made r')
+ended_marked true i made count r r' m = ap (ended_with i made) m
+ended_marked false i made count r r' m = ap (ended_with i made) m
+
+-- No other server's commit fell.
+restart_carries : (w w' : World) (servers : List Server) (i : ℕ) → IsReached w → length servers ≡ length w.nodes → AreSound w servers → WorldStep w (world.Restarts i) w' → Carries w w' (set_server servers i no_server)
+restart_carries w w' servers i reached many sound step = record { on = on; count = ap (λ (v : World). length v.nodes) step.4 ∙ length_set_server w.nodes i step.1; sound = each }
+  where
+    on : GoesTo w w'
+    on = goes_by w w' (world.Restarts i) reached step
+
+    place : (0 < i) × (i ≤ length w.nodes)
+    place = is_place w i step.0 step.2
+
+    begun : server_of (set_server servers i no_server) i ≡ no_server
+    begun = item_same no_server servers i no_server place.0 (omega (arith, place.1, many))
+
+    each : AreSound w' (set_server servers i no_server)
+    each j = at_bool (λ b. (j == i) ≡ b → ServerIsSound w'.agreed (node_of w' j).commit (server_of (set_server servers i no_server) j)) (j == i)
+        (λ _ e. subst (λ (x : Server). ServerIsSound w'.agreed (node_of w' j).commit x) (sym (ap (λ k. server_of (set_server servers i no_server) k) (eq_tells j i e) ∙ begun)) (nothing_sound w'.agreed (node_of w' j).commit))
+        (λ _ e. let other = eq_tells_not j i e in
+        let commit : (node_of w' j).commit ≡ (node_of w j).commit = ap (λ (n : Node). n.commit) (ap (λ (v : World). node_of v j) step.4 ∙ item_other no_node w.nodes i j step.1 other) in
+        subst (λ (x : Server). ServerIsSound w'.agreed (node_of w' j).commit x) (sym (item_other no_server servers i j no_server other))
+        (server_later w w' on (node_of w j).commit (node_of w' j).commit (server_of servers j) (omega (arith, commit)) (sound j))) refl
+
+restart_stands : (failed : Bool) (i : ℕ) (w w' : World) (servers : List Server) (r r' : Requests) → Stands w servers r → KeepsAgreement w w' → WorldStep w (world.Restarts i) w'
+    → IsMarked failed i (length w'.agreed - length w.agreed) r r' → Stands w' (set_server servers i no_server) (ended_all i r')
+restart_stands failed i w w' servers r r' s k step m =
+    let made = events_noted r'.notes in
+    stands_marked failed i w w' (set_server servers i no_server) (ended_with i made r) (ended_with i made r') (stands_ended i made w servers r s) k
+    (restart_carries w w' servers i s.reached s.count s.sound step) (ap (λ (v : World). v.greatest) step.4) (ended_marked failed i made (length w'.agreed - length w.agreed) r r' m)
 
 pub restart_acts : (i : ℕ) (w w' : World) (servers servers' : List Server) (r r₁ r₂ r' : Requests) (c : Cluster) (before now : Seen) (room : ℕ) → Stands w servers r → cluster_of w servers r ≡ c → r₁ ≡ record r { room = room } → KeepsAgreement w w'
     → servers' ≡ set_server servers i no_server → WorldStep w (world.Restarts i) w' → before ≡ seen_of w i → now ≡ seen_of w' i → IsMarked now.halted i (now.agreed - before.agreed) r₁ r₂ → r' ≡ ended_all i r₂ → ActedWhole i (event.Restart i) c w' servers' r'
@@ -67,10 +116,8 @@ restart_acts i w w' servers servers' r r₁ r₂ r' c before now room s view rea
     let p = with_room w servers r r₁ room s ready in
     let failed = (node_of w' i).halted in
     let marks : IsMarked failed i (length w'.agreed - length w.agreed) r₁ r₂ = subst (λ (z : Seen). IsMarked failed i (length w'.agreed - z.agreed) r₁ r₂) was (subst (λ (z : Seen). IsMarked z.halted i (z.agreed - before.agreed) r₁ r₂) seen m) in
-    let becomes = step.4 in
-    let nodes : length w'.nodes ≡ length w.nodes = ap (λ (v : World). length v.nodes) becomes ∙ length_set_server w.nodes i step.1 in
-    let stands = stands_marked failed i w w' servers r₁ r₂ p.0 k nodes (ap (λ (v : World). v.greatest) becomes) marks in
+    let stands = restart_stands failed i w w' servers r₁ r₂ p.0 k step marks in
     let moves = cluster_marked failed i w w' servers r₁ r₂ p.0 k marks in
     let is : cluster_of w' (set_server servers i no_server) (ended_all i r₂) ≡ begun_anew i (cluster_of w' servers r₂) = ends_by w' (set_server servers i no_server) r₂ i in
-    let whole : ActedWhole i (event.Restart i) (cluster_of w servers r₁) w' (set_server servers i no_server) (ended_all i r₂) = record { stands = stands_ended i w' servers r₂ stands; whole = (restarts w' refl refl step (is ∙ ap (begun_anew i) moves), tt) } in
+    let whole : ActedWhole i (event.Restart i) (cluster_of w servers r₁) w' (set_server servers i no_server) (ended_all i r₂) = record { stands = stands; whole = (restarts w' refl refl step (is ∙ ap (begun_anew i) moves), tt) } in
     subst (λ (q : Requests). ActedWhole i (event.Restart i) c w' servers' q) (sym e) (whole_with i (event.Restart i) (cluster_of w servers r₁) c w' (set_server servers i no_server) servers' (ended_all i r₂) (p.1 ∙ view) same whole)

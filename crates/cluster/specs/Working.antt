@@ -1,5 +1,6 @@
 -- What the program's work means in the rules.
 use Rattle.std.specs.Prelude.{◌≡◌, ℕ, ◌+◌, Bool, false, length, Option, Some, None}
+use Rattle.std.specs.List.{find}
 use Rattle.cat_model.specs.declared.command.Entry.{Entry}
 use Rattle.raft_model.specs.Log.{entry_at}
 use Rattle.cluster_rules.specs.Replies.{Closed, shown}
@@ -7,16 +8,17 @@ use Rattle.cluster_rules.specs.Cluster.{Cluster, applied_of, node_of}
 use Rattle.cluster_rules.specs.Due as rules
 use Rattle.cluster_rules.specs.Due.{due, put_out, without}
 use Rattle.cluster.specs.Calm.{is_calm}
+use Rattle.cluster.specs.Looking.{is_early}
 use Rattle.open_requests.specs.Contents.{content_of}
 use Rattle.cluster.specs.declared.work.Work.{Work}
 use Rattle.cluster.specs.declared.work.Work.TheVariants.{Answer, Close, Apply}
 
--- it is this work of the rules at server i
+-- It is this work of the rules at server i. A position is applied only where no held request has something due before.
 abbrev pub IsWork : Cluster → ℕ → Work → rules.Work → Type 0
 IsWork c i (Answer number kind content) (rules.Replies q kind') =
     (number ≡ q.number) × (kind ≡ kind') × (content_of content ≡ shown q kind' (applied_of c i))
 IsWork c i (Close number event) (rules.Closes number' event') = (number ≡ number') × (event ≡ event')
-IsWork c i Apply rules.Applies = Unit {0}
+IsWork c i Apply rules.Applies = find (is_early c i) c.held ≡ None
 IsWork c i work other = ⊥
 
 -- what the program found is what the rules find

@@ -4,7 +4,7 @@ ghost use Rattle.std.specs.Prelude.{◌≡◌, ◌<◌, ◌+◌, ◌-◌, ◌^�
 ghost use Rattle.cat_model.specs.LogLimits.{command_bytes as bytes_of_command};
 ghost use Rattle.cat_model.specs.declared.request.Asked.TheVariants.{Good};
 ghost use Rattle.cat_model.specs.declared.request.Request.TheVariants.{Write as Writes};
-ghost use Rattle.script_runs.specs.Taken.{IsPut, IsTakenAsked};
+ghost use Rattle.script_runs.specs.Taken.{IsTakenAsked};
 ghost use Rattle.cluster_rules.specs.Cluster.{runs_leading};
 ghost use Rattle.cluster_rules.specs.Due.{due};
 ghost use Rattle.cluster_rules.specs.Reached.{IsServerNumber};
@@ -147,7 +147,7 @@ impl<K: Keeper + Drop> Cluster<K> {
     }
 
     // Refuses a request at a server that is not ready.
-    #[tactic(auto, using(crate::proofs::Numbers::is_number))]
+    #[tactic(auto, using(crate::proofs::Numbers::is_number, crate::proofs::Taken::has_way))]
     fn refuse_unready(
         &mut self,
         server: u32,
@@ -175,7 +175,7 @@ impl<K: Keeper + Drop> Cluster<K> {
     }
 
     // Holds a default read, to be looked for at once.
-    #[tactic(auto, using(crate::proofs::Numbers::is_number))]
+    #[tactic(auto, using(crate::proofs::Numbers::is_number, crate::proofs::Taken::has_way))]
     fn hold_read(
         &mut self,
         server: u32,
@@ -231,7 +231,6 @@ impl<K: Keeper + Drop> Cluster<K> {
         requires server { IsServerNumber self.old server }
         requires copied { IsCopied self.old server write.question.agent write.asked write.question.draw command write }
         requires asked { write.asked ≡ Good (Writes command) }
-        requires put { IsPut command }
         requires taken { IsTakenAsked write.asked }
         requires come { IsCome write.question.agent write.asked write.question.draw self.old.past }
         requires leads { runs_leading self.old.world server ≡ true }
@@ -251,6 +250,7 @@ impl<K: Keeper + Drop> Cluster<K> {
     }
 
     // Enters a write at a server that leads and is ready.
+    #[tactic(auto, using(crate::proofs::Taken::has_way))]
     fn enter(
         &mut self,
         alloc: Global,

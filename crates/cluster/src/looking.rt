@@ -1,7 +1,7 @@
 //! What is due at a server.
 
-ghost use Rattle.std.specs.Prelude.{◌≡◌, ◌≢◌, ◌<◌, ℕ, Bool, None, Some, true, IfOk, OnErr, is_some, length, Option};
-ghost use Rattle.cat_model.specs.declared.applied.Applied.TheVariants.{Yes};
+ghost use Rattle.std.specs.Prelude.{◌≡◌, ◌≢◌, ◌<◌, ◌≤◌, ℕ, Bool, None, Some, true, IfOk, OnErr, is_some, length, Option};
+ghost use Rattle.std.specs.List.{find};
 ghost use Rattle.cat_model.specs.declared.reply.Kind.TheVariants as kinds;
 ghost use Rattle.cat_model.specs.declared.reply.Refusal.TheVariants as refusals;
 ghost use Rattle.cat_model.specs.declared.request.Asked.TheVariants.{Good};
@@ -12,13 +12,13 @@ ghost use Rattle.cat_model.specs.Machine.{catalog_at};
 ghost use Rattle.cat_model.specs.Queries.{answer};
 ghost use Rattle.script_runs.specs.Taken.{IsTakenAsked};
 ghost use Rattle.cluster_rules.specs.Cluster as rules;
-ghost use Rattle.cluster_rules.specs.Cluster.{applied_of, clock_of};
+ghost use Rattle.cluster_rules.specs.Cluster.{AtPlace, applied_of, clock_of};
 ghost use Rattle.cluster_rules.specs.Due.{Replies, asks_read, due, early_stand, early_work, is_ended, landed, next_work};
 ghost use Rattle.cluster_rules.specs.Reached.{IsServerNumber};
 ghost use Rattle.cluster_rules.specs.Replies as replies;
 ghost use Rattle.open_requests.specs.Contents.{content_of, stand_of, write_content};
-ghost use Rattle.cluster.specs.Looking.{is_read};
-ghost use Rattle.cluster.specs.Standing.{IsNoRound};
+ghost use Rattle.cluster.specs.Looking.{IsAppliedLast, is_early, is_read};
+ghost use Rattle.cluster.specs.Standing.{IsAwaited, IsNoRound};
 ghost use Rattle.cluster.specs.Working.{IsFound, IsWork};
 
 use crate::cluster::Cluster;
@@ -68,32 +68,23 @@ pub(crate) fn copy_command(command: &Command) -> Result<Command, Memory>
     Ok(command.clone()?)
 }
 
-// What a write shows that is done.
-fn written(question: &Question) -> Result<Content, Memory>
+fn discard(_applied: Applied) {}
+
+// What a write shows that is done, with the catalog's answer.
+fn written(question: &Question, applied: Applied) -> Result<Content, Memory>
     requires { IsTakenAsked question.now.asked }
-    ensures { IfOk result (λ content. content_of content ≡ write_content question.now question.now.asked Yes) }
+    ensures { IfOk result (λ content. content_of content ≡ write_content question.now question.now.asked applied) }
 {
     match question.asked() {
-        Asked::Good(Request::Write { command }) => Ok(Content::Tells {
-            command: copy_command(command)?,
-            applied: Applied::Yes,
-        }),
+        Asked::Good(Request::Write { command }) => match copy_command(command) {
+            Ok(command) => Ok(Content::Tells { command, applied }),
+            Err(Memory) => {
+                discard(applied);
+                Err(Memory)
+            }
+        },
         _ => Ok(Content::Blank),
     }
-}
-
-// A write stands where it was proposed.
-#[tactic(auto, using(crate::proofs::Finding::written_shown))]
-fn acked(question: &Question, position: u64) -> Result<Work, Memory>
-    requires { IsTakenAsked question.now.asked }
-    ensures { IfOk result (λ work. (c : rules.Cluster) (i : ℕ) → IsWork c i work (Replies question.now (kinds.Acked position))) }
-{
-    let content = written(question)?;
-    Ok(Work::Answer {
-        number: question.number(),
-        kind: Kind::Acked { position },
-        content,
-    })
 }
 
 impl<K: Keeper> Cluster<K> {
@@ -169,10 +160,35 @@ impl<K: Keeper> Cluster<K> {
         }
     }
 
+    // A write stands where it was proposed, and was applied last: the last reply is its own.
+    #[tactic(auto, using(crate::proofs::Numbers::is_number, crate::proofs::Replying::written_shown))]
+    fn acked(
+        &self,
+        alloc: Global,
+        server: u32,
+        question: &Question,
+        position: u64,
+    ) -> Result<Work, Memory>
+        requires server { IsServerNumber self.now server }
+        requires taken { IsTakenAsked question.now.asked }
+        requires last { IsAppliedLast question.now position (applied_of self.now server) }
+        ensures { IfOk result (λ work. IsWork self.now server work (Replies question.now (kinds.Acked position))) }
+    {
+        match self.servers.reply(alloc, server)? {
+            Some(applied) => Ok(Work::Answer {
+                number: question.number(),
+                kind: Kind::Acked { position },
+                content: written(question, applied)?,
+            }),
+            None => unreachable!(),
+        }
+    }
+
     // What is due of a request whose position is applied.
     #[tactic(auto, using(crate::proofs::Numbers::is_number))]
     fn write_due(
         &self,
+        alloc: Global,
         server: u32,
         question: &Question,
         index: u64,
@@ -180,11 +196,13 @@ impl<K: Keeper> Cluster<K> {
     ) -> Result<Work, Memory>
         requires server { IsServerNumber self.now server }
         requires taken { IsTakenAsked question.now.asked }
+        requires awaited { IsAwaited self.now.world (length (applied_of self.now server)) question.now (AtPlace index term) }
+        requires applied { index ≤ length (applied_of self.now server) }
         ensures { IfOk result (λ work. IsWork self.now server work (Replies question.now (landed index term (applied_of self.now server)))) }
     {
         let found = self.servers.term_at(server, index);
         if found == term {
-            acked(question, index)
+            self.acked(alloc, server, question, index)
         } else {
             Ok(lost(question.number(), term, found))
         }
@@ -196,6 +214,7 @@ impl<K: Keeper> Cluster<K> {
         requires server { IsServerNumber self.now server }
         requires taken { IsTakenAsked held.now.question.asked }
         requires no_round { IsNoRound held.now.stand }
+        requires awaited { IsAwaited self.now.world (length (applied_of self.now server)) held.now.question held.now.stand }
         requires early { is_some (early_stand self.now server held.now held.now.stand) ≡ true }
         ensures { IfOk result (λ work. IsFound self.now server (early_stand self.now server held.now held.now.stand) (Some work)) }
     {
@@ -205,7 +224,7 @@ impl<K: Keeper> Cluster<K> {
                 event,
             }),
             Stand::AtPlace { index, term } => {
-                self.write_due(server, held.question(), index, term)
+                self.write_due(alloc, server, held.question(), index, term)
             }
             Stand::ForIndex { deadline, .. } => {
                 self.read_due(alloc, server, held.question(), deadline)
@@ -219,6 +238,7 @@ impl<K: Keeper> Cluster<K> {
         requires server { IsServerNumber self.now server }
         requires taken { IsTakenAsked held.now.question.asked }
         requires no_round { IsNoRound held.now.stand }
+        requires awaited { IsAwaited self.now.world (length (applied_of self.now server)) held.now.question held.now.stand }
         requires early { is_some (early_work self.now server held.now) ≡ true }
         ensures { IfOk result (λ work. IsFound self.now server (early_work self.now server held.now) (Some work)) }
     {
@@ -232,7 +252,8 @@ impl<K: Keeper> Cluster<K> {
     // The next position, where more is committed than applied.
     #[tactic(auto, using(crate::proofs::Numbers::is_number))]
     fn next_due(&self, server: u32) -> Option<Work>
-        requires { IsServerNumber self.now server }
+        requires server { IsServerNumber self.now server }
+        requires none { find (is_early self.now server) self.now.held ≡ None }
         ensures { IsFound self.now server (next_work self.now server) result }
     {
         if self.servers.has_next(server) {

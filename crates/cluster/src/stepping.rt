@@ -16,7 +16,7 @@ use std::alloc::Global;
 
 impl<K: Keeper + Drop> Cluster<K> {
     /// Makes an event that fits. What it gives waits to be taken. Syncs and ticks of agents are not taken so far, and of
-    /// requests those of a key alone.
+    /// requests those alone of which `script_runs::is_taken` says so.
     ///
     /// After `Memory` nothing has changed, or the event was cut short and its server is behind. That makes up for it in
     /// the next event that does something there.

@@ -1,12 +1,14 @@
 //! Doing what is due at a server.
 
-ghost use Rattle.std.specs.Prelude.{◌≡◌, OnErr, OnOk, Some, true};
-ghost use Rattle.cluster_rules.specs.Cluster.{applied_of, contact_of, knows};
+ghost use Rattle.std.specs.Prelude.{◌≡◌, ◌<◌, None, OnErr, OnOk, Some, length, true};
+ghost use Rattle.std.specs.List.{find};
+ghost use Rattle.cluster_rules.specs.Cluster.{applied_of, contact_of, knows, node_of};
 ghost use Rattle.cluster_rules.specs.Due as rules;
-ghost use Rattle.cluster_rules.specs.Due.{answered, applies, did, due, next_work};
+ghost use Rattle.cluster_rules.specs.Due.{answered, applies, did, due};
 ghost use Rattle.cluster_rules.specs.Reached.{IsServerNumber};
 ghost use Rattle.cluster_rules.specs.Replies.{Question, shown};
 ghost use Rattle.open_requests.specs.Contents.{content_of};
+ghost use Rattle.cluster.specs.Looking.{is_early};
 ghost use Rattle.cluster.specs.Working.{IsWork, calm_next, closed};
 ghost use Rattle.cluster.specs.Calm.{is_calm};
 
@@ -72,7 +74,8 @@ impl<K: Keeper> Cluster<K> {
     // Applies the next position.
     fn apply_next(&mut self, alloc: Global, server: u32) -> Result<(), Memory>
         requires server { IsServerNumber self.old server }
-        requires next { next_work self.old server ≡ Some rules.Applies }
+        requires next { length (applied_of self.old server) < (node_of self.old.world server).commit }
+        requires none { find (is_early self.old server) self.old.held ≡ None }
         ensures done { OnOk result (self.new ≡ applies server self.old) }
         ensures same { OnErr result (self.new ≡ self.old) }
     {

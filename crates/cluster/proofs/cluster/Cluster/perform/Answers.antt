@@ -1,9 +1,12 @@
 use Rattle.std.proofs.Common.{sym}
-use Rattle.cluster.proofs.Dues.{answer_done, apply_done, close_done, next_due}
+use Rattle.cluster.proofs.Dues.{answer_done, apply_done, close_done, next_due, none_due}
 use Rattle.cluster.proofs.cluster.Cluster.perform.Goals as goal
 
 pub apply_next-requires-clause-next : goal.apply_next-requires-clause-next
 apply_next-requires-clause-next g c = next_due c.args.self.now c.args.server c.args.work c.requires.due c.in-Apply.is
+
+pub apply_next-requires-clause-none : goal.apply_next-requires-clause-none
+apply_next-requires-clause-none g c = none_due c.args.self.now c.args.server c.args.work c.requires.due c.in-Apply.is
 
 pub returns-in-Answer-clause-done : goal.returns-in-Answer-clause-done
 returns-in-Answer-clause-done g c = answer_done c.args.self.now c.answer.new.self c.args.server c.args.work c.in-Answer.number c.in-Answer.kind c.in-Answer.content c.answer.result c.requires.due c.in-Answer.is c.answer.ensures.done
