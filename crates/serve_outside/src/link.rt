@@ -1,0 +1,58 @@
+ghost use Rattle.std.specs.Prelude.{◌≡◌, ℕ, ◌+◌, List, [], ◌∷◌, ◌++◌, false, IfOk, MatchResult};
+ghost use Rattle.cat_outside.specs.Causes.{HasCause};
+ghost use Rattle.serve_outside.specs.Links.{LinkState, IsNew, Reads, Writes, Shuts};
+
+use cat_outside::{Failed, KeepFail};
+
+/// A connection. It counts its ends, its failed reads and its failed writes.
+pub trait Link: Drop {
+    /// All that it tells.
+    ghost state: { Self → LinkState };
+
+    /// Takes the next bytes, and says how many. 0 for a buffer that is not empty is the end.
+    fn read(&mut self, into: &mut [u8]) -> Result<usize, Failed>
+        requires still_open { (state self.old).shut ≡ false }
+        ensures { Reads (state self.old) into.new result (state self.new) };
+
+    /// Takes the first bytes of the piece, and says how many. None of a piece that is not empty counts as a fault.
+    fn write(&mut self, piece: &[u8]) -> Result<usize, KeepFail>
+        requires still_open { (state self.old).shut ≡ false }
+        ensures { Writes (state self.old) piece.now result (state self.new) };
+
+    /// Closes the connection for good.
+    fn shut(&mut self)
+        ensures { Shuts (state self.old) (state self.new) };
+}
+
+/// What gives connections, numbered from 1, and takes them back.
+pub trait Listener {
+    type Link: Link;
+
+    /// How often a call has failed.
+    ghost faults: { Self → ℕ };
+
+    /// How many connections it gave.
+    ghost given: { Self → ℕ };
+
+    /// What the connections told that were handed back, in order.
+    ghost closed: { Self → List LinkState };
+
+    /// Listens on 127.0.0.1. Port 0 is a free port.
+    fn listen(&mut self, port: u16) -> Result<(), Failed>
+        ensures cause { HasCause (faults self.old) (faults self.new) result }
+        ensures given { given self.new ≡ given self.old }
+        ensures closed { closed self.new ≡ closed self.old };
+
+    /// The next connection, for which it waits. After 2^64 - 1 of them each call fails.
+    fn accept(&mut self) -> Result<Self::Link, Failed>
+        ensures new { IfOk result (λ link. IsNew (given self.new) (Self.Link.state link)) }
+        ensures given { MatchResult result (λ _. given self.new ≡ given self.old + 1) (λ _. given self.new ≡ given self.old) }
+        ensures cause { HasCause (faults self.old) (faults self.new) result }
+        ensures closed { closed self.new ≡ closed self.old };
+
+    /// Takes a connection back. It takes no memory.
+    fn close(&mut self, link: Self::Link)
+        ensures closed { closed self.new ≡ closed self.old ++ Self.Link.state link ∷ [] }
+        ensures given { given self.new ≡ given self.old }
+        ensures faults { faults self.new ≡ faults self.old };
+}

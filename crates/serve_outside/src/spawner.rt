@@ -1,0 +1,87 @@
+ghost use Rattle.std.specs.Prelude.{◌≡◌, ℕ, ◌+◌, ◌≤◌, true, false, IfOk, IfErr, OnErr};
+ghost use Rattle.cat_outside.specs.Causes.{Rose};
+ghost use Rattle.serve_outside.specs.Tasks.{note_of, IsKept};
+
+use crate::job::{Job, NoteOf, Task};
+use std::snapshot::Snapshot;
+use std::thread;
+use std::thread::{Promise, Threads};
+
+/// What starts jobs. Its calls are plain; `start` and `finish` do the work.
+pub trait Spawner {
+    /// How many jobs were refused, and for how many no thread could be made.
+    ghost faults: { Self → ℕ };
+
+    /// Whether the next job is refused, which is a fault.
+    fn refuses(&mut self) -> bool
+        ensures refused { result ≡ true → Rose (faults self.old) (faults self.new) }
+        ensures taken { result ≡ false → faults self.new ≡ faults self.old }
+        ensures counted { (faults self.old ≤ faults self.new) × (faults self.new ≤ faults self.old + 1) };
+
+    /// Whether jobs run in threads of their own.
+    fn has_threads(&self) -> bool;
+
+    /// Counts that no thread could be made.
+    fn count_missed(&mut self)
+        ensures { Rose (faults self.old) (faults self.new) × (faults self.old ≤ faults self.new) × (faults self.new ≤ faults self.old + 1) };
+}
+
+/// Starts the job beside the caller, or hands it back only where the count rose. Where no thread can be made the job
+/// runs here, and the fault is counted.
+pub fn start<S: Spawner, R: Threads, J: Job + Send + 'static>(
+    spawner: &mut S,
+    rt: &R,
+    job: J,
+) -> Result<Task<NoteOf<J>, J::Done>, J>
+where
+    J::Done: Send + Drop + 'static,
+    requires { J.ready job }
+    ensures started { IfOk result (λ task. ((note_of task).0.value ≡ job) × IsKept ⟦<NoteOf<J> as Promise<J::Done>>⟧.kept_by task) }
+    ensures refused { IfErr result (λ back. back ≡ job) }
+    ensures cause { OnErr result (Rose (S.faults spawner.old) (S.faults spawner.new)) }
+    ensures counted { (S.faults spawner.old ≤ S.faults spawner.new) × (S.faults spawner.new ≤ S.faults spawner.old + 1) }
+{
+    if spawner.refuses() {
+        return Err(job);
+    }
+    let note = NoteOf(Snapshot::of(&job));
+    if !spawner.has_threads() {
+        return Ok(Task::Ended(note, job.run()));
+    }
+    match in_thread(rt, job) {
+        Ok(task) => Ok(task),
+        Err(done) => {
+            spawner.count_missed();
+            Ok(Task::Ended(note, done))
+        }
+    }
+}
+
+// A thread for the job; or what the job gave here, where no thread can be made.
+fn in_thread<R: Threads, J: Job + Send + 'static>(
+    rt: &R,
+    job: J,
+) -> Result<Task<NoteOf<J>, J::Done>, J::Done>
+where
+    J::Done: Send + Drop + 'static,
+    requires { J.ready job }
+    ensures started { IfOk result (λ task. ((note_of task).0.value ≡ job) × IsKept ⟦<NoteOf<J> as Promise<J::Done>>⟧.kept_by task) }
+    ensures here { IfErr result (λ done. J.keeps job done) }
+{
+    let note = NoteOf(Snapshot::of(&job));
+    match thread::spawn_with(rt, note, move || job.run()) {
+        Ok(handle) => Ok(Task::Running(handle)),
+        Err(refused) => Err((refused.value)()),
+    }
+}
+
+/// Waits until the job has ended, and gives what it gave.
+pub fn finish<R: Threads, P: Promise<D> + Drop, D>(rt: &R, task: Task<P, D>) -> D
+    requires { IsKept P.kept_by task }
+    ensures { P.kept_by (note_of task) result }
+{
+    match task {
+        Task::Ended(_, done) => done,
+        Task::Running(handle) => handle.join(rt),
+    }
+}
