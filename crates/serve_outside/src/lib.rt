@@ -2,14 +2,25 @@
 //! caller, drawn words, a clock, and a pause. Each is there in memory, and over the machine.
 #![tactic(auto)]
 
+mod failing;
 mod job;
 mod link;
+mod machine;
+mod mem_link;
+mod mem_listener;
 mod pace;
 mod spawner;
+mod starting;
+mod tcp;
 mod words;
 
 pub use job::{Job, NoteOf, Task};
 pub use link::{Link, Listener};
-pub use pace::{Clock, Gate};
+pub use machine::{MachineClock, SeededWords, SleepGate};
+pub use mem_link::{MemLink, Script};
+pub use mem_listener::MemListener;
+pub use pace::{Clock, Gate, SetClock};
 pub use spawner::{Spawner, finish, start};
-pub use words::Words;
+pub use starting::{MemSpawner, ThreadSpawner};
+pub use tcp::{TcpLink, TcpLinks};
+pub use words::{CountWords, Words};

@@ -1,0 +1,84 @@
+//! Adapters over the machine's clock.
+
+use crate::{Clock, Gate, Words};
+use cat_model::Draw;
+use rand_core::Rng;
+use rand_pcg::Pcg64;
+use std::time::Duration;
+use std::{thread, time};
+
+/// The milliseconds that the machine's clock has gone on since this one was made.
+#[derive(Clone, Copy, Drop)]
+pub struct MachineClock<R> {
+    rt: R,
+    start: Duration,
+}
+
+// The machine's clock, or no time at all where the system does not tell it.
+fn monotonic<R: time::Clock>(rt: &R) -> Duration {
+    rt.monotonic().unwrap_or(Duration::ZERO)
+}
+
+impl<R: time::Clock> MachineClock<R> {
+    pub fn new(rt: R) -> MachineClock<R> {
+        let start = monotonic(&rt);
+        MachineClock { rt, start }
+    }
+}
+
+impl<R: time::Clock> Clock for MachineClock<R> {
+    fn now_ms(&self) -> u64 {
+        let passed = monotonic(&self.rt).saturating_sub(self.start);
+        u64::try_from(passed.as_millis()).unwrap_or(u64::MAX)
+    }
+}
+
+/// How many milliseconds a request waits before it looks again.
+const PAUSE_MS: u64 = 20;
+
+/// Sleeps 20 milliseconds, whichever request waits.
+#[derive(Clone, Copy, Drop)]
+pub struct SleepGate<R> {
+    rt: R,
+}
+
+impl<R: time::Clock> SleepGate<R> {
+    pub fn new(rt: R) -> SleepGate<R> {
+        SleepGate { rt }
+    }
+}
+
+impl<R: time::Clock> Gate for SleepGate<R> {
+    fn idle(&self, _number: u64) {
+        thread::sleep(&self.rt, Duration::from_millis(PAUSE_MS));
+    }
+}
+
+/// Words of a generator that is seeded from the time of day. They are no secret: they name sessions and nodes, and open
+/// nothing.
+#[derive(Drop)]
+pub struct SeededWords {
+    generator: Pcg64,
+}
+
+impl SeededWords {
+    pub fn new(rt: &impl time::Clock) -> SeededWords {
+        let time_of_day = rt.since_1970().unwrap_or(Duration::ZERO).as_nanos();
+        let time_of_run = monotonic(rt).as_nanos();
+        SeededWords {
+            generator: Pcg64::new(time_of_day, time_of_run),
+        }
+    }
+}
+
+impl Words for SeededWords {
+    ghost use Rattle.std.specs.Prelude.{None};
+
+    ghost draws = { λ _. None };
+
+    fn draw(&mut self) -> Draw {
+        let hi = self.generator.next_u64();
+        let lo = self.generator.next_u64();
+        Draw { hi, lo }
+    }
+}
