@@ -2,3 +2,4 @@ pub mod MarkLists
 pub mod OwnTurns
 pub mod Written
 pub mod Exchanges
+pub mod Tasks

@@ -8,3 +8,5 @@ pub mod Replies
 pub mod Serving
 pub mod Stages
 pub mod Services
+pub mod Jobs
+pub mod Runs

@@ -4,6 +4,7 @@ ghost use Rattle.std.specs.Prelude.{◌≡◌, ◌<◌, ◌≤◌, [], false, tr
 ghost use Rattle.std.specs.Arc.{arc_value};
 ghost use Rattle.http_wire.specs.State.{Told};
 ghost use Rattle.serve_loop.specs.Boards.{IsOurs, known};
+ghost use Rattle.serve_loop.specs.Jobs.{connection_of};
 ghost use Rattle.serve_loop.specs.Serving.{EndsBy};
 
 use crate::cause::Cause;
@@ -54,7 +55,7 @@ pub fn serve_connection<R: Wait + Drop, C: SharedCluster, Cl: Clock + Drop, G: G
     requires fresh { (job.reader.stop ≡ None) × Told [] [] job.reader.held job.reader.stop }
     requires unshut { (L.state job.link).shut ≡ false }
     ensures ours { IsOurs (arc_value job.board) result.pass }
-    ensures ends { EndsBy C.shows C.takes (record { agent = job.agent; draw = job.draw; first = L.state job.link; begun = known job.pass }) result.cause (L.state result.link) (known result.pass) result.requests }
+    ensures ends { EndsBy C.shows C.takes (connection_of L.state job) result.cause (L.state result.link) (known result.pass) result.requests }
     ensures shut { (L.state result.link).shut ≡ true }
 {
     let ServeJob {
@@ -99,5 +100,27 @@ pub fn serve_connection<R: Wait + Drop, C: SharedCluster, Cl: Clock + Drop, G: G
         pass,
         requests,
         cause,
+    }
+}
+
+impl<R: Wait + Drop, C: SharedCluster, Cl: Clock + Drop, G: Gate + Drop, L: Link> Job
+    for ServeJob<R, Served<C>, Cl, G, L>
+{
+    ghost use Rattle.std.specs.Arc.{arc_value};
+    ghost use Rattle.http_wire.specs.State.{Told};
+    ghost use Rattle.serve_loop.specs.Boards.{IsOurs};
+    ghost use Rattle.serve_loop.specs.Jobs.{HasEnded};
+
+    type Done = Finished<L, Served<C>>;
+
+    ghost ready = { λ job. IsOurs (arc_value job.board) job.pass
+        × ((0 < job.agent) × (job.agent ≤ C.agents))
+        × ((job.reader.stop ≡ None) × Told [] [] job.reader.held job.reader.stop)
+        × ((L.state job.link).shut ≡ false) };
+
+    ghost keeps = { λ job done. HasEnded C.shows C.takes L.state job done };
+
+    fn run(self) -> Finished<L, Served<C>> {
+        serve_connection(self)
     }
 }

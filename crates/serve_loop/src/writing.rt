@@ -9,7 +9,7 @@ ghost use Rattle.serve_loop.specs.Stages.{IsAfterWrite, StopsBy, Wrote};
 
 use crate::cause::Cause;
 use crate::replies::{refusing, text_of};
-use cat_model::{Bytes, Memory};
+use cat_model::{Bytes, Memory, Refusal};
 use cat_outside::KeepFail;
 use http_wire::{Rejection, write_continue};
 use open_requests::Reply;
@@ -91,6 +91,26 @@ fn continue_text(alloc: Global) -> Result<Bytes, Memory>
 
 fn discard(_: Reply) {}
 
+/// Writes a refusal, behind which the connection ends.
+#[tactic(auto, using(crate::proofs::Written::wrote_none))]
+pub(crate) fn send_refusing<L: Link>(
+    link: &mut L,
+    alloc: Global,
+    why: Refusal,
+) -> Result<(), Cause>
+    requires unshut { (L.state link.old).shut ≡ false }
+    ensures { Wrote (L.state link.old) (spec.text_of (spec.refusing why) true) result (L.state link.new) }
+{
+    match refusing(why) {
+        Ok(reply) => {
+            let sent = send(link, alloc, &reply, true);
+            discard(reply);
+            sent
+        }
+        Err(Memory) => Err(Cause::Memory),
+    }
+}
+
 /// Writes the reply to bytes that are refused, behind which the connection ends.
 #[tactic(auto, using(crate::proofs::Written::wrote_none))]
 pub(crate) fn send_refusal<L: Link>(
@@ -101,22 +121,8 @@ pub(crate) fn send_refusal<L: Link>(
     requires unshut { (L.state link.old).shut ≡ false }
     ensures { Wrote (L.state link.old) (spec.text_of (spec.refusing (answer_to why)) true) result (L.state link.new) }
 {
-    match refusal_of(alloc, why) {
-        Ok(reply) => {
-            let sent = send(link, alloc, &reply, true);
-            discard(reply);
-            sent
-        }
-        Err(Memory) => Err(Cause::Memory),
-    }
-}
-
-// The reply to bytes that are refused.
-fn refusal_of(alloc: Global, why: Rejection) -> Result<Reply, Memory>
-    ensures { IfOk result (λ reply. reply ≡ spec.refusing (answer_to why)) }
-{
     match why.refusal(alloc) {
-        Ok(refusal) => refusing(refusal),
-        Err(Memory) => Err(Memory),
+        Ok(refusal) => send_refusing(link, alloc, refusal),
+        Err(Memory) => Err(Cause::Memory),
     }
 }

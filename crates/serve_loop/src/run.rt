@@ -1,0 +1,206 @@
+//! The connections of a run: they are accepted, each is served by a job of its own, and all jobs are waited for.
+
+ghost use Rattle.std.specs.Prelude.{◌≡◌, ◌+◌, ◌<◌, ◌≤◌, ◌++◌, ◌∷◌, [], false, true, IfErr, IfOk, IfSome, MatchOption, None, OnErr, OnOk};
+ghost use Rattle.std.specs.Arc.{arc_value};
+ghost use Rattle.cat_outside.specs.Causes.{Rose};
+ghost use Rattle.http_wire.specs.State.{Told};
+ghost use Rattle.serve_outside.specs.Links.{IsNew, LinkState};
+ghost use Rattle.serve_outside.specs.Tasks.{IsKept, note_of};
+ghost use Rattle.serve_loop.specs.declared.run.Stop.TheVariants as stops;
+ghost use Rattle.serve_loop.specs.Boards.{IsOurs, known};
+ghost use Rattle.serve_loop.specs.Jobs.{HasEnded, agent_of};
+ghost use Rattle.serve_loop.specs.Marks.{AreKept};
+ghost use Rattle.serve_loop.specs.Runs.{TurnsAway};
+ghost use Rattle.serve_loop.specs.Waiting.{Grows};
+
+use crate::cluster::SharedCluster;
+use crate::job::{Finished, ServeJob};
+use crate::served::Served;
+use crate::serving::Board;
+use crate::writing::send_refusing;
+use cat_model::{Draw, Memory, Refusal};
+use http_wire::RequestReader;
+use serve_outside::{Clock, Gate, Job, Link, Listener, NoteOf, Spawner, Task, Words, finish, start};
+use std::alloc::Global;
+use std::sync::{Arc, Wait};
+use std::thread::{Promise, Threads};
+use turn_lock::{History, NoShare, Pass};
+
+/// Why no more connections were accepted.
+#[derive(Clone, Copy, Debug, PartialEq, Eq)]
+pub enum Stop {
+    /// The listener failed. It has counted the fault.
+    Listener,
+    /// There was no memory for one more connection, or no share of the pass.
+    Memory,
+}
+
+/// A connection's task.
+pub type TaskOf<R, C, Cl, G, L> =
+    Task<NoteOf<ServeJob<R, Served<C>, Cl, G, L>>, Finished<L, Served<C>>>;
+
+/// What all connections of a run share.
+#[derive(Drop)]
+pub struct Server<R, S: History, Cl, G> {
+    pub rt: R,
+    pub alloc: Global,
+    pub board: Arc<Board<S>, Global>,
+    pub clock: Cl,
+    pub gate: G,
+    /// How many agents there are.
+    pub agents: u32,
+}
+
+// What a job needs of its own.
+fn parts<R, C: SharedCluster, Cl, G>(
+    server: &Server<R, Served<C>, Cl, G>,
+    pass: &mut Pass<Served<C>>,
+) -> Result<(RequestReader, Arc<Board<Served<C>>, Global>, Pass<Served<C>>), Memory>
+    requires ours { IsOurs (arc_value server.now.board) pass.old }
+    ensures ours { IsOurs (arc_value server.now.board) pass.new }
+    ensures reader { IfOk result (λ r. (r.0.stop ≡ None) × Told [] [] r.0.held r.0.stop) }
+    ensures board { IfOk result (λ r. arc_value r.1 ≡ arc_value server.now.board) }
+    ensures pass { IfOk result (λ r. IsOurs (arc_value server.now.board) r.2) }
+{
+    let reader = RequestReader::new(server.alloc)?;
+    let board = Arc::try_clone(&server.board)?;
+    let lock = &**server.board;
+    match lock.split(pass) {
+        Ok(own) => Ok((reader, board, own)),
+        Err(NoShare) => Err(Memory),
+    }
+}
+
+// The job of the n-th connection, or its link where there is no memory for a job.
+fn job_of<R: Wait + Copy + Drop, C: SharedCluster, Cl: Clock + Copy + Drop, G: Gate + Copy + Drop, L: Link>(
+    server: &Server<R, Served<C>, Cl, G>,
+    pass: &mut Pass<Served<C>>,
+    link: L,
+    draw: Draw,
+    n: u32,
+) -> Result<ServeJob<R, Served<C>, Cl, G, L>, L>
+    requires ours { IsOurs (arc_value server.now.board) pass.old }
+    requires agents { (0 < server.now.agents) × (server.now.agents ≡ C.agents) }
+    requires number { 0 < n }
+    requires unshut { (L.state link).shut ≡ false }
+    ensures ours { IsOurs (arc_value server.now.board) pass.new }
+    ensures ready { IfOk result (⟦<ServeJob<R, Served<C>, Cl, G, L> as Job>⟧.ready) }
+    ensures job { IfOk result (λ job. (job.link ≡ link) × (job.draw ≡ draw) × (job.agent ≡ agent_of C.agents n)) }
+    ensures pass { IfOk result (λ job. IsOurs (arc_value server.now.board) job.pass) }
+    ensures refused { IfErr result (λ back. back ≡ link) }
+{
+    match parts(server, pass) {
+        Ok((reader, board, own)) => Ok(ServeJob {
+            rt: server.rt,
+            alloc: server.alloc,
+            board,
+            clock: server.clock,
+            gate: server.gate,
+            agent: (n - 1) % server.agents + 1,
+            draw,
+            link,
+            reader,
+            pass: own,
+        }),
+        Err(Memory) => Err(link),
+    }
+}
+
+// Puts a pass back.
+fn give_back<R, C: SharedCluster, Cl, G>(
+    server: &Server<R, Served<C>, Cl, G>,
+    pass: &mut Pass<Served<C>>,
+    other: Pass<Served<C>>,
+)
+    requires ours { IsOurs (arc_value server.now.board) pass.old }
+    requires theirs { IsOurs (arc_value server.now.board) other }
+    ensures ours { IsOurs (arc_value server.now.board) pass.new }
+{
+    let lock = &**server.board;
+    lock.join(pass, other);
+}
+
+// Tells a link that no worker could be had, and shuts it.
+fn turn_away<L: Link>(link: &mut L, alloc: Global)
+    requires unshut { (L.state link.old).shut ≡ false }
+    ensures { TurnsAway (L.state link.old) (L.state link.new) }
+{
+    let _ = send_refusing(link, alloc, Refusal::NoWorker);
+    link.shut();
+}
+
+// Starts a connection's job. Where it cannot be started, the link is turned away and handed back.
+fn launch<
+    R: Threads + Wait + Copy + Send + Drop + 'static,
+    C: SharedCluster + Send + 'static,
+    Cl: Clock + Copy + Send + Drop + 'static,
+    G: Gate + Copy + Send + Drop + 'static,
+    L: Listener,
+    Sp: Spawner,
+>(
+    server: &Server<R, Served<C>, Cl, G>,
+    pass: &mut Pass<Served<C>>,
+    listener: &mut L,
+    spawner: &mut Sp,
+    job: ServeJob<R, Served<C>, Cl, G, L::Link>,
+) -> Option<TaskOf<R, C, Cl, G, L::Link>>
+where
+    L::Link: Send + 'static,
+    requires ours { IsOurs (arc_value server.now.board) pass.old }
+    requires theirs { IsOurs (arc_value server.now.board) job.pass }
+    requires ready { ⟦<ServeJob<R, Served<C>, Cl, G, L::Link> as Job>⟧.ready job }
+    ensures ours { IsOurs (arc_value server.now.board) pass.new }
+    ensures given { L.given listener.new ≡ L.given listener.old }
+    ensures kept { IfSome result (IsKept ⟦<NoteOf<ServeJob<R, Served<C>, Cl, G, L::Link>> as Promise<Finished<L::Link, Served<C>>>>⟧.kept_by) }
+    ensures job { IfSome result (λ task. (note_of task).0.value ≡ job) }
+    ensures closed { MatchOption result ((last : LinkState) × TurnsAway (L.Link.state job.link) last × (L.closed listener.new ≡ L.closed listener.old ++ last ∷ [])) (λ _. L.closed listener.new ≡ L.closed listener.old) }
+    ensures cause { MatchOption result (Rose (Sp.faults spawner.old) (Sp.faults spawner.new)) (λ _. Sp.faults spawner.old ≤ Sp.faults spawner.new) }
+{
+    match start(spawner, &server.rt, job) {
+        Ok(task) => Some(task),
+        Err(job) => {
+            let ServeJob {
+                mut link,
+                pass: own,
+                ..
+            } = job;
+            give_back(server, pass, own);
+            turn_away(&mut link, server.alloc);
+            listener.close(link);
+            None
+        }
+    }
+}
+
+/// Waits for a connection's job, and tells how the connection ended.
+pub fn finish_task<
+    R: Threads + Wait + Drop,
+    C: SharedCluster,
+    Cl: Clock + Drop,
+    G: Gate + Drop,
+    L: Link,
+>(
+    server: &Server<R, Served<C>, Cl, G>,
+    task: TaskOf<R, C, Cl, G, L>,
+) -> Finished<L, Served<C>>
+    requires kept { IsKept ⟦<NoteOf<ServeJob<R, Served<C>, Cl, G, L>> as Promise<Finished<L, Served<C>>>>⟧.kept_by task }
+    ensures { HasEnded C.shows C.takes L.state (note_of task).0.value result }
+{
+    finish(&server.rt, task)
+}
+
+/// Takes a last turn, in which nothing is done: the pass has then seen all marks.
+pub fn last_turn<R: Wait, C: SharedCluster, Cl, G>(
+    server: &Server<R, Served<C>, Cl, G>,
+    pass: &mut Pass<Served<C>>,
+)
+    requires ours { IsOurs (arc_value server.now.board) pass.old }
+    ensures ours { IsOurs (arc_value server.now.board) pass.new }
+    ensures grown { Grows (known pass.old) (known pass.new) }
+    ensures kept { AreKept (known pass.new).seen }
+{
+    let lock = &**server.board;
+    let mut turn = lock.take(&server.rt, pass);
+    turn.state().kept();
+    lock.give(turn, pass);
+}
