@@ -8,7 +8,7 @@ ghost use Rattle.serve_outside.specs.Links.{IsNew, LinkState};
 ghost use Rattle.serve_outside.specs.Tasks.{IsKept, note_of};
 ghost use Rattle.serve_loop.specs.declared.run.Stop.TheVariants as stops;
 ghost use Rattle.serve_loop.specs.Boards.{IsOurs, known};
-ghost use Rattle.serve_loop.specs.Jobs.{HasEnded, agent_of};
+ghost use Rattle.serve_loop.specs.Jobs.{AllTasks, HasEnded, IsOfRun, agent_of};
 ghost use Rattle.serve_loop.specs.Marks.{AreKept};
 ghost use Rattle.serve_loop.specs.Runs.{TurnsAway};
 ghost use Rattle.serve_loop.specs.Waiting.{Grows};
@@ -203,4 +203,153 @@ pub fn last_turn<R: Wait, C: SharedCluster, Cl, G>(
     let mut turn = lock.take(&server.rt, pass);
     turn.state().kept();
     lock.give(turn, pass);
+}
+
+/// Accepts the n-th connection and starts its job. A link whose job cannot be started is turned away and handed back.
+pub fn start_one<
+    R: Threads + Wait + Copy + Send + Drop + 'static,
+    C: SharedCluster + Send + 'static,
+    Cl: Clock + Copy + Send + Drop + 'static,
+    G: Gate + Copy + Send + Drop + 'static,
+    L: Listener,
+    Sp: Spawner,
+>(
+    server: &Server<R, Served<C>, Cl, G>,
+    pass: &mut Pass<Served<C>>,
+    listener: &mut L,
+    spawner: &mut Sp,
+    draw: Draw,
+    n: u32,
+) -> Result<Option<TaskOf<R, C, Cl, G, L::Link>>, Stop>
+where
+    L::Link: Send + 'static,
+    requires ours { IsOurs (arc_value server.now.board) pass.old }
+    requires agents { (0 < server.now.agents) × (server.now.agents ≡ C.agents) }
+    requires number { n ≡ L.given listener.old + 1 }
+    ensures ours { IsOurs (arc_value server.now.board) pass.new }
+    ensures given { OnOk result (L.given listener.new ≡ n) }
+    ensures kept { IfOk result (λ o. IfSome o (IsKept ⟦<NoteOf<ServeJob<R, Served<C>, Cl, G, L::Link>> as Promise<Finished<L::Link, Served<C>>>>⟧.kept_by)) }
+    ensures job { IfOk result (λ o. IfSome o (λ task. IsOfRun (arc_value server.now.board) C.agents L.Link.state (note_of task).0.value × ((note_of task).0.value.draw ≡ draw) × IsNew n (L.Link.state (note_of task).0.value.link))) }
+    ensures cause { IfErr result (λ why. why ≡ stops.Listener → Rose (L.faults listener.old) (L.faults listener.new)) }
+{
+    let Ok(link) = listener.accept() else {
+        return Err(Stop::Listener);
+    };
+    match job_of(server, pass, link, draw, n) {
+        Ok(job) => Ok(launch(server, pass, listener, spawner, job)),
+        Err(mut link) => {
+            turn_away(&mut link, server.alloc);
+            listener.close(link);
+            Err(Stop::Memory)
+        }
+    }
+}
+
+/// Accepts so many connections and starts their jobs.
+#[tactic(auto, using(crate::proofs::Tasks::all_one_more))]
+pub fn start_tasks<
+    R: Threads + Wait + Copy + Send + Drop + 'static,
+    C: SharedCluster + Send + 'static,
+    Cl: Clock + Copy + Send + Drop + 'static,
+    G: Gate + Copy + Send + Drop + 'static,
+    L: Listener,
+    W: Words,
+    Sp: Spawner,
+>(
+    server: &Server<R, Served<C>, Cl, G>,
+    pass: &mut Pass<Served<C>>,
+    listener: &mut L,
+    words: &mut W,
+    spawner: &mut Sp,
+    tasks: &mut Vec<TaskOf<R, C, Cl, G, L::Link>>,
+    count: u32,
+) -> Result<(), Stop>
+where
+    L::Link: Send + 'static,
+    requires ours { IsOurs (arc_value server.now.board) pass.old }
+    requires agents { (0 < server.now.agents) × (server.now.agents ≡ C.agents) }
+    requires fresh { L.given listener.old ≡ 0 }
+    requires tasks { AllTasks tasks.old.items ⟦<NoteOf<ServeJob<R, Served<C>, Cl, G, L::Link>> as Promise<Finished<L::Link, Served<C>>>>⟧.kept_by (λ p. IsOfRun (arc_value server.now.board) C.agents L.Link.state p.0.value) }
+    ensures ours { IsOurs (arc_value server.now.board) pass.new }
+    ensures given { OnOk result (L.given listener.new ≡ count) }
+    ensures tasks { AllTasks tasks.new.items ⟦<NoteOf<ServeJob<R, Served<C>, Cl, G, L::Link>> as Promise<Finished<L::Link, Served<C>>>>⟧.kept_by (λ p. IsOfRun (arc_value server.now.board) C.agents L.Link.state p.0.value) }
+{
+    let mut n = 0;
+    while n < count {
+        if tasks.reserve(1).is_err() {
+            return Err(Stop::Memory);
+        }
+        n += 1;
+        let draw = words.draw();
+        match start_one(server, pass, listener, spawner, draw, n) {
+            Ok(Some(task)) => tasks.push_reserved(task),
+            Ok(None) => {}
+            Err(why) => return Err(why),
+        }
+    }
+    Ok(())
+}
+
+/// Waits for all tasks, and takes their passes and links back.
+#[tactic(auto, using(crate::proofs::Tasks::all_rest))]
+pub fn finish_tasks<
+    R: Threads + Wait + Copy + Send + Drop + 'static,
+    C: SharedCluster + Send + 'static,
+    Cl: Clock + Copy + Send + Drop + 'static,
+    G: Gate + Copy + Send + Drop + 'static,
+    L: Listener,
+>(
+    server: &Server<R, Served<C>, Cl, G>,
+    pass: &mut Pass<Served<C>>,
+    listener: &mut L,
+    tasks: &mut Vec<TaskOf<R, C, Cl, G, L::Link>>,
+)
+where
+    L::Link: Send + 'static,
+    requires ours { IsOurs (arc_value server.now.board) pass.old }
+    requires tasks { AllTasks tasks.old.items ⟦<NoteOf<ServeJob<R, Served<C>, Cl, G, L::Link>> as Promise<Finished<L::Link, Served<C>>>>⟧.kept_by (λ p. IsOfRun (arc_value server.now.board) C.agents L.Link.state p.0.value) }
+    ensures ours { IsOurs (arc_value server.now.board) pass.new }
+    ensures given { L.given listener.new ≡ L.given listener.old }
+{
+    while let Some(task) = tasks.pop() {
+        let Finished {
+            link, pass: own, ..
+        } = finish_task(server, task);
+        give_back(server, pass, own);
+        listener.close(link);
+    }
+}
+
+/// Accepts so many connections, serves each by a job of its own, waits for all of them, and takes a last turn. Says what
+/// stopped it, if anything did.
+pub fn serve_all<
+    R: Threads + Wait + Copy + Send + Drop + 'static,
+    C: SharedCluster + Send + 'static,
+    Cl: Clock + Copy + Send + Drop + 'static,
+    G: Gate + Copy + Send + Drop + 'static,
+    L: Listener,
+    W: Words,
+    Sp: Spawner,
+>(
+    server: &Server<R, Served<C>, Cl, G>,
+    pass: &mut Pass<Served<C>>,
+    listener: &mut L,
+    words: &mut W,
+    spawner: &mut Sp,
+    count: u32,
+) -> Result<(), Stop>
+where
+    L::Link: Send + 'static,
+    requires ours { IsOurs (arc_value server.now.board) pass.old }
+    requires agents { (0 < server.now.agents) × (server.now.agents ≡ C.agents) }
+    requires fresh { L.given listener.old ≡ 0 }
+    ensures ours { IsOurs (arc_value server.now.board) pass.new }
+    ensures given { OnOk result (L.given listener.new ≡ count) }
+    ensures kept { AreKept (known pass.new).seen }
+{
+    let mut tasks: Vec<TaskOf<R, C, Cl, G, L::Link>> = Vec::new(server.alloc);
+    let started = start_tasks(server, pass, listener, words, spawner, &mut tasks, count);
+    finish_tasks(server, pass, listener, &mut tasks);
+    last_turn(server, pass);
+    started
 }
