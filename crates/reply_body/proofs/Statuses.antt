@@ -1,7 +1,6 @@
 -- Each status is one of HTTP's, a number of three digits.
-use Rattle.std.proofs.Common.{◌≡◌, ◌≤◌, ◌<◌, ℕ, Bool, true, false, List, [], ◌∷◌, ◌==◌, length, arith, Option, Some, None}
+use Rattle.std.proofs.Common.{◌≤◌, ◌<◌, ℕ, Bool, true, false, List, [], ◌∷◌, ◌==◌, length, arith, Option, Some, None}
 use Rattle.std.specs.Prelude.{◌&&◌, not}
-use Rattle.raft_model.proofs.Tests.{at_bool}
 use Rattle.cat_model.specs.Keys.{is_empty}
 use Rattle.cat_model.specs.declared.applied.Applied.{Applied}
 use Rattle.cat_model.specs.declared.applied.Applied.TheVariants as applied
@@ -25,11 +24,13 @@ use Rattle.reply_body.specs.Refusals.{shown_refusal}
 use Rattle.reply_body.specs.Writes.{shown_done, shown_refuse, shown_write}
 use Rattle.reply_body.specs.declared.shown.Shown.{Shown}
 
+-- what holds of both branches
+at_bool : (P : Bool → Type 0) (b : Bool) → P true → P false → P b
+at_bool P true f g = f
+at_bool P false f g = g
+
 abbrev IsFine : Shown → Type 0
 IsFine shown = (100 ≤ shown.status) × (shown.status < 1000)
-
-fine : (status : ℕ) → 100 ≤ status → status < 1000 → (100 ≤ status) × (status < 1000)
-fine status low high = (low, high)
 
 ok : (100 ≤ 200) × (200 < 1000)
 ok = (omega arith, omega arith)
@@ -67,14 +68,14 @@ rows_fine [] = absent
 rows_fine (r ∷ rows) = ok
 
 bytes_fine : (value : List ℕ) → IsFine (shown_bytes value)
-bytes_fine value = at_bool (λ b. IsFine (if b then plain 200 [] else record { status = 200; body = value; form = _ })) (length value == 0) (λ _. ok) (λ _. ok)
+bytes_fine value = at_bool (λ b. IsFine (if b then plain 200 [] else record { status = 200; body = value; form = _ })) (length value == 0) ok ok
 
 value_fine : (rows : List KvRow) → IsFine (shown_value rows)
 value_fine [] = absent
 value_fine (r ∷ rows) = bytes_fine r.value
 
 names_fine : (prefix : List ℕ) (names : List (List ℕ)) → IsFine (shown_names prefix names)
-names_fine prefix names = at_bool (λ b. IsFine (if b then plain 404 [] else json 200 _)) (has_none names && not (is_empty prefix)) (λ _. absent) (λ _. ok)
+names_fine prefix names = at_bool (λ b. IsFine (if b then plain 404 [] else json 200 _)) (has_none names && not (is_empty prefix)) absent ok
 
 key_fine : (raw : Bool) (a : Answer) → IsFine (shown_key raw a)
 key_fine true (answer.Rows rows) = value_fine rows
@@ -132,7 +133,7 @@ write_fine c (applied.RolledBack op v) = conflict
 write_fine c (applied.Refused why) = refuse_fine why
 
 agent_fine : (body : List ℕ) → IsFine (shown_rows_of_agent body)
-agent_fine body = at_bool (λ b. IsFine (if b then plain 200 [] else record { status = 200; body = body; form = _ })) (length body == 0) (λ _. ok) (λ _. ok)
+agent_fine body = at_bool (λ b. IsFine (if b then plain 200 [] else record { status = 200; body = body; form = _ })) (length body == 0) ok ok
 
 delay_fine : (c : Command) (key : List ℕ) → IsFine (shown_delay c key)
 delay_fine (command.Txn ops) key = conflict

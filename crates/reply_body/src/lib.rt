@@ -1,4 +1,5 @@
-//! The status, body and form of what a reply shows, and the reply with them. Bodies are compact JSON, plain text, or the bytes of a value.
+//! The status, body and form of what a reply shows, and the reply with them. Bodies are compact JSON, plain text, or
+//! the bytes of a value.
 #![tactic(auto)]
 
 mod catalog;
