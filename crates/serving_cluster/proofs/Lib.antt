@@ -1,3 +1,0 @@
-pub mod Reverses
-pub mod Marks
-pub mod Steps
