@@ -1,0 +1,4 @@
+pub mod MarkLists
+pub mod OwnTurns
+pub mod Written
+pub mod Exchanges

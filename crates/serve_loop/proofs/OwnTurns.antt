@@ -1,0 +1,270 @@
+-- A turn for one's own request.
+use Rattle.std.proofs.Common.{◌≡◌, ℕ, ◌⊎◌, inl, inr, ⊎_elim, List, [], ◌∷◌, ◌++◌, length, drop, refl, sym, ap, ◌∙◌, subst, append_assoc, append-nil, Option, Some, None, Result, Ok, Err}
+use Rattle.std.specs.Prelude.{MatchOption, MatchResult, IfOk, IfSome}
+use Rattle.std.proofs.Math.Seq.{drop-append_seam}
+use Rattle.cat_model.specs.declared.memory.Memory.{Memory}
+use Rattle.cat_model.specs.declared.reply.Mark.{Mark}
+use Rattle.cat_model.specs.declared.reply.Mark.TheVariants as mark
+use Rattle.turn_lock.specs.declared.knowledge.Knowledge.{Knowledge}
+use Rattle.turn_lock.specs.Lists.{Among, EachOnce, Extends, ahead, numbers}
+use Rattle.turn_lock.specs.Passes.{MayEnd}
+use Rattle.turn_lock.proofs.Lists.{among_append, among_left, among_right, numbers_append, once_apart}
+use Rattle.serve_loop.specs.declared.cluster.Ask.{Ask}
+use Rattle.cluster_rules.specs.Replies.{Reply}
+use Rattle.serve_loop.specs.declared.cluster.Collected.{Collected}
+use Rattle.serve_loop.specs.declared.cluster.Collected.TheVariants as collected
+use Rattle.serve_loop.specs.declared.served.Turned.{Turned}
+use Rattle.serve_loop.specs.Marks.{AddsAsked, AddsCut, AddsQuiet, AreKept, answered_mark, answers, asked_mark, opens, takes}
+use Rattle.serve_loop.specs.Collects.{Collects}
+use Rattle.serve_loop.specs.Turns.{Asks, Makes, Turns}
+use Rattle.cluster_rules.specs.Sound.{IsAmong}
+use Rattle.cat_model.specs.declared.request.Asked.{Asked}
+use Rattle.serve_loop.specs.Waiting.{Grows, IsAnswered, IsBehind, Looks, Stands, Waits}
+use Rattle.serve_loop.proofs.MarkLists.{append_none, in_left, in_right, none_append}
+
+-- what a turn may leave: own numbers alone are taken
+pub record Rests (mine : List ℕ) (old new : List Mark) : Type 0 where
+  pub rest : List Mark
+  pub are : new ≡ old ++ rest
+  pub own : (n : ℕ) → Among n (numbers takes rest) → Among n (mine ++ numbers opens rest)
+
+pub may_end : (mine : List ℕ) (old new : List Mark) → Rests mine old new → AreKept new → MayEnd opens takes old mine new
+may_end mine old new r k = (r.rest, r.are, k.once, r.own)
+
+-- what a collection leaves
+record Leaves (n : ℕ) (old new : List Mark) : Type 0 where
+  rest : List Mark
+  are : new ≡ old ++ rest
+  opens_none : numbers opens rest ≡ []
+  own : (k : ℕ) → Among k (numbers takes rest) → n ≡ k
+
+leaves_taken : (n : ℕ) (old new : List Mark) → new ≡ old ++ mark.Taken n ∷ [] → Leaves n old new
+leaves_taken n old new e = record { rest = mark.Taken n ∷ []; are = e; opens_none = refl; own = λ k a. ⊎_elim (λ (i : n ≡ k). i) (λ (z : ⊥). absurd z) a }
+
+leaves_none : (n : ℕ) (old new : List Mark) → new ≡ old → Leaves n old new
+leaves_none n old new e = record { rest = []; are = e ∙ sym (append-nil old); opens_none = refl; own = λ k a. absurd a }
+
+leaves : (shows : ℕ → Ask → Reply → List Mark → Type 0) (n : ℕ) (got : Collected) (old new : List Mark) → Collects shows n got old new → Leaves n old new
+leaves shows n (collected.Ready reply) old new x = leaves_taken n old new x.0
+leaves shows n collected.Closed old new x = leaves_taken n old new x.0
+leaves shows n collected.NotYet old new x = leaves_none n old new x
+leaves shows n collected.Gone old new x = leaves_none n old new x.0
+
+joined : (a b c xs ys : List Mark) → b ≡ a ++ xs → c ≡ b ++ ys → c ≡ a ++ (xs ++ ys)
+joined a b c xs ys e f = f ∙ (ap (λ (l : List Mark). l ++ ys) e ∙ append_assoc a xs ys)
+
+same_among : (n k : ℕ) (ns : List ℕ) → n ≡ k → Among n ns → Among k ns
+same_among n k ns e a = subst (λ (z : ℕ). Among z ns) e a
+
+one : (n : ℕ) → Among n (n ∷ [])
+one n = inl refl
+
+-- first something quiet or an ask, then the collection
+rests_by : (mine : List ℕ) (n : ℕ) (old mid new rest : List Mark) → mid ≡ old ++ rest → numbers takes rest ≡ [] → Among n (mine ++ numbers opens rest) → Leaves n mid new → Rests mine old new
+rests_by mine n old mid new rest are none own l = record {
+  rest = rest ++ l.rest;
+  are = joined old mid new rest l.rest are l.are;
+  own = λ k a. same_among n k _ (l.own k (subst (Among k) (none_append takes rest l.rest none) a))
+    (subst (λ (z : List ℕ). Among n (mine ++ z)) (sym (append_none opens rest l.rest l.opens_none)) own);
+}
+
+pub rests_first : (shows : ℕ → Ask → Reply → List Mark → Type 0) (mine : List ℕ) (ask : Ask) (k : ℕ) (t : Turned) (old new : List Mark) → Turns shows (Some ask) k t old new → Rests mine old new
+rests_first shows mine ask k t old new x = let m = x.made in
+    rests_by mine t.number old x.mid new m.rest m.are m.takes_none (among_right t.number mine (numbers opens m.rest) (subst (Among t.number) (sym m.opens_it) (one t.number))) (leaves shows t.number t.got x.mid new x.got)
+
+pub rests_next : (shows : ℕ → Ask → Reply → List Mark → Type 0) (mine : List ℕ) (k : ℕ) (t : Turned) (old new : List Mark) → Among k mine → Turns shows None k t old new → Rests mine old new
+rests_next shows mine k t old new own x = let m = x.made.1 in
+    rests_by mine t.number old x.mid new m.rest m.are m.takes_none (among_left t.number mine (numbers opens m.rest) (subst (λ (z : ℕ). Among z mine) (sym x.made.0) own)) (leaves shows t.number t.got x.mid new x.got)
+
+pub rests_cut : (mine : List ℕ) (old new : List Mark) → AddsCut old new → Rests mine old new
+rests_cut mine old new x = record { rest = x.rest; are = x.are; own = λ k a. absurd (subst (Among k) x.takes_none a) }
+
+rests_same : (mine : List ℕ) (old new : List Mark) → new ≡ old → Rests mine old new
+rests_same mine old new e = record { rest = []; are = e ∙ sym (append-nil old); own = λ k a. absurd a }
+
+pub rests_first_or : (shows : ℕ → Ask → Reply → List Mark → Type 0) (taken : Asked → Type 0) (mine : List ℕ) (ask : Ask) (r : Result (Option Turned) Memory) (old new : List Mark)
+    → MatchResult r (λ o. Asks shows taken ask o old new) (λ _. AddsCut old new) → Rests mine old new
+rests_first_or shows taken mine ask (Ok (Some t)) old new x = rests_first shows mine ask 0 t old new x
+rests_first_or shows taken mine ask (Ok None) old new x = rests_same mine old new x.1
+rests_first_or shows taken mine ask (Err e) old new x = rests_cut mine old new x
+
+pub rests_next_or : (shows : ℕ → Ask → Reply → List Mark → Type 0) (mine : List ℕ) (k : ℕ) (r : Result Turned Memory) (old new : List Mark) → Among k mine
+    → MatchResult r (λ t. Turns shows None k t old new) (λ _. AddsCut old new) → Rests mine old new
+rests_next_or shows mine k (Ok t) old new own x = rests_next shows mine k t old new own x
+rests_next_or shows mine k (Err e) old new own x = rests_cut mine old new x
+
+-- what the pass has opened then
+pub mine_is : (old new rest : List Mark) → new ≡ old ++ rest → numbers opens (drop (length old) new) ≡ numbers opens rest
+mine_is old new rest e = ap (λ (l : List Mark). numbers opens (drop (length old) l)) e ∙ ap (numbers opens) (drop-append_seam old rest)
+
+asked_opens : (n : ℕ) (ask : Ask) (marks : List Mark) → IsAmong (asked_mark n ask) marks → Among n (numbers opens marks)
+asked_opens n ask [] a = absurd a
+asked_opens n ask (m ∷ ms) (inl e) = subst (λ (z : Mark). Among n (ahead (opens z) (numbers opens ms))) e (inl refl)
+asked_opens n ask (m ∷ ms) (inr a) = deeper (opens m) (asked_opens n ask ms a)
+  where
+    deeper : (o : Option ℕ) → Among n (numbers opens ms) → Among n (ahead o (numbers opens ms))
+    deeper None b = b
+    deeper (Some k) b = inr b
+
+-- the reply that was collected, over the marks before
+given : (shows : ℕ → Ask → Reply → List Mark → Type 0) (n : ℕ) (ask : Ask) (reply : Reply) (mid new : List Mark) (mine : List ℕ)
+    → Waits n ask mid mine → new ≡ mid ++ mark.Taken n ∷ [] → IsAmong (answered_mark reply) mid → ((a : Ask) → IsAmong (asked_mark n a) mid → shows n a reply mid) → n ≡ reply.number → AreKept new
+    → IsAnswered shows ask reply new mine
+given shows n ask reply mid new mine w is answered shown e k = record {
+  own = subst (λ (z : ℕ). Among z mine) e w.own;
+  front = mid;
+  rest = mark.Taken n ∷ [];
+  seen_is = is;
+  asked = subst (λ (z : ℕ). IsAmong (asked_mark z ask) mid) e w.asked;
+  once = subst EachOnce (ap (numbers opens) is ∙ append_none opens mid (mark.Taken n ∷ []) refl) k.once;
+  answered = answered;
+  only = subst EachOnce (ap (numbers answers) is ∙ append_none answers mid (mark.Taken n ∷ []) refl) k.only;
+  shown = subst (λ (z : ℕ). shows z ask reply mid) e (shown ask w.asked);
+}
+
+-- what stands, of what was seen and opened
+pub StandsOver : (ℕ → Ask → Reply → List Mark → Type 0) → ℕ → Ask → Collected → List Mark → List ℕ → Type 0
+StandsOver shows n ask (collected.Ready reply) seen mine = IsAnswered shows ask reply seen mine
+StandsOver shows n ask collected.Closed seen mine = ⊥
+StandsOver shows n ask collected.NotYet seen mine = Waits n ask seen mine
+StandsOver shows n ask collected.Gone seen mine = ⊥
+
+stands_known : (shows : ℕ → Ask → Reply → List Mark → Type 0) (n : ℕ) (ask : Ask) (got : Collected) (k : Knowledge Mark) → StandsOver shows n ask got k.seen k.mine → Stands shows n ask got k
+unfolding StandsOver
+stands_known shows n ask (collected.Ready reply) k s = s
+stands_known shows n ask collected.Closed k s = s
+stands_known shows n ask collected.NotYet k s = s
+stands_known shows n ask collected.Gone k s = s
+
+-- a waiting request's collection
+pub stands : (shows : ℕ → Ask → Reply → List Mark → Type 0) (n : ℕ) (ask : Ask) (got : Collected) (mid new : List Mark) (mine : List ℕ)
+    → Waits n ask mid mine → Collects shows n got mid new → (got ≡ collected.Closed → ⊥) → AreKept new → StandsOver shows n ask got new mine
+unfolding StandsOver
+stands shows n ask (collected.Ready reply) mid new mine w x o k = given shows n ask reply mid new mine w x.0 x.1.answered x.1.shown (sym x.1.number_is) k
+stands shows n ask collected.Closed mid new mine w x o k = o refl
+stands shows n ask collected.NotYet mid new mine w x o k = subst (λ (l : List Mark). Waits n ask l mine) (sym x) w
+stands shows n ask collected.Gone mid new mine w x o k = ⊎_elim (λ (f : Among n (numbers opens mid) → ⊥). f (asked_opens n ask mid w.asked)) (λ (a : Among n (numbers takes mid)). w.untaken a) x.1
+
+-- a request that was just asked waits
+pub waits_first : (n : ℕ) (ask : Ask) (old mid : List Mark) (mine : List ℕ) → AddsAsked n ask old mid → AreKept old → EachOnce (numbers opens mid) → Among n mine → Waits n ask mid mine
+waits_first n ask old mid mine m k once own = record {
+  own = own;
+  asked = subst (IsAmong (asked_mark n ask)) (sym m.are) (in_right (asked_mark n ask) old m.rest m.asked);
+  untaken = λ a.
+    let before : Among n (numbers takes old) = subst (Among n) (ap (numbers takes) m.are ∙ append_none takes old m.rest m.takes_none) a in
+    once_apart n (numbers opens old) (numbers opens m.rest) (subst EachOnce (ap (numbers opens) m.are ∙ numbers_append opens old m.rest) once) (k.taken n before) (subst (Among n) (sym m.opens_it) (one n));
+}
+
+-- one that waited still does
+pub waits_on : (n : ℕ) (ask : Ask) (seen old : List Mark) (mine : List ℕ) → Waits n ask seen mine → Extends opens takes mine seen old → Waits n ask old mine
+waits_on n ask seen old mine w e = record {
+  own = w.own;
+  asked = subst (IsAmong (asked_mark n ask)) (sym e.1) (in_left (asked_mark n ask) seen e.0 w.asked);
+  untaken = λ a. ⊎_elim (λ (b : Among n (numbers takes seen)). w.untaken b) (λ (b : Among n (numbers takes e.0)). (e.2 n w.own).1 b)
+    (among_append n (numbers takes seen) (numbers takes e.0) (subst (Among n) (ap (numbers takes) e.1 ∙ numbers_append takes seen e.0) a));
+}
+
+pub waits_quiet : (n : ℕ) (ask : Ask) (old mid : List Mark) (mine : List ℕ) → Waits n ask old mine → AddsQuiet old mid → Waits n ask mid mine
+waits_quiet n ask old mid mine w q = record {
+  own = w.own;
+  asked = subst (IsAmong (asked_mark n ask)) (sym q.are) (in_left (asked_mark n ask) old q.rest w.asked);
+  untaken = λ a. w.untaken (subst (Among n) (ap (numbers takes) q.are ∙ append_none takes old q.rest q.takes_none) a);
+}
+
+more_mine : (n : ℕ) (ask : Ask) (seen : List Mark) (mine mine' : List ℕ) → ((k : ℕ) → Among k mine → Among k mine') → Waits n ask seen mine → Waits n ask seen mine'
+more_mine n ask seen mine mine' f w = record { own = f n w.own; asked = w.asked; untaken = w.untaken }
+
+-- The first turn of a request, and each later one.
+pub stands_first : (shows : ℕ → Ask → Reply → List Mark → Type 0) (ask : Ask) (k : ℕ) (t : Turned) (old new : List Mark) (mine : List ℕ) (w' : Knowledge Mark)
+    → Turns shows (Some ask) k t old new → (t.got ≡ collected.Closed → ⊥) → AreKept old → AreKept new → w'.seen ≡ new → w'.mine ≡ mine ++ numbers opens (drop (length old) new)
+    → Stands shows t.number ask t.got w'
+stands_first shows ask k t old new mine w' x shut before after s m =
+    let l = leaves shows t.number t.got x.mid new x.got in
+    let w = x.made in
+    let whole : numbers opens (drop (length old) new) ≡ t.number ∷ [] = mine_is old new (w.rest ++ l.rest) (joined old x.mid new w.rest l.rest w.are l.are) ∙ (append_none opens w.rest l.rest l.opens_none ∙ w.opens_it) in
+    let own : Among t.number w'.mine = subst (Among t.number) (sym m) (among_right t.number mine _ (subst (Among t.number) (sym whole) (one t.number))) in
+    let once : EachOnce (numbers opens x.mid) = subst EachOnce (ap (numbers opens) l.are ∙ append_none opens x.mid l.rest l.opens_none) after.once in
+    stands_known shows t.number ask t.got w' (subst (λ (z : List Mark). StandsOver shows t.number ask t.got z w'.mine) (sym s)
+      (stands shows t.number ask t.got x.mid new w'.mine (waits_first t.number ask old x.mid w'.mine w before once own) x.got shut after))
+
+pub stands_next : (shows : ℕ → Ask → Reply → List Mark → Type 0) (ask : Ask) (k : ℕ) (t : Turned) (seen old new : List Mark) (mine : List ℕ) (w' : Knowledge Mark)
+    → Waits k ask seen mine → Extends opens takes mine seen old
+    → Turns shows None k t old new → (t.got ≡ collected.Closed → ⊥) → AreKept new → w'.seen ≡ new → w'.mine ≡ mine ++ numbers opens (drop (length old) new)
+    → Stands shows t.number ask t.got w'
+stands_next shows ask k t seen old new mine w' w e x shut after s m =
+    let at : Waits t.number ask old mine = subst (λ (z : ℕ). Waits z ask old mine) (sym x.made.0) (waits_on k ask seen old mine w e) in
+    let mid : Waits t.number ask x.mid mine = waits_quiet t.number ask old x.mid mine at x.made.1 in
+    let own : Waits t.number ask x.mid w'.mine = more_mine t.number ask x.mid mine w'.mine (λ z a. subst (Among z) (sym m) (among_left z mine _ a)) mid in
+    stands_known shows t.number ask t.got w' (subst (λ (z : List Mark). StandsOver shows t.number ask t.got z w'.mine) (sym s) (stands shows t.number ask t.got x.mid new w'.mine own x.got shut after))
+
+-- what was seen and opened grows over a turn
+pub grows : (v w : Knowledge Mark) (old new : List Mark) (mine : List ℕ) → Extends opens takes mine v.seen old → Rests mine old new → w.seen ≡ new → w.mine ≡ v.mine ++ numbers opens (drop (length old) new) → Grows v w
+grows v w old new mine e r s m = record {
+  rest = e.0 ++ r.rest;
+  more = numbers opens (drop (length old) new);
+  seen = s ∙ joined v.seen old new e.0 r.rest e.1 r.are;
+  mine = m;
+}
+
+pub turned_first : (shows : ℕ → Ask → Reply → List Mark → Type 0) (taken : Asked → Type 0) (ask : Ask) (r : Result (Option Turned) Memory) (old new : List Mark) (mine : List ℕ) (w : Knowledge Mark)
+    → MatchResult r (λ o. Asks shows taken ask o old new) (λ _. AddsCut old new) → IfOk r (λ o. IfSome o (λ t. t.got ≡ collected.Closed → ⊥)) → AreKept old → AreKept new → w.seen ≡ new
+    → w.mine ≡ mine ++ numbers opens (drop (length old) new) → IfOk r (λ o. MatchOption o (taken ask.asked → ⊥) (λ t. Stands shows t.number ask t.got w))
+turned_first shows taken ask (Ok (Some t)) old new mine w x shut before after s m = stands_first shows ask 0 t old new mine w x shut before after s m
+turned_first shows taken ask (Ok None) old new mine w x shut before after s m = x.0
+turned_first shows taken ask (Err e) old new mine w x shut before after s m = tt
+
+pub turned_next : (shows : ℕ → Ask → Reply → List Mark → Type 0) (k : ℕ) (r : Result Turned Memory) (seen old new : List Mark) (mine : List ℕ) (w : Knowledge Mark)
+    → Extends opens takes mine seen old → MatchResult r (λ t. Turns shows None k t old new) (λ _. AddsCut old new) → IfOk r (λ t. t.got ≡ collected.Closed → ⊥) → AreKept new → w.seen ≡ new
+    → w.mine ≡ mine ++ numbers opens (drop (length old) new) → IfOk r (λ t. (ask : Ask) → Waits k ask seen mine → Stands shows t.number ask t.got w)
+turned_next shows k (Ok t) seen old new mine w e x shut after s m = λ ask waits. stands_next shows ask k t seen old new mine w waits e x shut after s m
+turned_next shows k (Err e) seen old new mine w ext x shut after s m = tt
+
+pub behind : (shows : ℕ → Ask → Reply → List Mark → Type 0) (taken : Asked → Type 0) (ask : Ask) (r : Result (Option Turned) Memory) (seen old new seen' : List Mark) (mine : List ℕ)
+    → Extends opens takes mine seen old → MatchResult r (λ o. Asks shows taken ask o old new) (λ _. AddsCut old new) → seen' ≡ new → IfOk r (λ o. IfSome o (λ t. IsBehind t.number ask seen seen'))
+behind shows taken ask (Ok (Some t)) seen old new seen' mine e x s =
+    let m = x.made in let l = leaves shows t.number t.got x.mid new x.got in record {
+      more = e.0 ++ (m.rest ++ l.rest);
+      seen_is = s ∙ joined seen old new e.0 (m.rest ++ l.rest) e.1 (joined old x.mid new m.rest l.rest m.are l.are);
+      asked = in_right (asked_mark t.number ask) e.0 (m.rest ++ l.rest) (in_left (asked_mark t.number ask) m.rest l.rest m.asked);
+    }
+behind shows taken ask (Ok None) seen old new seen' mine e x s = tt
+behind shows taken ask (Err m) seen old new seen' mine e x s = tt
+
+pub grows_none : (v : Knowledge Mark) → Grows v v
+grows_none v = record { rest = []; more = []; seen = sym (append-nil v.seen); mine = sym (append-nil v.mine) }
+
+pub grows_on : (u v w : Knowledge Mark) → Grows u v → Grows v w → Grows u w
+grows_on u v w a b = record {
+  rest = a.rest ++ b.rest;
+  more = a.more ++ b.more;
+  seen = joined u.seen v.seen w.seen a.rest b.rest a.seen b.seen;
+  mine = b.mine ∙ (ap (λ (l : List ℕ). l ++ b.more) a.mine ∙ append_assoc u.mine a.more b.more);
+}
+
+module _ (shows : ℕ → Ask → Reply → List Mark → Type 0) where
+  pub looks_first : (n : ℕ) (got : Collected) (v : Knowledge Mark) → (ask : Ask) × Stands shows n ask got v → Looks shows n got v n got v
+  looks_first n got v s = record { grows = grows_none v; some = s; each = λ ask x. x }
+
+  waiting : (n : ℕ) (ask : Ask) (got : Collected) (k : Knowledge Mark) → got ≡ collected.NotYet → Stands shows n ask got k → Waits n ask k.seen k.mine
+  waiting n ask got k e s = subst (λ (x : Collected). Stands shows n ask x k) e s
+
+  pub waits_own : (n : ℕ) (got : Collected) (v : Knowledge Mark) (n' : ℕ) (got' : Collected) (w : Knowledge Mark) → got' ≡ collected.NotYet → Looks shows n got v n' got' w → Among n' w.mine
+  waits_own n got v n' got' w e l = (waiting n' l.some.0 got' w e l.some.1).own
+
+  pub looks_next : (n : ℕ) (got : Collected) (u : Knowledge Mark) (n₁ : ℕ) (got₁ : Collected) (v : Knowledge Mark) (n₂ : ℕ) (got₂ : Collected) (w : Knowledge Mark) → got₁ ≡ collected.NotYet → Looks shows n got u n₁ got₁ v → Grows v w
+      → ((ask : Ask) → Waits n₁ ask v.seen v.mine → Stands shows n₂ ask got₂ w) → Looks shows n got u n₂ got₂ w
+  looks_next n got u n₁ got₁ v n₂ got₂ w e l g f = record {
+    grows = grows_on u v w l.grows g;
+    some = (l.some.0, f l.some.0 (waiting n₁ l.some.0 got₁ v e l.some.1));
+    each = λ ask x. f ask (waiting n₁ ask got₁ v e (l.each ask x));
+  }
+
+  pub looks_ready : (n : ℕ) (got : Collected) (u : Knowledge Mark) (n' : ℕ) (got' : Collected) (w : Knowledge Mark) (reply : Reply) → got' ≡ collected.Ready reply → Looks shows n got u n' got' w
+      → (ask : Ask) → Stands shows n ask got u → IsAnswered shows ask reply w.seen w.mine
+  looks_ready n got u n' got' w reply e l ask x = subst (λ (z : Collected). Stands shows n' ask z w) e (l.each ask x)
+
+  pub never_closed : (n : ℕ) (got : Collected) (u : Knowledge Mark) (n' : ℕ) (got' : Collected) (w : Knowledge Mark) → got' ≡ collected.Closed → Looks shows n got u n' got' w → ⊥
+  never_closed n got u n' got' w e l = subst (λ (z : Collected). Stands shows n' l.some.0 z w) e l.some.1
+
+  pub never_gone : (n : ℕ) (got : Collected) (u : Knowledge Mark) (n' : ℕ) (got' : Collected) (w : Knowledge Mark) → got' ≡ collected.Gone → Looks shows n got u n' got' w → ⊥
+  never_gone n got u n' got' w e l = subst (λ (z : Collected). Stands shows n' l.some.0 z w) e l.some.1

@@ -1,0 +1,6 @@
+use Rattle.std.proofs.Common.{refl}
+use Rattle.serve_loop.proofs.OwnTurns.{looks_first, looks_next, looks_ready, never_closed, never_gone, waits_own}
+use Rattle.serve_loop.proofs.turning.wait_for.Goals as goal
+
+pub loop-init : goal.loop-init
+loop-init g c = ((refl, refl), c.requires.free, looks_first g.C.SharedCluster.shows c.args.turned.number c.args.turned.got c.args.pass.now.seat.me.0 c.requires.stands)

@@ -1,0 +1,7 @@
+use Rattle.turn_lock.specs.Passes.{IsFree, IsSame}
+use Rattle.serve_loop.specs.Waiting.{Looks}
+use Rattle.serve_loop.proofs.turning.wait_for.Given as goal
+
+-- the pass is free, and what stood when the loop began stands now
+abbrev pub invariant-loop : goal.invariant-loop
+invariant-loop g l = IsSame l.fn.pass.seat l.pass.seat × IsFree l.pass.seat × Looks g.C.SharedCluster.shows l.fn.turned.number l.fn.turned.got l.fn.pass.seat.me.0 l.number l.got l.pass.seat.me.0

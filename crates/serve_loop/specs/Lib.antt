@@ -1,0 +1,10 @@
+pub mod Marks
+pub mod Collects
+pub mod Turns
+pub mod Waiting
+pub mod Boards
+pub mod Written
+pub mod Replies
+pub mod Serving
+pub mod Stages
+pub mod Services

@@ -1,0 +1,152 @@
+-- What is exchanged over a connection: HTTP/1.1 requests and their replies, in order (RFC 9112, sections 9.3 and 9.3.2).
+use Rattle.std.specs.Prelude.{◌≡◌, ℕ, ◌+◌, ◌%◌, ◌^◌, ◌≤◌, ◌⊎◌, Bool, true, List, [], ◌∷◌, ◌++◌, Option, Some, None}
+use Rattle.std.specs.Io.KnownBytes.{append_known}
+use Rattle.cat_model.specs.declared.request.Asked.{Asked}
+use Rattle.cat_model.specs.declared.request.Asked.TheVariants.{Good, Bad}
+use Rattle.cat_model.specs.declared.request.Draw.{Draw}
+use Rattle.cat_model.specs.declared.request.Request.{Request}
+use Rattle.cat_model.specs.declared.reply.Refusal.{Refusal}
+use Rattle.cat_model.specs.declared.reply.Refusal.TheVariants.{Unsupported}
+use Rattle.cat_model.specs.declared.reply.Mark.{Mark}
+use Rattle.cat_outside.specs.Causes.{Rose}
+use Rattle.cluster_rules.specs.Replies.{Reply}
+use Rattle.http_routes.specs.Routes.{route_of}
+use Rattle.http_wire.specs.declared.rejection.Rejection.{Rejection}
+use Rattle.http_wire.specs.Rejections.{answer_to}
+use Rattle.http_wire.specs.Replies.{continue_bytes}
+use Rattle.http_wire.specs.State.{GivesAll}
+use Rattle.http_wire.specs.Stream.{Raw, Given, go_on, whole}
+use Rattle.serve_outside.specs.Links.{LinkState}
+use Rattle.turn_lock.specs.declared.knowledge.Knowledge.{Knowledge}
+use Rattle.serve_loop.specs.declared.cluster.Ask.{Ask}
+use Rattle.serve_loop.specs.declared.cause.Cause.{Cause}
+use Rattle.serve_loop.specs.declared.cause.Cause.TheVariants as cause
+use Rattle.serve_loop.specs.Replies.{refusing, text_of}
+use Rattle.serve_loop.specs.Waiting.{Grows, IsAnswered}
+
+-- A connection: the agent that is asked for it, the words that were drawn for it, and its link and the knowledge of its
+-- pass when it began.
+pub record Connection : Type 0 where
+  pub agent : ℕ
+  pub draw : Draw
+  pub first : LinkState
+  pub begun : Knowledge Mark
+
+-- a Continue that was asked for, or a request and its reply
+pub data Exchange : Type 0 where
+  continued : Exchange
+  replied : Raw → Reply → Exchange
+
+-- what the client sent; the last exchange stands first
+abbrev pub items_of : List Exchange → List Given
+items_of [] = []
+items_of (continued ∷ es) = items_of es ++ go_on ∷ []
+items_of (replied raw reply ∷ es) = items_of es ++ whole raw ∷ []
+
+-- how many requests there were
+abbrev pub count_of : List Exchange → ℕ
+count_of [] = 0
+count_of (continued ∷ es) = count_of es
+count_of (replied raw reply ∷ es) = count_of es + 1
+
+-- what is due to be written for them
+abbrev pub bytes_of : List Exchange → List ℕ
+bytes_of [] = []
+bytes_of (continued ∷ es) = bytes_of es ++ continue_bytes
+bytes_of (replied raw reply ∷ es) = bytes_of es ++ text_of reply raw.close
+
+-- and behind them, where the stream is refused
+abbrev pub last_bytes : Option Rejection → List ℕ
+last_bytes None = []
+last_bytes (Some why) = text_of (refusing (answer_to why)) true
+
+-- the last request asks to close
+abbrev pub Closes : List Exchange → Type 0
+Closes [] = ⊥
+Closes (continued ∷ es) = ⊥
+Closes (replied raw reply ∷ es) = raw.close ≡ true
+
+-- what a request asks for
+abbrev pub asked_by : Raw → Asked
+asked_by raw = route_of raw.method raw.target raw.body
+
+-- the draw of a connection's n-th request
+abbrev pub draw_of : Draw → ℕ → Draw
+draw_of d n = record { hi = d.hi; lo = (d.lo + n) % 2 ^ 64 }
+
+-- it is the same link, and none of its counts fell
+pub record IsLater (first now : LinkState) : Type 0 where
+  pub number : now.number ≡ first.number
+  pub ends : first.ends ≤ now.ends
+  pub read_faults : first.read_faults ≤ now.read_faults
+  pub write_faults : first.write_faults ≤ now.write_faults
+
+-- `shows` and `takes` are the cluster's
+module _ (shows : ℕ → Ask → Reply → List Mark → Type 0) (takes : Asked → Type 0) (c : Connection) where
+  -- The reply to the n-th request: the refusal of its route, or of what the cluster does not take, or the answer to what
+  -- was asked.
+  pub data IsReply (raw : Raw) (n : ℕ) (reply : Reply) (known : Knowledge Mark) : Type 0 where
+    unrouted : (why : Refusal) → asked_by raw ≡ Bad why → reply ≡ refusing why → IsReply raw n reply known
+    not_taken : (request : Request) → asked_by raw ≡ Good request → (takes (Good request) → ⊥) → reply ≡ refusing Unsupported → IsReply raw n reply known
+    answered : (request : Request) → asked_by raw ≡ Good request
+        → IsAnswered shows (record { agent = c.agent; asked = Good request; draw = draw_of c.draw n }) reply known.seen known.mine → IsReply raw n reply known
+
+  -- the same of a request that was routed
+  abbrev pub IsReplyTo : Request → ℕ → Knowledge Mark → Reply → Type 0
+  IsReplyTo request n known reply =
+      ((takes (Good request) → ⊥) × (reply ≡ refusing Unsupported))
+      ⊎ IsAnswered shows (record { agent = c.agent; asked = Good request; draw = draw_of c.draw n }) reply known.seen known.mine
+
+  abbrev pub IsResponse : Asked → ℕ → Knowledge Mark → Reply → Type 0
+  IsResponse (Good request) n known reply = IsReplyTo request n known reply
+  IsResponse (Bad why) n known reply = reply ≡ refusing why
+
+  -- each reply is that to its request
+  abbrev pub AreTrue : List Exchange → Knowledge Mark → Type 0
+  AreTrue [] known = Unit {0}
+  AreTrue (continued ∷ es) known = AreTrue es known
+  AreTrue (replied raw reply ∷ es) known = IsReply raw (count_of es + 1) reply known × AreTrue es known
+
+  -- what came and went since the connection began: bytes that were read and bytes that were written, where the link
+  -- tells them, and true replies
+  pub record Passed (link : LinkState) (known : Knowledge Mark) (es : List Exchange) (read written : List ℕ) : Type 0 where
+    pub heard : link.heard ≡ append_known c.first.heard read
+    pub said : link.said ≡ append_known c.first.said written
+    pub are_true : AreTrue es known
+    pub grown : Grows c.begun known
+    pub later : IsLater c.first link
+
+  -- How far a connection came: the stream gave these exchanges, and is refused behind them where `rejection` says why;
+  -- nobody took the rest of what was read; and all that is due was written but for what is unwritten.
+  pub record Came (link : LinkState) (known : Knowledge Mark) (es : List Exchange) (rejection : Option Rejection) (rest unwritten : List ℕ) : Type 0 where
+    pub stream : List ℕ
+    pub written : List ℕ
+    pub passed : Passed link known es (stream ++ rest) written
+    pub gives : GivesAll stream (items_of es) rejection
+    pub due : bytes_of es ++ last_bytes rejection ≡ written ++ unwritten
+
+  -- The connection was cut off: its last reply, or the refusal behind it, may be unwritten in part.
+  pub record IsCut (link : LinkState) (known : Knowledge Mark) (requests : ℕ) : Type 0 where
+    pub es : List Exchange
+    pub rejection : Option Rejection
+    pub rest : List ℕ
+    pub unwritten : List ℕ
+    pub came : Came link known es rejection rest unwritten
+    pub least : requests ≤ count_of es
+    pub most : count_of es ≤ requests + 1
+
+  -- all that came was answered
+  pub record IsWhole (Ends : List Exchange → List ℕ → Type 0) (rejection : Option Rejection) (link : LinkState) (known : Knowledge Mark) (requests : ℕ) : Type 0 where
+    pub es : List Exchange
+    pub rest : List ℕ
+    pub came : Came link known es rejection rest []
+    pub count : requests ≡ count_of es
+    pub ends : Ends es rest
+
+  -- How a connection ended, by its cause: `requests` replies were written whole.
+  abbrev pub EndsBy : Cause → LinkState → Knowledge Mark → ℕ → Type 0
+  EndsBy cause.Closed link known requests = IsWhole (λ es rest. ((rest ≡ []) × Rose c.first.ends link.ends) ⊎ Closes es) None link known requests
+  EndsBy (cause.Refused why) link known requests = IsWhole (λ es rest. rest ≡ []) (Some why) link known requests
+  EndsBy cause.ReadFault link known requests = IsWhole (λ es rest. (rest ≡ []) × Rose c.first.read_faults link.read_faults) None link known requests
+  EndsBy cause.WriteFault link known requests = IsCut link known requests × Rose c.first.write_faults link.write_faults
+  EndsBy cause.Memory link known requests = IsCut link known requests

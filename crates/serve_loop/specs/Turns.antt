@@ -1,0 +1,29 @@
+-- What a turn does.
+use Rattle.std.specs.Prelude.{◌≡◌, ℕ, List, Option, Some, None}
+use Rattle.cat_model.specs.declared.reply.Mark.{Mark}
+use Rattle.cat_model.specs.declared.request.Asked.{Asked}
+use Rattle.cluster_rules.specs.Replies.{Reply}
+use Rattle.serve_loop.specs.declared.cluster.Ask.{Ask}
+use Rattle.serve_loop.specs.declared.served.Turned.{Turned}
+use Rattle.serve_loop.specs.Marks.{AddsAsked, AddsQuiet, Fits}
+use Rattle.serve_loop.specs.Collects.{Collects}
+
+-- the agent is one of the cluster's, and the cluster takes what is asked
+abbrev pub MayAsk : ℕ → (Asked → Type 0) → Ask → Type 0
+MayAsk agents takes a = Fits agents a × takes a.asked
+
+-- the request was asked, if there is one; the one of this number is waited for
+abbrev pub Makes : Option Ask → ℕ → ℕ → List Mark → List Mark → Type 0
+Makes None number n old new = (n ≡ number) × AddsQuiet old new
+Makes (Some ask) number n old new = AddsAsked n ask old new
+
+-- and then it was collected
+pub record Turns (shows : ℕ → Ask → Reply → List Mark → Type 0) (ask : Option Ask) (number : ℕ) (t : Turned) (old new : List Mark) : Type 0 where
+  pub mid : List Mark
+  pub made : Makes ask number t.number old mid
+  pub got : Collects shows t.number t.got mid new
+
+-- the same of a request that is asked, if the cluster takes it; else nothing was done
+abbrev pub Asks : (ℕ → Ask → Reply → List Mark → Type 0) → (Asked → Type 0) → Ask → Option Turned → List Mark → List Mark → Type 0
+Asks shows takes ask (Some t) old new = Turns shows (Some ask) 0 t old new
+Asks shows takes ask None old new = (takes ask.asked → ⊥) × (new ≡ old)

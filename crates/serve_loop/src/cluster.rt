@@ -1,0 +1,88 @@
+//! The cluster as the turns use it.
+
+ghost use Rattle.std.specs.Prelude.{◌≡◌, ℕ, List, true, IfOk, OnErr, ◌↔◌};
+ghost use Rattle.cat_model.specs.declared.request.Asked.{Asked as SpecAsked};
+ghost use Rattle.cat_model.specs.declared.reply.Mark.{Mark as SpecMark};
+ghost use Rattle.cluster_rules.specs.Replies.{Reply as SpecReply};
+ghost use Rattle.serve_loop.specs.declared.cluster.Ask.{Ask as SpecAsk};
+ghost use Rattle.serve_loop.specs.Collects.{Collects};
+ghost use Rattle.serve_loop.specs.Marks.{AddsAsked, AddsCut, AddsQuiet, AreKept};
+ghost use Rattle.serve_loop.specs.Turns.{MayAsk};
+
+use cat_model::{Asked, Draw, Memory};
+use open_requests::Reply;
+use std::alloc::Global;
+
+/// What an agent is asked, and the words that were drawn for it.
+#[derive(Drop)]
+pub struct Ask {
+    pub agent: u32,
+    pub asked: Asked,
+    pub draw: Draw,
+}
+
+/// What there is of a request.
+#[derive(Drop)]
+pub enum Collected {
+    Ready(Reply),
+    /// The server that held it restarted.
+    Closed,
+    NotYet,
+    /// It was taken before or never asked.
+    Gone,
+}
+
+/// A cluster that threads share by turns. Marks tell what has happened in it, and each call puts its own behind those
+/// that there are. Agents are numbered from 1.
+pub trait SharedCluster: Drop {
+    /// The marks, the first one first.
+    ghost marks: { Self → List SpecMark };
+
+    /// How many agents there are.
+    ghost agents: { ℕ };
+
+    /// The clocks can go on by so many milliseconds.
+    ghost can_go: { Self → ℕ → Type 0 };
+
+    /// The reply to the request with this number shows what it asks for and its kind give over the log that these marks
+    /// tell.
+    ghost shows: { ℕ → SpecAsk → SpecReply → List SpecMark → Type 0 };
+
+    /// The cluster can be asked this.
+    ghost takes: { SpecAsked → Type 0 };
+
+    /// Whether the cluster can be asked this. Nothing happens.
+    fn takes(&self, asked: &Asked) -> bool
+        ensures { result ≡ true ↔ takes asked.now };
+
+    /// A law, which does nothing: each number is asked at most once and answered at most once, and only what was asked
+    /// is taken.
+    fn kept(&self)
+        ensures { AreKept (marks self.now) };
+
+    /// Whether the clocks can go on by so many milliseconds. Nothing happens.
+    fn has_time(&self, ms: u64) -> bool
+        ensures { result ≡ true → can_go self.now ms };
+
+    /// All clocks go on by so many milliseconds, and what is due by then happens: elections, heartbeats, the expiry of
+    /// sessions, the end of reads that wait. No request is asked or taken.
+    fn advance(&mut self, alloc: Global, ms: u64) -> Result<(), Memory>
+        requires { can_go self.old ms }
+        ensures { AddsQuiet (marks self.old) (marks self.new) };
+
+    /// Asks an agent, and gives the request's number, which was never given before. The reply comes later. An ask that
+    /// finds no memory may have put its mark.
+    fn ask(&mut self, alloc: Global, ask: Ask) -> Result<u64, Memory>
+        requires { MayAsk agents takes ask }
+        ensures asked { IfOk result (λ n. AddsAsked n ask (marks self.old) (marks self.new)) }
+        ensures cut { OnErr result (AddsCut (marks self.old) (marks self.new)) };
+
+    /// Delivers the messages between servers, those that were sent first before others, at most so many, and says how
+    /// many. Requests are answered on the way; none is asked or taken.
+    fn settle(&mut self, alloc: Global, most: u32) -> Result<u32, Memory>
+        ensures { AddsQuiet (marks self.old) (marks self.new) };
+
+    /// Takes the reply to the request with this number, or its closing, where there is one. Else nothing happens.
+    fn collect(&mut self, number: u64) -> Collected
+        ensures { Collects shows number result (marks self.old) (marks self.new) };
+}

@@ -1,0 +1,17 @@
+//! HTTP/1.1 connections that are served from one cluster, which their threads share by turns.
+#![tactic(auto)]
+
+mod cause;
+mod cluster;
+mod job;
+mod replies;
+mod served;
+mod serving;
+mod turning;
+mod writing;
+
+pub use cause::Cause;
+pub use cluster::{Ask, Collected, SharedCluster};
+pub use job::{Finished, ServeJob, serve_connection};
+pub use served::{Served, Turned};
+pub use serving::Board;

@@ -1,0 +1,221 @@
+//! What the turns lend: a cluster, and the time up to which its clocks have gone on.
+
+ghost use Rattle.std.specs.Prelude.{◌≡◌, [], IfOk, IfSome, MatchResult};
+ghost use Rattle.std.specs.Option.{ForSome};
+ghost use Rattle.turn_lock.specs.Lists.{numbers};
+ghost use Rattle.serve_loop.specs.declared.cluster.Collected.TheVariants as collected;
+ghost use Rattle.serve_loop.specs.Collects.{Collects};
+ghost use Rattle.serve_loop.specs.Marks.{AddsCut, AddsQuiet, AreKept, Fits, opens, restarts, takes};
+ghost use Rattle.serve_loop.specs.Turns.{Asks, Makes, MayAsk, Turns};
+
+use crate::cluster::{Ask, Collected, SharedCluster};
+use cat_model::{Mark, Memory};
+use std::alloc::Global;
+use turn_lock::History;
+
+/// The most messages that a turn settles.
+const MOST: u32 = 4096;
+
+/// The most milliseconds that a turn makes up for: a day.
+const MOST_MS: u64 = 86_400_000;
+
+/// A cluster of which no server restarts, and the time of its clocks.
+#[derive(Drop)]
+pub struct Served<C: SharedCluster> {
+    pub cluster: C,
+    /// The outside clock's time up to which the cluster's clocks have gone on.
+    pub last_ms: u64,
+    ghost calm: { numbers restarts (C.marks cluster) ≡ [] },
+}
+
+impl<C: SharedCluster> History for Served<C> {
+    type Item = Mark;
+
+    ghost items = { λ s. C.marks s.cluster };
+
+    ghost opens = { opens };
+
+    ghost takes = { takes };
+}
+
+/// What a turn gave: the number of its request, and what there is of it.
+#[derive(Drop)]
+pub struct Turned {
+    pub number: u64,
+    pub got: Collected,
+}
+
+fn discard(_: Ask) {}
+
+impl<C: SharedCluster> Served<C> {
+    // Lets the clocks go on to this time. What is more than a day is made up for later, and a time before the last one
+    // changes nothing.
+    fn advance(&mut self, alloc: Global, now: u64) -> Result<(), Memory>
+        ensures { AddsQuiet (C.marks self.old.cluster) (C.marks self.new.cluster) }
+    {
+        let ms = now.saturating_sub(self.last_ms).min(MOST_MS);
+        if ms == 0 || !self.cluster.has_time(ms) {
+            return Ok(());
+        }
+        self.last_ms += ms;
+        self.cluster.advance(alloc, ms)
+    }
+
+    // Makes the ask, if there is one, and gives the number of the request that is waited for.
+    fn make(&mut self, alloc: Global, ask: Option<Ask>, number: u64) -> Result<u64, Memory>
+        requires { ForSome ask (MayAsk C.agents C.takes) }
+        ensures { MatchResult result
+            (λ n. Makes ask number n (C.marks self.old.cluster) (C.marks self.new.cluster))
+            (λ _. AddsCut (C.marks self.old.cluster) (C.marks self.new.cluster)) }
+    {
+        match ask {
+            Some(ask) => self.cluster.ask(alloc, ask),
+            None => Ok(number),
+        }
+    }
+
+    fn settle(&mut self, alloc: Global) -> Result<u32, Memory>
+        ensures { AddsQuiet (C.marks self.old.cluster) (C.marks self.new.cluster) }
+    {
+        self.cluster.settle(alloc, MOST)
+    }
+
+    fn collect(&mut self, number: u64) -> Collected
+        ensures got { Collects C.shows number result (C.marks self.old.cluster) (C.marks self.new.cluster) }
+        ensures unclosed { result ≡ collected.Closed → ⊥ }
+    {
+        self.cluster.collect(number)
+    }
+
+    // Makes the ask and settles the messages.
+    fn go_on(&mut self, alloc: Global, ask: Option<Ask>, number: u64) -> Result<u64, Memory>
+        requires { ForSome ask (MayAsk C.agents C.takes) }
+        ensures { MatchResult result
+            (λ n. Makes ask number n (C.marks self.old.cluster) (C.marks self.new.cluster))
+            (λ _. AddsCut (C.marks self.old.cluster) (C.marks self.new.cluster)) }
+    {
+        match self.make(alloc, ask, number) {
+            Ok(number) => match self.settle(alloc) {
+                Ok(_) => Ok(number),
+                Err(Memory) => Err(Memory),
+            },
+            Err(Memory) => Err(Memory),
+        }
+    }
+
+    // All that a turn does before it collects.
+    fn work(
+        &mut self,
+        alloc: Global,
+        now: u64,
+        ask: Option<Ask>,
+        number: u64,
+    ) -> Result<u64, Memory>
+        requires { ForSome ask (MayAsk C.agents C.takes) }
+        ensures { MatchResult result
+            (λ n. Makes ask number n (C.marks self.old.cluster) (C.marks self.new.cluster))
+            (λ _. AddsCut (C.marks self.old.cluster) (C.marks self.new.cluster)) }
+    {
+        match self.advance(alloc, now) {
+            Ok(()) => self.go_on(alloc, ask, number),
+            Err(Memory) => Err(Memory),
+        }
+    }
+
+    // A turn of whose marks nothing more is said.
+    fn try_turn(
+        &mut self,
+        alloc: Global,
+        now: u64,
+        ask: Option<Ask>,
+        number: u64,
+    ) -> Result<Turned, Memory>
+        requires { ForSome ask (MayAsk C.agents C.takes) }
+        ensures turned { MatchResult result
+            (λ t. Turns C.shows ask number t (C.marks self.old.cluster) (C.marks self.new.cluster))
+            (λ _. AddsCut (C.marks self.old.cluster) (C.marks self.new.cluster)) }
+        ensures unclosed { IfOk result (λ t. t.got ≡ collected.Closed → ⊥) }
+    {
+        match self.work(alloc, now, ask, number) {
+            Ok(number) => {
+                let got = self.collect(number);
+                Ok(Turned { number, got })
+            }
+            Err(Memory) => Err(Memory),
+        }
+    }
+
+    /// The clocks go on by the time since the last turn, the request is asked, if there is one, and messages are
+    /// settled. Then that request is collected, else the one with this number.
+    pub fn turn(
+        &mut self,
+        alloc: Global,
+        now: u64,
+        ask: Option<Ask>,
+        number: u64,
+    ) -> Result<Turned, Memory>
+        requires { ForSome ask (MayAsk C.agents C.takes) }
+        ensures turned { MatchResult result
+            (λ t. Turns C.shows ask number t (C.marks self.old.cluster) (C.marks self.new.cluster))
+            (λ _. AddsCut (C.marks self.old.cluster) (C.marks self.new.cluster)) }
+        ensures unclosed { IfOk result (λ t. t.got ≡ collected.Closed → ⊥) }
+        ensures before { AreKept (C.marks self.old.cluster) }
+        ensures after { AreKept (C.marks self.new.cluster) }
+    {
+        self.cluster.kept();
+        let turned = self.try_turn(alloc, now, ask, number);
+        self.cluster.kept();
+        turned
+    }
+
+    // The turn of a request that is asked, if the cluster takes it, of whose marks nothing more is said.
+    fn try_asking_turn(
+        &mut self,
+        alloc: Global,
+        now: u64,
+        ask: Ask,
+    ) -> Result<Option<Turned>, Memory>
+        requires { Fits C.agents ask }
+        ensures turned { MatchResult result
+            (λ o. Asks C.shows C.takes ask o (C.marks self.old.cluster) (C.marks self.new.cluster))
+            (λ _. AddsCut (C.marks self.old.cluster) (C.marks self.new.cluster)) }
+        ensures unclosed { IfOk result (λ o. IfSome o (λ t. t.got ≡ collected.Closed → ⊥)) }
+    {
+        if !self.cluster.takes(&ask.asked) {
+            discard(ask);
+            return Ok(None);
+        }
+        match self.try_turn(alloc, now, Some(ask), 0) {
+            Ok(turned) => Ok(Some(turned)),
+            Err(Memory) => Err(Memory),
+        }
+    }
+
+    /// The turn of a request that is asked. Where the cluster does not take it, there is no turn, and nothing is done.
+    pub fn asking_turn(
+        &mut self,
+        alloc: Global,
+        now: u64,
+        ask: Ask,
+    ) -> Result<Option<Turned>, Memory>
+        requires { Fits C.agents ask }
+        ensures turned { MatchResult result
+            (λ o. Asks C.shows C.takes ask o (C.marks self.old.cluster) (C.marks self.new.cluster))
+            (λ _. AddsCut (C.marks self.old.cluster) (C.marks self.new.cluster)) }
+        ensures unclosed { IfOk result (λ o. IfSome o (λ t. t.got ≡ collected.Closed → ⊥)) }
+        ensures before { AreKept (C.marks self.old.cluster) }
+        ensures after { AreKept (C.marks self.new.cluster) }
+    {
+        self.cluster.kept();
+        let turned = self.try_asking_turn(alloc, now, ask);
+        self.cluster.kept();
+        turned
+    }
+
+    /// A law, which does nothing.
+    pub fn kept(&self)
+        ensures { AreKept (C.marks self.now.cluster) }
+    {
+        self.cluster.kept();
+    }
+}

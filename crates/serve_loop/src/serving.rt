@@ -1,0 +1,361 @@
+//! A connection, from its first byte to its end.
+
+ghost use Rattle.std.specs.Prelude.{◌≡◌, ◌+◌, ◌<◌, ◌≤◌, [], ℕ, List, IfOk, MatchResult, OnOk, drop, false, true, length, take};
+ghost use Rattle.cat_model.specs.declared.reply.Mark.{Mark};
+ghost use Rattle.turn_lock.specs.declared.knowledge.Knowledge.{Knowledge};
+ghost use Rattle.std.specs.Arc.{arc_value};
+ghost use Rattle.http_wire.specs.Reader.{raw};
+ghost use Rattle.http_wire.specs.Stream.{go_on, whole};
+ghost use Rattle.serve_loop.specs.Boards.{IsOurs, known};
+ghost use Rattle.serve_loop.specs.Services.{connection, stage};
+ghost use Rattle.serve_loop.specs.Serving.{EndsBy, IsReply, IsReplyTo, IsResponse, asked_by, draw_of};
+ghost use Rattle.serve_loop.specs.Stages.{Comes, GoesOn, IsTaking, Owes, OwesRefusal, Talks};
+ghost use Rattle.serve_loop.specs.Waiting.{Grows};
+ghost use Rattle.serve_loop.specs.declared.cause.Cause.TheVariants as cause;
+
+use crate::cause::Cause;
+use crate::cluster::{Ask, SharedCluster};
+use crate::replies::refusing;
+use crate::served::Served;
+use crate::turning::ask_and_wait;
+use crate::writing::{send, send_continue, send_refusal};
+use cat_model::{Asked, Draw, Memory, Refusal, Request};
+use cat_outside::Failed;
+use crossbeam_utils::CachePadded;
+use http_routes::route;
+use http_wire::{Fed, Got, RawRequest, Rejection, RequestReader};
+use open_requests::Reply;
+use serve_outside::{Clock, Gate, Link};
+use std::alloc::Global;
+use std::snapshot::Snapshot;
+use std::sync::{Arc, Wait};
+use turn_lock::{History, HistoryLock, Pass};
+
+/// The lock by which threads share a state in turns. No other value lies in its cache line.
+pub type Board<S> = CachePadded<HistoryLock<S>>;
+
+/// How many bytes are read at most in one call.
+const ROOM: usize = 4096;
+
+/// What serves a connection: the board of turns, a clock and a gate, the agent that is asked and the connection's draw,
+/// and the link and the pass as they were at first.
+#[derive(Drop)]
+pub struct Service<R, S: History, Cl, G, L> {
+    pub rt: R,
+    pub alloc: Global,
+    pub board: Arc<Board<S>, Global>,
+    pub clock: Cl,
+    pub gate: G,
+    pub agent: u32,
+    pub draw: Draw,
+    pub first: Snapshot<L>,
+    pub begun: Snapshot<Pass<S>>,
+}
+
+/// A connection that is served, and how many requests were answered on it.
+#[derive(Drop)]
+pub struct Serving<L, S: History> {
+    pub link: L,
+    pub reader: RequestReader,
+    pub pass: Pass<S>,
+    pub requests: u64,
+}
+
+// The draw of the n-th request.
+fn nth_draw(draw: Draw, n: u64) -> Draw
+    ensures { result ≡ draw_of draw n }
+{
+    Draw {
+        hi: draw.hi,
+        lo: draw.lo.wrapping_add(n),
+    }
+}
+
+// Whether a connection ends behind a reply.
+fn ends_here(close: bool) -> Result<(), Cause>
+    ensures { MatchResult result (λ _. close ≡ false) (λ why. (close ≡ true) × (why ≡ cause.Closed)) }
+{
+    if close { Err(Cause::Closed) } else { Ok(()) }
+}
+
+fn discard_request(_: RawRequest) {}
+
+fn discard_reply(_: Reply) {}
+
+// The reply to the n-th request, which asks for this.
+fn ask<R: Wait, C: SharedCluster, Cl: Clock, G: Gate, L: Link>(
+    service: &Service<R, Served<C>, Cl, G, L>,
+    pass: &mut Pass<Served<C>>,
+    request: Request,
+    n: u64,
+) -> Result<Reply, Memory>
+    requires ours { IsOurs (arc_value service.now.board) pass.old }
+    requires agent { (0 < service.now.agent) × (service.now.agent ≤ C.agents) }
+    ensures ours { IsOurs (arc_value service.now.board) pass.new }
+    ensures grown { Grows (known pass.old) (known pass.new) }
+    ensures reply { IfOk result (IsReplyTo C.shows C.takes (connection L.state service.now) request n (known pass.new)) }
+{
+    let ask = Ask {
+        agent: service.agent,
+        asked: Asked::Good(request),
+        draw: nth_draw(service.draw, n),
+    };
+    let lock = &**service.board;
+    match ask_and_wait(
+        &service.rt,
+        service.alloc,
+        lock,
+        pass,
+        &service.clock,
+        &service.gate,
+        ask,
+    ) {
+        Ok(Some(reply)) => Ok(reply),
+        Ok(None) => refusing(Refusal::Unsupported),
+        Err(Memory) => Err(Memory),
+    }
+}
+
+// The reply to the n-th request, as it was routed.
+fn respond<R: Wait, C: SharedCluster, Cl: Clock, G: Gate, L: Link>(
+    service: &Service<R, Served<C>, Cl, G, L>,
+    pass: &mut Pass<Served<C>>,
+    asked: Asked,
+    n: u64,
+) -> Result<Reply, Memory>
+    requires ours { IsOurs (arc_value service.now.board) pass.old }
+    requires agent { (0 < service.now.agent) × (service.now.agent ≤ C.agents) }
+    ensures ours { IsOurs (arc_value service.now.board) pass.new }
+    ensures grown { Grows (known pass.old) (known pass.new) }
+    ensures reply { IfOk result (IsResponse C.shows C.takes (connection L.state service.now) asked n (known pass.new)) }
+{
+    match asked {
+        Asked::Good(request) => ask(service, pass, request, n),
+        Asked::Bad(why) => refusing(why),
+    }
+}
+
+// What a request asks for.
+fn routed(alloc: Global, message: &RawRequest) -> Result<Asked, Memory>
+    ensures { IfOk result (λ asked. asked ≡ asked_by (raw message.now)) }
+{
+    route(
+        alloc,
+        message.method.as_str().as_bytes(),
+        message.target.as_str().as_bytes(),
+        message.body.as_slice(),
+    )
+}
+
+// The reply to the n-th request.
+fn reply_to<R: Wait, C: SharedCluster, Cl: Clock, G: Gate, L: Link>(
+    service: &Service<R, Served<C>, Cl, G, L>,
+    pass: &mut Pass<Served<C>>,
+    message: &RawRequest,
+    n: u64,
+) -> Result<Reply, Memory>
+    requires ours { IsOurs (arc_value service.now.board) pass.old }
+    requires agent { (0 < service.now.agent) × (service.now.agent ≤ C.agents) }
+    ensures ours { IsOurs (arc_value service.now.board) pass.new }
+    ensures grown { Grows (known pass.old) (known pass.new) }
+    ensures reply { IfOk result (λ reply. IsReply C.shows C.takes (connection L.state service.now) (raw message.now) n reply (known pass.new)) }
+{
+    match routed(service.alloc, message) {
+        Ok(asked) => respond(service, pass, asked, n),
+        Err(Memory) => Err(Memory),
+    }
+}
+
+impl<L: Link, C: SharedCluster> Serving<L, Served<C>> {
+    // Writes that the client may go on with the body of its request.
+    fn go_on<R, Cl, G>(&mut self, service: &Service<R, Served<C>, Cl, G, L>) -> Result<(), Cause>
+        requires unshut { (L.state self.old.link).shut ≡ false }
+        ensures pass { self.new.pass ≡ self.old.pass }
+        ensures goes_on { (rest : List ℕ) → Owes C.shows C.takes (connection L.state service.now) (stage L.state self.old) rest go_on → GoesOn C.shows C.takes (connection L.state service.now) result (stage L.state self.new) rest }
+    {
+        send_continue(&mut self.link, service.alloc)
+    }
+
+    // Writes the reply to the n-th request.
+    fn give<R, Cl, G>(
+        &mut self,
+        service: &Service<R, Served<C>, Cl, G, L>,
+        message: &RawRequest,
+        reply: &Reply,
+        n: u64,
+    ) -> Result<(), Cause>
+        requires next { n ≡ self.old.requests + 1 }
+        requires unshut { (L.state self.old.link).shut ≡ false }
+        ensures pass { self.new.pass ≡ self.old.pass }
+        ensures gives { (before : Knowledge Mark) (rest : List ℕ) → Owes C.shows C.takes (connection L.state service.now) (record (stage L.state self.old) { known = before }) rest (whole (raw message.now)) → Grows before (known self.old.pass)
+            → IsReply C.shows C.takes (connection L.state service.now) (raw message.now) n reply.now (known self.old.pass)
+            → GoesOn C.shows C.takes (connection L.state service.now) result (stage L.state self.new) rest }
+    {
+        match send(&mut self.link, service.alloc, reply, message.close) {
+            Ok(()) => {
+                self.requests = n;
+                ends_here(message.close)
+            }
+            Err(why) => Err(why),
+        }
+    }
+
+    // Writes the reply to bytes that are refused, behind which nothing comes.
+    fn refuse<R, Cl, G>(
+        &mut self,
+        service: &Service<R, Served<C>, Cl, G, L>,
+        why: Rejection,
+    ) -> Cause
+        requires unshut { (L.state self.old.link).shut ≡ false }
+        ensures pass { self.new.pass ≡ self.old.pass }
+        ensures ends { OwesRefusal C.shows C.takes (connection L.state service.now) (L.state self.old.link) (known self.old.pass) self.old.requests why
+            → EndsBy C.shows C.takes (connection L.state service.now) result (L.state self.new.link) (known self.new.pass) self.new.requests }
+    {
+        match send_refusal(&mut self.link, service.alloc, why) {
+            Ok(()) => Cause::Refused(why),
+            Err(cut) => cut,
+        }
+    }
+
+    // Answers a request.
+    fn answer<R: Wait, Cl: Clock, G: Gate>(
+        &mut self,
+        service: &Service<R, Served<C>, Cl, G, L>,
+        message: &RawRequest,
+    ) -> Result<(), Cause>
+        requires ours { IsOurs (arc_value service.now.board) self.old.pass }
+        requires agent { (0 < service.now.agent) × (service.now.agent ≤ C.agents) }
+        requires unshut { (L.state self.old.link).shut ≡ false }
+        ensures ours { IsOurs (arc_value service.now.board) self.new.pass }
+        ensures goes_on { (rest : List ℕ) → Owes C.shows C.takes (connection L.state service.now) (stage L.state self.old) rest (whole (raw message.now)) → GoesOn C.shows C.takes (connection L.state service.now) result (stage L.state self.new) rest }
+    {
+        let Some(n) = self.requests.checked_add(1) else {
+            return Err(Cause::Memory);
+        };
+        match reply_to(service, &mut self.pass, message, n) {
+            Ok(reply) => {
+                let given = self.give(service, message, &reply, n);
+                discard_reply(reply);
+                given
+            }
+            Err(Memory) => Err(Cause::Memory),
+        }
+    }
+
+    // Does what the reader asks for.
+    fn handle<R: Wait, Cl: Clock, G: Gate>(
+        &mut self,
+        service: &Service<R, Served<C>, Cl, G, L>,
+        got: Got,
+    ) -> Result<(), Cause>
+        requires ours { IsOurs (arc_value service.now.board) self.old.pass }
+        requires agent { (0 < service.now.agent) × (service.now.agent ≤ C.agents) }
+        requires unshut { (L.state self.old.link).shut ≡ false }
+        ensures ours { IsOurs (arc_value service.now.board) self.new.pass }
+        ensures goes_on { (rest : List ℕ) → Comes C.shows C.takes (connection L.state service.now) (stage L.state self.old) rest got → GoesOn C.shows C.takes (connection L.state service.now) result (stage L.state self.new) rest }
+        ensures taking { OnOk result (IsTaking got) }
+    {
+        match got {
+            Got::More => Ok(()),
+            Got::Continue => self.go_on(service),
+            Got::Message(message) => {
+                let answered = self.answer(service, &message);
+                discard_request(message);
+                answered
+            }
+            Got::Refused(why) => Err(self.refuse(service, why)),
+            Got::Memory => Err(Cause::Memory),
+        }
+    }
+
+    // Takes the first bytes of a piece that is not empty, and says how many.
+    fn take_some<R: Wait, Cl: Clock, G: Gate>(
+        &mut self,
+        service: &Service<R, Served<C>, Cl, G, L>,
+        piece: &[u8],
+    ) -> Result<usize, Cause>
+        requires some { 0 < length piece.now }
+        requires ours { IsOurs (arc_value service.now.board) self.old.pass }
+        requires agent { (0 < service.now.agent) × (service.now.agent ≤ C.agents) }
+        requires talks { Talks C.shows C.takes (connection L.state service.now) (stage L.state self.old) piece.now }
+        ensures ours { IsOurs (arc_value service.now.board) self.new.pass }
+        ensures used { IfOk result (λ used. (0 < used) × (used ≤ length piece.now)) }
+        ensures goes_on { MatchResult result
+            (λ used. Talks C.shows C.takes (connection L.state service.now) (stage L.state self.new) (drop used piece.now))
+            (λ why. EndsBy C.shows C.takes (connection L.state service.now) why (L.state self.new.link) (known self.new.pass) self.new.requests) }
+    {
+        let Fed { used, got } = self.reader.feed(piece);
+        match self.handle(service, got) {
+            Ok(()) => Ok(used),
+            Err(why) => Err(why),
+        }
+    }
+
+    // Takes a whole piece that was read.
+    fn take_piece<R: Wait, Cl: Clock, G: Gate>(
+        &mut self,
+        service: &Service<R, Served<C>, Cl, G, L>,
+        piece: &[u8],
+    ) -> Result<(), Cause>
+        requires ours { IsOurs (arc_value service.now.board) self.old.pass }
+        requires agent { (0 < service.now.agent) × (service.now.agent ≤ C.agents) }
+        requires talks { Talks C.shows C.takes (connection L.state service.now) (stage L.state self.old) piece.now }
+        ensures ours { IsOurs (arc_value service.now.board) self.new.pass }
+        ensures goes_on { GoesOn C.shows C.takes (connection L.state service.now) result (stage L.state self.new) [] }
+    {
+        let mut done = 0;
+        while done < piece.len() {
+            match self.take_some(service, &piece[done..]) {
+                Ok(used) => done += used,
+                Err(why) => return Err(why),
+            }
+        }
+        Ok(())
+    }
+
+    // Reads the next bytes, and says how many.
+    fn read_some<R, Cl, G>(
+        &mut self,
+        service: &Service<R, Served<C>, Cl, G, L>,
+        buffer: &mut [u8],
+    ) -> Result<usize, Cause>
+        requires room { 0 < length buffer.old }
+        requires talks { Talks C.shows C.takes (connection L.state service.now) (stage L.state self.old) [] }
+        ensures most { IfOk result (λ n. n ≤ length buffer.new) }
+        ensures room { length buffer.new ≡ length buffer.old }
+        ensures pass { self.new.pass ≡ self.old.pass }
+        ensures goes_on { MatchResult result
+            (λ n. Talks C.shows C.takes (connection L.state service.now) (stage L.state self.new) (take n buffer.new))
+            (λ why. EndsBy C.shows C.takes (connection L.state service.now) why (L.state self.new.link) (known self.new.pass) self.new.requests) }
+    {
+        match self.link.read(buffer) {
+            Ok(0) => Err(Cause::Closed),
+            Ok(count) => Ok(count),
+            Err(Failed) => Err(Cause::ReadFault),
+        }
+    }
+
+    /// Serves the connection to its end, and says why it ended.
+    pub(crate) fn serve<R: Wait, Cl: Clock, G: Gate>(
+        &mut self,
+        service: &Service<R, Served<C>, Cl, G, L>,
+    ) -> Cause
+        requires ours { IsOurs (arc_value service.now.board) self.old.pass }
+        requires agent { (0 < service.now.agent) × (service.now.agent ≤ C.agents) }
+        requires talks { Talks C.shows C.takes (connection L.state service.now) (stage L.state self.old) [] }
+        ensures ours { IsOurs (arc_value service.now.board) self.new.pass }
+        ensures ends { EndsBy C.shows C.takes (connection L.state service.now) result (L.state self.new.link) (known self.new.pass) self.new.requests }
+    {
+        let mut buffer = [0; ROOM];
+        for _ in service.rt.forever() {
+            match self.read_some(service, &mut buffer) {
+                Ok(count) => match self.take_piece(service, &buffer[..count]) {
+                    Ok(()) => {}
+                    Err(why) => return why,
+                },
+                Err(why) => return why,
+            }
+        }
+        unreachable!()
+    }
+}

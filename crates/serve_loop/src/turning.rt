@@ -1,0 +1,131 @@
+//! A connection's request, from its asking to its reply.
+
+ghost use Rattle.std.specs.Prelude.{◌≡◌, IfOk, IfSome, MatchOption};
+ghost use Rattle.turn_lock.specs.Lists.{Among};
+ghost use Rattle.turn_lock.specs.Passes.{IsFree, IsSame};
+ghost use Rattle.serve_loop.specs.declared.cluster.Ask.{Ask as SpecAsk};
+ghost use Rattle.serve_loop.specs.Boards.{known};
+ghost use Rattle.serve_loop.specs.Marks.{Fits};
+ghost use Rattle.serve_loop.specs.Waiting.{Grows, IsAnswered, IsBehind, Stands, Waits};
+
+use crate::cluster::{Ask, Collected, SharedCluster};
+use crate::served::{Served, Turned};
+use cat_model::Memory;
+use open_requests::Reply;
+use serve_outside::{Clock, Gate};
+use std::alloc::Global;
+use std::sync::Wait;
+use turn_lock::{HistoryLock, Pass};
+
+/// The first turn of a request, if the cluster takes it.
+pub(crate) fn first_turn<R: Wait, C: SharedCluster>(
+    rt: &R,
+    alloc: Global,
+    lock: &HistoryLock<Served<C>>,
+    pass: &mut Pass<Served<C>>,
+    now: u64,
+    ask: Ask,
+) -> Result<Option<Turned>, Memory>
+    requires own { pass.old.seat.table_id ≡ lock.now.table.shared.table_id }
+    requires free { IsFree pass.old.seat }
+    requires fits { Fits C.agents ask }
+    ensures own { IsSame pass.old.seat pass.new.seat }
+    ensures free { IsFree pass.new.seat }
+    ensures grown { Grows (known pass.old) (known pass.new) }
+    ensures behind { IfOk result (λ o. IfSome o (λ t. IsBehind t.number ask (known pass.old).seen (known pass.new).seen)) }
+    ensures stands { IfOk result (λ o. MatchOption o (C.takes ask.asked → ⊥) (λ t. Stands C.shows t.number ask t.got (known pass.new))) }
+{
+    let mut turn = lock.take(rt, pass);
+    let turned = turn.state().asking_turn(alloc, now, ask);
+    lock.give(turn, pass);
+    turned
+}
+
+/// A later turn of a request that waits.
+pub(crate) fn next_turn<R: Wait, C: SharedCluster>(
+    rt: &R,
+    alloc: Global,
+    lock: &HistoryLock<Served<C>>,
+    pass: &mut Pass<Served<C>>,
+    now: u64,
+    number: u64,
+) -> Result<Turned, Memory>
+    requires own { pass.old.seat.table_id ≡ lock.now.table.shared.table_id }
+    requires free { IsFree pass.old.seat }
+    requires mine { Among number (known pass.old).mine }
+    ensures own { IsSame pass.old.seat pass.new.seat }
+    ensures free { IsFree pass.new.seat }
+    ensures grown { Grows (known pass.old) (known pass.new) }
+    ensures stands { IfOk result (λ t. (ask : SpecAsk) → Waits number ask (known pass.old).seen (known pass.old).mine → Stands C.shows t.number ask t.got (known pass.new)) }
+{
+    let mut turn = lock.take(rt, pass);
+    let turned = turn.state().turn(alloc, now, None, number);
+    lock.give(turn, pass);
+    turned
+}
+
+/// Asks, and looks again and again until the reply is there; none comes where the cluster does not take the request.
+pub(crate) fn ask_and_wait<R: Wait, C: SharedCluster, Cl: Clock, G: Gate>(
+    rt: &R,
+    alloc: Global,
+    lock: &HistoryLock<Served<C>>,
+    pass: &mut Pass<Served<C>>,
+    clock: &Cl,
+    gate: &G,
+    ask: Ask,
+) -> Result<Option<Reply>, Memory>
+    requires own { pass.old.seat.table_id ≡ lock.now.table.shared.table_id }
+    requires free { IsFree pass.old.seat }
+    requires fits { Fits C.agents ask }
+    ensures own { IsSame pass.old.seat pass.new.seat }
+    ensures free { IsFree pass.new.seat }
+    ensures grown { Grows (known pass.old) (known pass.new) }
+    ensures answered { IfOk result (λ o. MatchOption o (C.takes ask.asked → ⊥) (λ reply. IsAnswered C.shows ask reply (known pass.new).seen (known pass.new).mine)) }
+{
+    match first_turn(rt, alloc, lock, pass, clock.now_ms(), ask) {
+        Ok(Some(turned)) => match wait_for(rt, alloc, lock, pass, clock, gate, turned) {
+            Ok(reply) => Ok(Some(reply)),
+            Err(Memory) => Err(Memory),
+        },
+        Ok(None) => Ok(None),
+        Err(Memory) => Err(Memory),
+    }
+}
+
+// Looks again and again until the reply is there.
+fn wait_for<R: Wait, C: SharedCluster, Cl: Clock, G: Gate>(
+    rt: &R,
+    alloc: Global,
+    lock: &HistoryLock<Served<C>>,
+    pass: &mut Pass<Served<C>>,
+    clock: &Cl,
+    gate: &G,
+    turned: Turned,
+) -> Result<Reply, Memory>
+    requires own { pass.old.seat.table_id ≡ lock.now.table.shared.table_id }
+    requires free { IsFree pass.old.seat }
+    requires stands { (ask : SpecAsk) × Stands C.shows turned.number ask turned.got (known pass.old) }
+    ensures own { IsSame pass.old.seat pass.new.seat }
+    ensures free { IsFree pass.new.seat }
+    ensures grown { Grows (known pass.old) (known pass.new) }
+    ensures answered { IfOk result (λ reply. (ask : SpecAsk) → Stands C.shows turned.number ask turned.got (known pass.old)
+        → IsAnswered C.shows ask reply (known pass.new).seen (known pass.new).mine) }
+{
+    let Turned { mut number, mut got } = turned;
+    for _ in rt.forever() {
+        match got {
+            Collected::Ready(reply) => return Ok(reply),
+            Collected::NotYet => {}
+            Collected::Closed | Collected::Gone => unreachable!(),
+        }
+        gate.idle(number);
+        match next_turn(rt, alloc, lock, pass, clock.now_ms(), number) {
+            Ok(turned) => {
+                number = turned.number;
+                got = turned.got;
+            }
+            Err(Memory) => return Err(Memory),
+        }
+    }
+    unreachable!()
+}

@@ -1,0 +1,122 @@
+//! Writing whole pieces to a link.
+
+ghost use Rattle.std.specs.Prelude.{◌≡◌, ◌<◌, ◌≤◌, false, true, IfErr, IfOk, MatchResult, OnErr, length, take};
+ghost use Rattle.std.specs.Io.KnownBytes.{append_known};
+ghost use Rattle.http_wire.specs.Replies.{continue_bytes};
+ghost use Rattle.http_wire.specs.Rejections.{answer_to};
+ghost use Rattle.serve_loop.specs.Replies as spec;
+ghost use Rattle.serve_loop.specs.Stages.{IsAfterWrite, StopsBy, Wrote};
+
+use crate::cause::Cause;
+use crate::replies::{refusing, text_of};
+use cat_model::{Bytes, Memory};
+use cat_outside::KeepFail;
+use http_wire::{Rejection, write_continue};
+use open_requests::Reply;
+use serve_outside::Link;
+use std::alloc::Global;
+
+// Writes the first bytes of a piece that is not empty, and says how many.
+#[tactic(auto, using(crate::proofs::Written::after_of, crate::proofs::Written::said_same))]
+fn write_some<L: Link>(link: &mut L, piece: &[u8]) -> Result<usize, Cause>
+    requires some { 0 < length piece.now }
+    requires unshut { (L.state link.old).shut ≡ false }
+    ensures some { IfOk result (λ count. 0 < count) }
+    ensures most { IfOk result (λ count. count ≤ length piece.now) }
+    ensures said { MatchResult result
+        (λ count. (L.state link.new).said ≡ append_known (L.state link.old).said (take count piece.now))
+        (λ _. (L.state link.new).said ≡ (L.state link.old).said) }
+    ensures stopped { IfErr result (λ why. StopsBy why (L.state link.old).write_faults (L.state link.new).write_faults) }
+    ensures after { IsAfterWrite (L.state link.old) (L.state link.new) }
+{
+    match link.write(piece) {
+        Ok(0) => Err(Cause::WriteFault),
+        Ok(count) => Ok(count),
+        Err(KeepFail::Failed) => Err(Cause::WriteFault),
+        Err(KeepFail::Memory) => Err(Cause::Memory),
+    }
+}
+
+/// Writes a whole piece, in as many calls as it takes.
+pub(crate) fn write_whole<L: Link>(link: &mut L, piece: &[u8]) -> Result<(), Cause>
+    requires unshut { (L.state link.old).shut ≡ false }
+    ensures { Wrote (L.state link.old) piece.now result (L.state link.new) }
+{
+    let mut done = 0;
+    while done < piece.len() {
+        match write_some(link, &piece[done..]) {
+            Ok(count) => done += count,
+            Err(why) => return Err(why),
+        }
+    }
+    Ok(())
+}
+
+/// Writes a reply, its bytes in one piece.
+#[tactic(auto, using(crate::proofs::Written::wrote_none))]
+pub(crate) fn send<L: Link>(
+    link: &mut L,
+    alloc: Global,
+    reply: &Reply,
+    close: bool,
+) -> Result<(), Cause>
+    requires unshut { (L.state link.old).shut ≡ false }
+    ensures { Wrote (L.state link.old) (spec.text_of reply.now close) result (L.state link.new) }
+{
+    match text_of(alloc, reply, close) {
+        Ok(text) => write_whole(link, text.as_slice()),
+        Err(Memory) => Err(Cause::Memory),
+    }
+}
+
+/// Writes that the client may go on with the body of its request.
+#[tactic(auto, using(crate::proofs::Written::wrote_none))]
+pub(crate) fn send_continue<L: Link>(link: &mut L, alloc: Global) -> Result<(), Cause>
+    requires unshut { (L.state link.old).shut ≡ false }
+    ensures { Wrote (L.state link.old) continue_bytes result (L.state link.new) }
+{
+    match continue_text(alloc) {
+        Ok(text) => write_whole(link, text.as_slice()),
+        Err(Memory) => Err(Cause::Memory),
+    }
+}
+
+fn continue_text(alloc: Global) -> Result<Bytes, Memory>
+    ensures { IfOk result (λ text. text ≡ continue_bytes) }
+{
+    let mut text = Bytes::new(alloc, b"")?;
+    write_continue(&mut text)?;
+    Ok(text)
+}
+
+fn discard(_: Reply) {}
+
+/// Writes the reply to bytes that are refused, behind which the connection ends.
+#[tactic(auto, using(crate::proofs::Written::wrote_none))]
+pub(crate) fn send_refusal<L: Link>(
+    link: &mut L,
+    alloc: Global,
+    why: Rejection,
+) -> Result<(), Cause>
+    requires unshut { (L.state link.old).shut ≡ false }
+    ensures { Wrote (L.state link.old) (spec.text_of (spec.refusing (answer_to why)) true) result (L.state link.new) }
+{
+    match refusal_of(alloc, why) {
+        Ok(reply) => {
+            let sent = send(link, alloc, &reply, true);
+            discard(reply);
+            sent
+        }
+        Err(Memory) => Err(Cause::Memory),
+    }
+}
+
+// The reply to bytes that are refused.
+fn refusal_of(alloc: Global, why: Rejection) -> Result<Reply, Memory>
+    ensures { IfOk result (λ reply. reply ≡ spec.refusing (answer_to why)) }
+{
+    match why.refusal(alloc) {
+        Ok(refusal) => refusing(refusal),
+        Err(Memory) => Err(Memory),
+    }
+}
