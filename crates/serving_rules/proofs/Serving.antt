@@ -16,7 +16,7 @@ use Rattle.cluster_rules.proofs.Reached.{run_sound}
 use Rattle.cluster_rules.proofs.Marks.{marks_are_moves}
 use Rattle.cluster_rules.proofs.Tools.{each_in}
 use Rattle.cluster_turns.specs.Turns.{FindsNoMemory}
-use Rattle.cluster_turns.specs.Pairs.{IsSettled, IsPartlySettled, IsPartOfPair, settled}
+use Rattle.cluster_turns.specs.Pairs.{IsPartlySettled, IsPartOfPair, settled}
 use Rattle.script_runs.specs.Holds.{IsFirstStart}
 use Rattle.script_runs.proofs.Holding.{a_start}
 use Rattle.serving_rules.specs.Keeping.{Keeps}
@@ -106,9 +106,9 @@ marked_pairs agents n c e = record {
 plus_none : (n : ℕ) → n + 0 ≡ n
 plus_none n = omega arith
 
-pub settled_on : (agents most pairs : ℕ) (c c' : Cluster) → Serves agents c → IsSettled most pairs c c' → Serves agents c'
-settled_on agents most pairs c c' s (few, (c₁, all, stops, is)) =
-    subst (Serves agents) (sym is) (marked_pairs agents pairs c₁ (subst (λ z. EndsInPairs agents z c₁) (plus_none pairs) (settling_on agents pairs 0 c c₁ (no_pairs agents c s) all)))
+pub settled_on : (agents pairs : ℕ) (c mid c' : Cluster) → Serves agents c → Settling pairs c mid → c' ≡ settled pairs mid → Serves agents c'
+settled_on agents pairs c mid c' s all is =
+    subst (Serves agents) (sym is) (marked_pairs agents pairs mid (subst (λ z. EndsInPairs agents z mid) (plus_none pairs) (settling_on agents pairs 0 c mid (no_pairs agents c s) all)))
 
 part_on : (agents : ℕ) (c c' : Cluster) → Serves agents c → IsPartOfPair c c' → Serves agents c'
 part_on agents c c' s (inl e) = subst (Serves agents) (sym e) s

@@ -6,11 +6,11 @@ ghost use Rattle.cat_model.specs.declared.request.Draw.{Draw};
 ghost use Rattle.cat_model.specs.declared.request.Event.TheVariants as event;
 ghost use Rattle.cat_model.specs.declared.reply.Mark.TheVariants as mark;
 ghost use Rattle.cluster_rules.specs.Cluster.{Cluster};
-ghost use Rattle.cluster_rules.specs.Reached.{Fits};
+ghost use Rattle.cluster_rules.specs.Reached.{Fits, Settling};
 ghost use Rattle.cluster_rules.specs.Replies.{Closed, Out, number_of};
 ghost use Rattle.cluster_rules.specs.Sound.{Sound};
 ghost use Rattle.cluster_rules.specs.Step.{ClusterStep};
-ghost use Rattle.cluster_turns.specs.Pairs.{IsPartlySettled, IsSettled};
+ghost use Rattle.cluster_turns.specs.Pairs.{IsPartlySettled, settled};
 ghost use Rattle.script_runs.specs.Holds.{IsFirstStart};
 ghost use Rattle.serving_rules.specs.Serving.{Serves};
 
@@ -31,7 +31,7 @@ pub fn ticks_serve()
 
 /// So do deliveries, each followed by that message's loss.
 pub fn deliveries_serve()
-    ensures whole { (agents most pairs : ℕ) (c c' : Cluster) → Serves agents c → IsSettled most pairs c c' → Serves agents c' }
+    ensures whole { (agents pairs : ℕ) (c mid c' : Cluster) → Serves agents c → Settling pairs c mid → c' ≡ settled pairs mid → Serves agents c' }
     ensures cut { (agents most : ℕ) (c c' : Cluster) → Serves agents c → IsPartlySettled most c c' → Serves agents c' }
 {}
 
