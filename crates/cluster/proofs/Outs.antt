@@ -14,7 +14,7 @@ use Rattle.open_requests.specs.declared.collected.Collected.{Collected}
 use Rattle.open_requests.specs.declared.collected.Collected.TheVariants as collected
 use Rattle.cluster.specs.Standing.{Stands}
 use Rattle.cluster_interface.specs.Interface.{TakesFirst}
-use Rattle.cluster.specs.Taking.{Collects, Takes}
+use Rattle.cluster_interface.specs.Taking.{Collects, Takes}
 
 noted_taken : (log : Log) (number : Option ℕ) (notes : List Note) → past_of log (taken_note number notes) ≡ taken number (past_of log notes)
 noted_taken log None notes = refl

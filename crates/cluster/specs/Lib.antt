@@ -7,5 +7,4 @@ pub mod Looking
 pub mod Moving
 pub mod Playing
 pub mod Standing
-pub mod Taking
 pub mod Working

@@ -1,10 +1,10 @@
 //! The cluster over stores in memory, as its front ends see it.
 
 use crate::cluster::Cluster;
-use cat_model::{Entry, Event, List, Memory};
+use cat_model::{Asked, Draw, Entry, Event, List, Memory};
 use cat_outside::MemKeeper;
 use cluster_interface::{ClusterInterface, History};
-use open_requests::Out;
+use open_requests::{Collected, Out};
 use script_runs::Misfit;
 use std::alloc::Global;
 
@@ -23,6 +23,16 @@ impl ClusterInterface for Cluster<MemKeeper> {
         self.step(alloc, &event)
     }
 
+    fn ask(
+        &mut self,
+        alloc: Global,
+        agent: u32,
+        asked: &Asked,
+        draw: Draw,
+    ) -> Result<u64, Memory> {
+        self.ask(alloc, agent, asked, draw)
+    }
+
     fn settle(&mut self, alloc: Global, most: u32) -> Result<u32, Memory> {
         self.settle(alloc, most)
     }
@@ -31,8 +41,16 @@ impl ClusterInterface for Cluster<MemKeeper> {
         self.next_out()
     }
 
+    fn collect(&mut self, number: u64) -> Collected {
+        self.collect(number)
+    }
+
     fn asked(&self) -> u64 {
         self.asked()
+    }
+
+    fn agents(&self) -> u32 {
+        self.agents()
     }
 
     fn servers(&self) -> u32 {

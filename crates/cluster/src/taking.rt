@@ -4,7 +4,7 @@ ghost use Rattle.std.specs.Prelude.{◌≡◌, ◌≤◌, ◌<◌, IfOk, length,
 ghost use Rattle.cluster_rules.specs.Cluster.{applied_of};
 ghost use Rattle.cluster_rules.specs.Reached.{IsServerNumber};
 ghost use Rattle.cluster_interface.specs.Interface.{TakesFirst};
-ghost use Rattle.cluster.specs.Taking.{Collects};
+ghost use Rattle.cluster_interface.specs.Taking.{Collects};
 
 use crate::cluster::Cluster;
 use cat_model::{Entry, List, Memory};

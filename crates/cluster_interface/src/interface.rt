@@ -1,12 +1,18 @@
-ghost use Rattle.std.specs.Prelude.{◌≡◌, ◌<◌, ◌≤◌, IfOk, OnOk, MatchResult, None, Some, length, reverse, true};
+ghost use Rattle.std.specs.Prelude.{◌≡◌, ◌<◌, ◌≤◌, IfOk, OnErr, OnOk, MatchResult, None, Some, length, reverse, true};
+ghost use Rattle.cat_model.specs.declared.request.Event.TheVariants as event;
 ghost use Rattle.cluster_rules.specs.Cluster.{Cluster, applied_of};
+ghost use Rattle.cluster_rules.specs.Reached.{IsAgentNumber};
 ghost use Rattle.cluster_rules.specs.Step.{ClusterStep};
+ghost use Rattle.cluster_turns.specs.Pairs.{IsPartlySettled};
+ghost use Rattle.cluster_turns.specs.Turns.{FindsNoMemory};
 ghost use Rattle.script_runs.specs.Lines.{misfit};
 ghost use Rattle.script_runs.specs.Holds.{IsFirstStart};
+ghost use Rattle.script_runs.specs.Taken.{IsTakenAsked};
 ghost use Rattle.cluster_interface.specs.Interface.{IsPlayed, SettlesTo, TakesFirst, held_numbers};
+ghost use Rattle.cluster_interface.specs.Taking.{Collects};
 
-use cat_model::{Entry, Event, List, Mark, Memory};
-use open_requests::Out;
+use cat_model::{Asked, Draw, Entry, Event, List, Mark, Memory};
+use open_requests::{Collected, Out};
 use script_runs::Misfit;
 use std::alloc::Global;
 
@@ -38,23 +44,50 @@ pub trait ClusterInterface: Drop {
     fn fits(&self, event: &Event) -> Result<(), Misfit>
         ensures { MatchResult result (λ _. misfit (state self.now) event.now ≡ None) (λ why. misfit (state self.now) event.now ≡ Some why) };
 
-    /// Makes the event, whole. What it gives waits to be taken.
+    /// Makes the event, whole. What it gives waits to be taken. After `Memory` nothing has changed, or the event was
+    /// cut short.
     fn step(&mut self, alloc: Global, event: Event) -> Result<(), Memory>
         requires fits { misfit (state self.old) event ≡ None }
         requires built { IsPlayed event }
-        ensures { OnOk result (ClusterStep (state self.old) event (state self.new) true) };
+        ensures whole { OnOk result (ClusterStep (state self.old) event (state self.new) true) }
+        ensures cut { OnErr result (FindsNoMemory event (state self.old) (state self.new)) };
+
+    /// Asks an agent, and gives the request's number. What it gives waits to be taken. After `Memory` nothing has
+    /// changed, or the event was cut short.
+    fn ask(
+        &mut self,
+        alloc: Global,
+        agent: u32,
+        asked: &Asked,
+        draw: Draw,
+    ) -> Result<u64, Memory>
+        requires agent { IsAgentNumber (state self.old) agent }
+        requires built { IsTakenAsked asked.now }
+        ensures whole { OnOk result (ClusterStep (state self.old) (event.Ask agent asked.now draw) (state self.new) true) }
+        ensures number { IfOk result (λ number. number ≡ (state self.new).asked) }
+        ensures cut { OnErr result (FindsNoMemory (event.Ask agent asked.now draw) (state self.old) (state self.new)) };
 
     /// Delivers messages and then loses them, the lowest first: so many, or until none is left. Says how many.
     fn settle(&mut self, alloc: Global, most: u32) -> Result<u32, Memory>
-        ensures { IfOk result (SettlesTo most (state self.old) (state self.new)) };
+        ensures whole { IfOk result (SettlesTo most (state self.old) (state self.new)) }
+        ensures cut { OnErr result (IsPartlySettled most (state self.old) (state self.new)) };
 
     /// Takes the first out that waits, and marks that a request's was taken.
     fn next_out(&mut self) -> Option<Out>
         ensures { TakesFirst (state self.old) (state self.new) result };
 
+    /// Takes a request's reply or closing, or says what the request waits for. There is neither where it was taken
+    /// before or never asked.
+    fn collect(&mut self, number: u64) -> Collected
+        ensures { Collects number result (state self.old) (state self.new) };
+
     /// How many requests were asked.
     fn asked(&self) -> u64
         ensures { result ≡ (state self.now).asked };
+
+    /// How many agents there are.
+    fn agents(&self) -> u32
+        ensures { result ≡ length (state self.now).agents };
 
     /// How many servers there are.
     fn servers(&self) -> u32

@@ -5,3 +5,4 @@ pub mod Writes
 pub mod Others
 pub mod Refusals
 pub mod Contents
+pub mod Written

@@ -1,8 +1,10 @@
-//! The status, body and form of what a reply shows. Bodies are compact JSON, plain text, or the bytes of a value.
+//! The status, body and form of what a reply shows, and the reply with them. Bodies are compact JSON, plain text, or
+//! the bytes of a value.
 #![tactic(auto)]
 
 mod catalog;
 mod content;
+mod given;
 mod json;
 mod named;
 mod reads;
@@ -13,4 +15,5 @@ mod shown;
 mod writes;
 
 pub use content::body;
+pub use given::written;
 pub use shown::Shown;

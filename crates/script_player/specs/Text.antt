@@ -2,31 +2,17 @@
 use Rattle.std.specs.Prelude.{ℕ, List, [], ◌++◌, length, codes}
 use Rattle.std.specs.List.{flat_map}
 use Rattle.std.specs.Fmt.{decimal}
-use Rattle.cat_model.specs.declared.reply.Reply.{Reply}
 use Rattle.cat_model.specs.declared.reply.Out as out
 use Rattle.cluster_rules.specs.Replies as rules
 use Rattle.cluster_rules.specs.Cluster.{Cluster}
-use Rattle.reply_body.specs.Contents.{shown_content}
+use Rattle.reply_body.specs.Written.{written}
 use Rattle.script_lang.specs.Text.{out_text, end_text}
 use Rattle.script_runs.specs.Plays.{Ending, Whole, Refused, Broken}
 use Rattle.cluster_interface.specs.Interface.{held_numbers}
 
--- a reply with the status, body and form of its content
-abbrev pub given_reply : rules.Reply → Reply
-given_reply reply = record {
-  number = reply.number;
-  status = (shown_content reply.content).status;
-  index = reply.index;
-  body = (shown_content reply.content).body;
-  form = (shown_content reply.content).form;
-  known_leader = reply.known;
-  last_contact = reply.contact;
-  kind = reply.kind;
-}
-
 -- an out of the cluster as it is given to the outside
 abbrev pub given : rules.Out → out.Out
-given (rules.Replied reply) = out.TheVariants.Reply (given_reply reply)
+given (rules.Replied reply) = out.TheVariants.Reply (written reply)
 given (rules.Closed number event) = out.TheVariants.Closed number event
 given (rules.Synced agent count) = out.TheVariants.Synced agent count
 

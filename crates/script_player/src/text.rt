@@ -4,35 +4,18 @@ ghost use Rattle.open_requests.specs.Contents.{out_of};
 ghost use Rattle.script_player.specs.Text as spec;
 
 use crate::refused::Refused;
-use cat_model::{Bytes, Memory, Out, Reply};
+use cat_model::{Bytes, Memory, Out};
 use open_requests::Given;
-use reply_body::{Shown, body};
+use reply_body::written;
 use script_lang::{print_end, print_out, print_refused};
 use std::alloc::Global;
-
-// The reply with the status, body and form of its content.
-fn given_reply(alloc: Global, reply: &open_requests::Reply) -> Result<Reply, Memory>
-    ensures { IfOk result (λ r. r ≡ spec.given_reply reply.now) }
-{
-    let Shown { status, body, form } = body(alloc, reply.content())?;
-    Ok(Reply {
-        number: reply.number(),
-        status,
-        index: reply.index(),
-        body,
-        form,
-        known_leader: reply.known(),
-        last_contact: reply.contact(),
-        kind: reply.kind().clone()?,
-    })
-}
 
 // What the out gives, as it is given to the outside.
 fn outward(alloc: Global, given: &Given) -> Result<Out, Memory>
     ensures { IfOk result (λ o. o ≡ spec.given (out_of given.now)) }
 {
     match given {
-        Given::Replied(reply) => Ok(Out::Reply(given_reply(alloc, reply)?)),
+        Given::Replied(reply) => Ok(Out::Reply(written(alloc, reply)?)),
         Given::Closed { number, event } => Ok(Out::Closed {
             number: *number,
             event: *event,

@@ -1,3 +1,4 @@
+pub mod Drawing
 pub mod InMemory
 pub mod Links
 pub mod Tasks

@@ -1,5 +1,9 @@
 //! Adapters over the machine's clock.
 
+ghost use Rattle.std.specs.Prelude.{◌≡◌, [], ◌∷◌, ◌++◌, None};
+ghost use Rattle.std.specs.Option.{option_map};
+ghost use Rattle.serve_outside.specs.Drawing.{next_draw};
+
 use crate::{Clock, Gate, Words};
 use cat_model::Draw;
 use rand_core::Rng;
@@ -76,7 +80,10 @@ impl Words for SeededWords {
 
     ghost draws = { λ _. None };
 
-    fn draw(&mut self) -> Draw {
+    fn draw(&mut self) -> Draw
+        ensures untold { None ≡ option_map (λ before. before ++ result ∷ []) None }
+        ensures next { (result, ⟦<Pcg64 as Rng>⟧.stream self.new.generator) ≡ next_draw (⟦<Pcg64 as Rng>⟧.stream self.old.generator) }
+    {
         let hi = self.generator.next_u64();
         let lo = self.generator.next_u64();
         Draw { hi, lo }

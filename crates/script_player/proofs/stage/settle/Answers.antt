@@ -3,4 +3,4 @@ use Rattle.script_player.proofs.stage.settle.Goals as goal
 
 pub returns-in-Err-write_outs-clause-part : goal.returns-in-Err-write_outs-clause-part
 returns-in-Err-write_outs-clause-part g c =
-    settled_first _ _ c.args.most c.in-Ok.pairs _ _ c.in-Ok.ensures c.in-Err-write_outs.ensures.part
+    settled_first _ _ c.args.most c.in-Ok.pairs _ _ c.in-Ok.ensures.whole c.in-Err-write_outs.ensures.part

@@ -1,0 +1,11 @@
+//! Tests of the outside of a server, in memory and over the machine. There is no code beside them.
+#![tactic(auto)]
+
+#[cfg(test)]
+mod echo;
+#[cfg(test)]
+mod links;
+#[cfg(test)]
+mod machine;
+#[cfg(test)]
+mod starting;

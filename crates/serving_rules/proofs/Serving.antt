@@ -1,0 +1,160 @@
+-- Whatever is done to a cluster that serves leaves it serving.
+use Rattle.std.proofs.Common.{◌≡◌, ◌≤◌, ◌⊎◌, ℕ, suc, ◌+◌, Bool, true, false, inl, inr, List, [], ◌∷◌, ◌++◌, length, refl, sym, ◌∙◌, ap, subst, arith, Option, Some, None}
+use Rattle.std.specs.Prelude.{◌&&◌}
+use Rattle.cat_model.specs.declared.request.Asked.{Asked}
+use Rattle.cat_model.specs.declared.request.Draw.{Draw}
+use Rattle.cat_model.specs.declared.request.Event.{Event}
+use Rattle.cat_model.specs.declared.request.Event.TheVariants as event
+use Rattle.cat_model.specs.declared.reply.Mark.{Mark}
+use Rattle.cat_model.specs.declared.reply.Mark.TheVariants as mark
+use Rattle.cluster_rules.specs.Replies.{Out, Closed, number_of}
+use Rattle.cluster_rules.specs.Cluster.{Cluster}
+use Rattle.cluster_rules.specs.Step.{ClusterStep, marked, noted}
+use Rattle.cluster_rules.specs.Reached.{Move, Makes, Takes, Settles, Advances, Fits, Reached, at_start, by_event, by_taking, by_settling, EndInPairs, Settling, none, pair, moves_of}
+use Rattle.cluster_rules.specs.Sound.{Sound, IsAmong, OutIsSound, RestartedAt}
+use Rattle.cluster_rules.proofs.Reached.{run_sound}
+use Rattle.cluster_rules.proofs.Marks.{marks_are_moves}
+use Rattle.cluster_rules.proofs.Tools.{each_in}
+use Rattle.cluster_turns.specs.Turns.{FindsNoMemory}
+use Rattle.cluster_turns.specs.Pairs.{IsPartlySettled, IsPartOfPair, settled}
+use Rattle.script_runs.specs.Holds.{IsFirstStart}
+use Rattle.script_runs.proofs.Holding.{a_start}
+use Rattle.serving_rules.specs.Keeping.{Keeps}
+use Rattle.serving_rules.specs.Serving.{IsServing, AreServing, Serves}
+use Rattle.serving_rules.proofs.Keeping.{step_keeps}
+
+abbrev pub begins : (agents : ℕ) (c : Cluster) → IsFirstStart c → length c.agents ≡ agents → Serves agents c
+begins agents c b n = record { start = c; whole = true; moves = []; begins = b; reached = at_start; serving = tt; count = n }
+
+pub is_sound : (agents : ℕ) (c : Cluster) → Serves agents c → Sound c
+is_sound agents c s = run_sound s.start (a_start s.start s.begins) s.whole s.moves c s.reached
+
+marked_agents : (made : Event) (c : Cluster) → length (marked made c).agents ≡ length c.agents
+marked_agents (event.Ask agent asked draw) c = refl
+marked_agents other c = refl
+
+-- how many agents there are after a step
+pub agents_after : (c c' : Cluster) (made : Event) (whole : Bool) → ClusterStep c made c' whole → length c'.agents ≡ length c.agents
+agents_after c c' made whole s = either (step_keeps c c' made whole s)
+  where
+    either : Keeps (marked made c) c' ⊎ (Keeps (noted made c) c' × (whole ≡ false)) → length c'.agents ≡ length c.agents
+    either (inl k) = k.agents ∙ marked_agents made c
+    either (inr k) = k.0.agents
+
+-- an event that may come behind what was done before
+abbrev by_move : (agents : ℕ) (c c' : Cluster) (made : Event) (whole : Bool) → (s : Serves agents c) → IsServing (Makes made) s.moves → Fits c made → ClusterStep c made c' whole → Serves agents c'
+by_move agents c c' made whole s may fits step = record {
+  start = s.start;
+  whole = s.whole && whole;
+  moves = Makes made ∷ s.moves;
+  begins = s.begins;
+  reached = by_event made whole s.reached fits step;
+  serving = (may, s.serving);
+  count = agents_after c c' made whole step ∙ s.count;
+}
+
+pub elected : (agents : ℕ) (c c' : Cluster) (whole : Bool) → IsFirstStart c → length c.agents ≡ agents → Fits c (event.Timeout 1) → ClusterStep c (event.Timeout 1) c' whole → Serves agents c'
+elected agents c c' whole b n fits step = by_move agents c c' (event.Timeout 1) whole (begins agents c b n) (refl, refl) fits step
+
+pub asked_on : (agents : ℕ) (c c' : Cluster) (agent : ℕ) (asked : Asked) (draw : Draw) (whole : Bool) → Serves agents c → Fits c (event.Ask agent asked draw) → ClusterStep c (event.Ask agent asked draw) c' whole → Serves agents c'
+asked_on agents c c' agent asked draw whole s fits step = by_move agents c c' (event.Ask agent asked draw) whole s tt fits step
+
+pub ticked_on : (agents : ℕ) (c c' : Cluster) (server ms : ℕ) (whole : Bool) → Serves agents c → Fits c (event.Tick server ms) → ClusterStep c (event.Tick server ms) c' whole → Serves agents c'
+ticked_on agents c c' server ms whole s fits step = by_move agents c c' (event.Tick server ms) whole s tt fits step
+
+all_whole : (b : Bool) → (b && true) ≡ b
+all_whole true = refl
+all_whole false = refl
+
+-- a run that ends in so many pairs
+record EndsInPairs (agents n : ℕ) (c : Cluster) : Type 0 where
+  pub serves : Serves agents c
+  pub pairs : EndInPairs n serves.moves
+
+-- a delivery and then the same message's loss
+pair_on : (agents n : ℕ) (c c₁ c₂ : Cluster) (k : ℕ) → EndsInPairs agents n c → Fits c (event.Deliver k) → ClusterStep c (event.Deliver k) c₁ true → Fits c₁ (event.Drop k) → ClusterStep c₁ (event.Drop k) c₂ true → EndsInPairs agents (suc n) c₂
+pair_on agents n c c₁ c₂ k e fits first fits' second =
+    let s = by_move agents c c₁ (event.Deliver k) true e.serves tt fits first in
+    record { serves = by_move agents c₁ c₂ (event.Drop k) true s refl fits' second; pairs = (refl, e.pairs) }
+
+settling_on : (agents n m : ℕ) (c c' : Cluster) → EndsInPairs agents m c → Settling n c c' → EndsInPairs agents (n + m) c'
+settling_on agents n m c c' e none = subst (λ z. EndsInPairs agents z c) (plus m) e
+  where
+    plus : (m : ℕ) → m ≡ 0 + m
+    plus m = omega arith
+settling_on agents n m c c' e (pair {n = k} p c₁ c₂ low fits first fits' second more) =
+    subst (λ z. EndsInPairs agents z c') (plus k m) (settling_on agents k (suc m) c₂ c' (pair_on agents m c c₁ c₂ p.number e fits first fits' second) more)
+  where
+    plus : (k m : ℕ) → k + suc m ≡ suc k + m
+    plus k m = omega arith
+
+no_pairs : (agents : ℕ) (c : Cluster) → Serves agents c → EndsInPairs agents 0 c
+no_pairs agents c s = record { serves = s; pairs = tt }
+
+-- so many pairs, and their mark
+marked_pairs : (agents n : ℕ) (c : Cluster) → EndsInPairs agents n c → Serves agents (settled n c)
+marked_pairs agents n c e = record {
+  start = e.serves.start;
+  whole = e.serves.whole;
+  moves = Settles n true ∷ e.serves.moves;
+  begins = e.serves.begins;
+  reached = by_settling n true e.serves.reached e.pairs;
+  serving = (tt, e.serves.serving);
+  count = e.serves.count;
+}
+
+plus_none : (n : ℕ) → n + 0 ≡ n
+plus_none n = omega arith
+
+pub settled_on : (agents pairs : ℕ) (c mid c' : Cluster) → Serves agents c → Settling pairs c mid → c' ≡ settled pairs mid → Serves agents c'
+settled_on agents pairs c mid c' s all is =
+    subst (Serves agents) (sym is) (marked_pairs agents pairs mid (subst (λ z. EndsInPairs agents z mid) (plus_none pairs) (settling_on agents pairs 0 c mid (no_pairs agents c s) all)))
+
+part_on : (agents : ℕ) (c c' : Cluster) → Serves agents c → IsPartOfPair c c' → Serves agents c'
+part_on agents c c' s (inl e) = subst (Serves agents) (sym e) s
+part_on agents c c' s (inr (p, low, fits, inl short)) = by_move agents c c' (event.Deliver p.number) false s tt fits short
+part_on agents c c' s (inr (p, low, fits, inr (c₁, first, fits', inl e))) = subst (Serves agents) (sym e) (by_move agents c c₁ (event.Deliver p.number) true s tt fits first)
+part_on agents c c' s (inr (p, low, fits, inr (c₁, first, fits', inr short))) =
+    by_move agents c₁ c' (event.Drop p.number) false (by_move agents c c₁ (event.Deliver p.number) true s tt fits first) refl fits' short
+
+pub partly_on : (agents most : ℕ) (c c' : Cluster) → Serves agents c → IsPartlySettled most c c' → Serves agents c'
+partly_on agents most c c' s (pairs, few, (c₁, all, part)) = part_on agents c₁ c' (settling_on agents pairs 0 c c₁ (no_pairs agents c s) all).serves part
+
+pub taken_on : (agents number : ℕ) (c : Cluster) (out : Out) (before after : List Out) → Serves agents c → number_of out ≡ Some number → c.tray ≡ before ++ out ∷ after → Serves agents (record c { tray = before ++ after; past = mark.Taken number ∷ c.past })
+taken_on agents number c out before after s is there = record {
+  start = s.start;
+  whole = s.whole;
+  moves = Takes number ∷ s.moves;
+  begins = s.begins;
+  reached = by_taking number out before after s.reached is there;
+  serving = (tt, s.serving);
+  count = s.count;
+}
+
+-- No server restarts.
+pub none_restarts : (moves : List Move) (server : ℕ) → AreServing moves → IsAmong (Makes (event.Restart server)) moves → ⊥
+none_restarts [] server a x = absurd x
+none_restarts (m ∷ moves) server a (inl e) = absurd (subst (λ z. IsServing z moves) (sym e) a.0)
+none_restarts (m ∷ moves) server a (inr x) = none_restarts moves server a.1 x
+
+restarted_among : (number server : ℕ) (past : List Mark) → RestartedAt number server past → IsAmong (Makes (event.Restart server)) (moves_of past)
+restarted_among number server [] r = absurd r
+restarted_among number server (m ∷ past) (inl (e, at)) = subst (λ z. IsAmong (Makes (event.Restart server)) (moves_of (z ∷ past))) (sym e) (inl refl)
+restarted_among number server (mark.Asked n agent asked draw ∷ past) (inr r) = inr (restarted_among number server past r)
+restarted_among number server (mark.Made made ∷ past) (inr r) = inr (restarted_among number server past r)
+restarted_among number server (mark.Taken n ∷ past) (inr r) = inr (restarted_among number server past r)
+restarted_among number server (mark.Settled pairs whole ∷ past) (inr r) = inr (restarted_among number server past r)
+restarted_among number server (mark.Advanced ms made ∷ past) (inr r) = inr (restarted_among number server past r)
+restarted_among number server (mark.Halted s ∷ past) (inr r) = restarted_among number server past r
+restarted_among number server (mark.Entry e ∷ past) (inr r) = restarted_among number server past r
+restarted_among number server (mark.Answered n kind known contact ∷ past) (inr r) = restarted_among number server past r
+
+-- the marks name just these moves
+pub marks_are : (agents : ℕ) (c : Cluster) (s : Serves agents c) → moves_of c.past ≡ s.moves
+marks_are agents c s = marks_are_moves s.start (a_start s.start s.begins) s.whole s.moves c s.reached
+
+-- so no request is closed
+pub none_closed : (agents : ℕ) (c : Cluster) → Serves agents c → (before after : List Out) (number at : ℕ) → c.tray ≡ before ++ Closed number at ∷ after → ⊥
+none_closed agents c s before after number at there =
+    let o = each_in (OutIsSound c.world c.past) before after (Closed number at) c.tray there (is_sound agents c s).parts.tray in
+    none_restarts s.moves o.1.0 s.serving (subst (λ z. IsAmong (Makes (event.Restart o.1.0)) z) (marks_are agents c s) (restarted_among at o.1.0 c.past o.1.1))
