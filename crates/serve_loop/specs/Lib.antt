@@ -3,7 +3,6 @@ pub mod Collects
 pub mod Turns
 pub mod Waiting
 pub mod Boards
-pub mod Written
 pub mod Replies
 pub mod Serving
 pub mod Stages

@@ -4,7 +4,7 @@ use Rattle.cat_model.specs.declared.reply.Kind.TheVariants.{Refused}
 use Rattle.cat_model.specs.declared.reply.Refusal.{Refusal}
 use Rattle.cluster_rules.specs.Replies.{Reply, Says}
 use Rattle.http_wire.specs.Replies.{reply_bytes}
-use Rattle.serve_loop.specs.Written.{written}
+use Rattle.reply_body.specs.Written.{written}
 
 -- the reply with this refusal, to what is no request of the cluster's
 abbrev pub refusing : Refusal → Reply

@@ -2,30 +2,12 @@
 
 ghost use Rattle.std.specs.Prelude.{◌≡◌, IfOk};
 ghost use Rattle.serve_loop.specs.Replies as spec;
-ghost use Rattle.serve_loop.specs.Written as written_spec;
 
 use cat_model::{Bytes, Kind, Memory, Refusal};
 use http_wire::write_reply;
 use open_requests::{Content, Reply};
-use reply_body::{Shown, body};
+use reply_body::written;
 use std::alloc::Global;
-
-/// A reply with the status, body and form of its content.
-pub(crate) fn written(alloc: Global, reply: &Reply) -> Result<cat_model::Reply, Memory>
-    ensures { IfOk result (λ r. r ≡ written_spec.written reply.now) }
-{
-    let Shown { status, body, form } = body(alloc, reply.content())?;
-    Ok(cat_model::Reply {
-        number: reply.number(),
-        status,
-        index: reply.index(),
-        body,
-        form,
-        known_leader: reply.known(),
-        last_contact: reply.contact(),
-        kind: reply.kind().clone()?,
-    })
-}
 
 /// The reply with this refusal, to what is no request of the cluster's.
 pub(crate) fn refusing(why: Refusal) -> Result<Reply, Memory>
