@@ -3,3 +3,4 @@ pub mod OwnTurns
 pub mod Written
 pub mod Exchanges
 pub mod Tasks
+pub mod Runs

@@ -8,10 +8,7 @@ use Rattle.serve_outside.specs.Links.{LinkState, IsNew}
 use Rattle.serve_outside.specs.Tasks.{IsKept, note_of}
 use Rattle.serve_outside.specs.declared.job.Task.{Task}
 use Rattle.turn_lock.specs.declared.history.History.{Ghosts}
-use Rattle.turn_lock.specs.declared.lock.HistoryLock.{HistoryLock}
 use Rattle.turn_lock.specs.Passes.{IsFree}
-use Rattle.crossbeam_utils.specs.declared.cache_padded.CachePadded.{CachePadded}
-use Rattle.crossbeam_utils.specs.Padded.{padded_value}
 use Rattle.serve_loop.specs.Boards.{known}
 use Rattle.serve_loop.specs.declared.cluster.Ask.{Ask}
 use Rattle.serve_loop.specs.declared.job.ServeJob.{ServeJob}
@@ -34,13 +31,6 @@ module _ {R S Cl G L : Type 0} {H : Ghosts S Mark} (shows : ℕ → Ask → Repl
 -- the n-th connection speaks to agent ((n - 1) mod A) + 1
 abbrev pub agent_of : ℕ → ℕ → ℕ
 agent_of agents number = (number - 1) % agents + 1
-
-module _ {R S Cl G L : Type 0} {H : Ghosts S Mark} where
-  -- the job's pass is the board's, and its agent that of its link's number
-  abbrev pub IsOfRun : CachePadded (HistoryLock S Mark) → ℕ → (L → LinkState) → ServeJob R S Cl G L Mark H → Type 0
-  IsOfRun board agents state job =
-      (job.pass.seat.table_id ≡ (padded_value board).table.shared.table_id)
-      × (job.agent ≡ agent_of agents (state job.link).number)
 
 -- each task keeps this, and its note is one of which this holds
 abbrev pub AllTasks : {P D : Type 0} → List (Task P D) → (P → D → Type 0) → (P → Type 0) → Type 0

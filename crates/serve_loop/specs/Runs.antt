@@ -1,9 +1,25 @@
 -- The connections of a run.
-use Rattle.std.specs.Prelude.{◌≡◌, true, Result}
+use Rattle.std.specs.Prelude.{◌≡◌, ℕ, ◌+◌, ◌-◌, ◌^◌, ◌≤◌, true, List, [], ◌∷◌, ◌++◌, length, min, ⊤, Option, Some, None, Result, Ok, Err}
+use Rattle.std.specs.List.{AllByRecursion}
+use Rattle.cat_model.specs.declared.request.Asked.{Asked}
+use Rattle.cat_model.specs.declared.request.Draw.{Draw}
+use Rattle.cat_model.specs.declared.reply.Mark.{Mark}
 use Rattle.cat_model.specs.declared.reply.Refusal.TheVariants.{NoWorker}
-use Rattle.serve_outside.specs.Links.{LinkState}
+use Rattle.cluster_rules.specs.Replies.{Reply}
+use Rattle.crossbeam_utils.specs.declared.cache_padded.CachePadded.{CachePadded}
+use Rattle.crossbeam_utils.specs.Padded.{padded_value}
+use Rattle.serve_outside.specs.Links.{LinkState, IsNew}
+use Rattle.turn_lock.specs.declared.history.History.{Ghosts}
+use Rattle.turn_lock.specs.declared.knowledge.Knowledge.{Knowledge}
+use Rattle.turn_lock.specs.declared.lock.HistoryLock.{HistoryLock}
 use Rattle.serve_loop.specs.declared.cause.Cause.{Cause}
+use Rattle.serve_loop.specs.declared.cluster.Ask.{Ask}
+use Rattle.serve_loop.specs.declared.job.ServeJob.{ServeJob}
+use Rattle.serve_loop.specs.declared.run.Stop.{Stop}
+use Rattle.serve_loop.specs.declared.run.Stop.TheVariants as stops
+use Rattle.serve_loop.specs.Jobs.{agent_of}
 use Rattle.serve_loop.specs.Replies.{refusing, text_of}
+use Rattle.serve_loop.specs.Serving.{EndsBy}
 use Rattle.serve_loop.specs.Stages.{Wrote}
 
 -- A link was told that no worker could be had, as far as that could be written, and shut.
@@ -12,3 +28,94 @@ pub record TurnsAway (first last : LinkState) : Type 0 where
   pub result : Result Unit Cause
   pub wrote : Wrote first (text_of (refusing NoWorker) true) result told
   pub shut : last ≡ record told { shut = true }
+
+-- the link came new, and was turned away
+abbrev pub IsTurnedAway : LinkState → Type 0
+IsTurnedAway link = (first : LinkState) × IsNew link.number first × TurnsAway first link
+
+-- so many links were turned away and handed back, where the spawner's count of faults rose by as many
+pub record TurnedAway (old new : List LinkState) (faults faults' count : ℕ) : Type 0 where
+  pub links : List LinkState
+  pub are : new ≡ old ++ links
+  pub each : AllByRecursion IsTurnedAway links
+  pub count_is : length links ≡ count
+  pub few : min (faults + count) (2 ^ 64 - 1) ≤ faults'
+
+-- one link more may be turned away, for want of memory
+abbrev pub lacking : Result Unit Stop → ℕ
+lacking (Err stops.Memory) = 1
+lacking other = 0
+
+-- Each link that came since was turned away and handed back, or has a task. Where memory ran out, one more was turned
+-- away than the spawner's faults tell.
+pub record Starts (old new : List LinkState) (faults faults' given given' tasks tasks' : ℕ) (result : Result Unit Stop) : Type 0 where
+  pub turned : ℕ
+  pub away : TurnedAway old new faults (faults' + lacking result) turned
+  pub count : tasks' + turned + given ≡ tasks + given'
+
+-- so many draws were made, where they are told
+abbrev pub HasDrawn : Option (List Draw) → ℕ → Type 0
+HasDrawn None n = ⊤
+HasDrawn (Some draws) n = length draws ≡ n
+
+pub record IsPlaced (draws : List Draw) (n : ℕ) (draw : Draw) : Type 0 where
+  pub before : List Draw
+  pub after : List Draw
+  pub are : draws ≡ before ++ draw ∷ after
+  pub place : length before + 1 ≡ n
+
+-- it is the n-th draw, where they are told
+abbrev pub IsDrawn : Option (List Draw) → ℕ → Draw → Type 0
+IsDrawn None n draw = ⊤
+IsDrawn (Some draws) n draw = IsPlaced draws n draw
+
+module _ {R S Cl G L : Type 0} {H : Ghosts S Mark} where
+  -- the job is that of the n-th link, and has this draw
+  pub record IsStartedAs (n : ℕ) (draw : Draw) (board : CachePadded (HistoryLock S Mark)) (agents : ℕ) (state : L → LinkState) (job : ServeJob R S Cl G L Mark H) : Type 0 where
+    pub own : job.pass.seat.table_id ≡ (padded_value board).table.shared.table_id
+    pub new : IsNew n (state job.link)
+    pub agent : job.agent ≡ agent_of agents n
+    pub draw_is : job.draw ≡ draw
+
+  -- The job is that of a new link. The link's number says which agent and which draw it has.
+  pub record IsStarted (board : CachePadded (HistoryLock S Mark)) (agents : ℕ) (draws : Option (List Draw)) (state : L → LinkState) (job : ServeJob R S Cl G L Mark H) : Type 0 where
+    pub own : job.pass.seat.table_id ≡ (padded_value board).table.shared.table_id
+    pub new : IsNew (state job.link).number (state job.link)
+    pub agent : job.agent ≡ agent_of agents (state job.link).number
+    pub drawn : IsDrawn draws (state job.link).number job.draw
+
+module _ (shows : ℕ → Ask → Reply → List Mark → Type 0) (takes : Asked → Type 0) (agents : ℕ) (draws : Option (List Draw)) where
+  -- The link came new, was served to its end, and was shut. Its number says whose agent was asked and which draw it had.
+  pub record IsServed (link : LinkState) : Type 0 where
+    pub first : LinkState
+    pub draw : Draw
+    pub begun : Knowledge Mark
+    pub known : Knowledge Mark
+    pub cause : Cause
+    pub requests : ℕ
+    pub new : IsNew link.number first
+    pub drawn : IsDrawn draws link.number draw
+    pub ends : EndsBy shows takes (record { agent = agent_of agents link.number; draw = draw; first = first; begun = begun }) cause link known requests
+    pub shut : link.shut ≡ true
+
+  -- so many links were served and handed back
+  pub record AllServed (old new : List LinkState) (count : ℕ) : Type 0 where
+    pub links : List LinkState
+    pub are : new ≡ old ++ links
+    pub each : AllByRecursion IsServed links
+    pub count_is : length links ≡ count
+
+  -- one link more
+  pub record ServesOne (old new : List LinkState) : Type 0 where
+    pub link : LinkState
+    pub is : IsServed link
+    pub are : new ≡ old ++ link ∷ []
+
+  -- Each link that came was handed back: first those that were turned away, and then all others, which were served.
+  pub record HandsBack (old new : List LinkState) (faults faults' given : ℕ) (result : Result Unit Stop) : Type 0 where
+    pub turned : ℕ
+    pub served : ℕ
+    pub between : List LinkState
+    pub away : TurnedAway old between faults (faults' + lacking result) turned
+    pub all : AllServed between new served
+    pub count : turned + served ≡ given

@@ -1,6 +1,6 @@
 //! The connections of a run: they are accepted, each is served by a job of its own, and all jobs are waited for.
 
-ghost use Rattle.std.specs.Prelude.{◌≡◌, ◌+◌, ◌<◌, ◌≤◌, ◌++◌, ◌∷◌, [], false, true, IfErr, IfOk, IfSome, MatchOption, None, OnErr, OnOk};
+ghost use Rattle.std.specs.Prelude.{◌≡◌, ◌+◌, ◌<◌, ◌≤◌, ◌++◌, ◌∷◌, [], false, true, IfErr, IfOk, IfSome, MatchOption, MatchResult, None, Err, OnErr, OnOk, length};
 ghost use Rattle.std.specs.Arc.{arc_value};
 ghost use Rattle.cat_outside.specs.Causes.{Rose};
 ghost use Rattle.http_wire.specs.State.{Told};
@@ -8,9 +8,9 @@ ghost use Rattle.serve_outside.specs.Links.{IsNew, LinkState};
 ghost use Rattle.serve_outside.specs.Tasks.{IsKept, note_of};
 ghost use Rattle.serve_loop.specs.declared.run.Stop.TheVariants as stops;
 ghost use Rattle.serve_loop.specs.Boards.{IsOurs, known};
-ghost use Rattle.serve_loop.specs.Jobs.{AllTasks, HasEnded, IsOfRun, agent_of};
+ghost use Rattle.serve_loop.specs.Jobs.{AllTasks, HasEnded, agent_of};
 ghost use Rattle.serve_loop.specs.Marks.{AreKept};
-ghost use Rattle.serve_loop.specs.Runs.{TurnsAway};
+ghost use Rattle.serve_loop.specs.Runs.{AllServed, HandsBack, HasDrawn, IsStarted, IsStartedAs, ServesOne, Starts, TurnedAway, TurnsAway, lacking};
 ghost use Rattle.serve_loop.specs.Waiting.{Grows};
 
 use crate::cluster::SharedCluster;
@@ -21,7 +21,7 @@ use crate::writing::send_refusing;
 use cat_model::{Draw, Memory, Refusal};
 use http_wire::RequestReader;
 use serve_outside::{Clock, Gate, Job, Link, Listener, NoteOf, Spawner, Task, Words, finish, start};
-use std::alloc::Global;
+use std::alloc::{AllocError, Global};
 use std::sync::{Arc, Wait};
 use std::thread::{Promise, Threads};
 use turn_lock::{History, NoShare, Pass};
@@ -149,12 +149,15 @@ where
     requires ours { IsOurs (arc_value server.now.board) pass.old }
     requires theirs { IsOurs (arc_value server.now.board) job.pass }
     requires ready { ⟦<ServeJob<R, Served<C>, Cl, G, L::Link> as Job>⟧.ready job }
+    requires new { IsNew (L.Link.state job.link).number (L.Link.state job.link) }
     ensures ours { IsOurs (arc_value server.now.board) pass.new }
     ensures given { L.given listener.new ≡ L.given listener.old }
+    ensures faults { L.faults listener.new ≡ L.faults listener.old }
     ensures kept { IfSome result (IsKept ⟦<NoteOf<ServeJob<R, Served<C>, Cl, G, L::Link>> as Promise<Finished<L::Link, Served<C>>>>⟧.kept_by) }
     ensures job { IfSome result (λ task. (note_of task).0.value ≡ job) }
-    ensures closed { MatchOption result ((last : LinkState) × TurnsAway (L.Link.state job.link) last × (L.closed listener.new ≡ L.closed listener.old ++ last ∷ [])) (λ _. L.closed listener.new ≡ L.closed listener.old) }
-    ensures cause { MatchOption result (Rose (Sp.faults spawner.old) (Sp.faults spawner.new)) (λ _. Sp.faults spawner.old ≤ Sp.faults spawner.new) }
+    ensures turned { MatchOption result
+        (TurnedAway (L.closed listener.old) (L.closed listener.new) (Sp.faults spawner.old) (Sp.faults spawner.new) 1)
+        (λ _. TurnedAway (L.closed listener.old) (L.closed listener.new) (Sp.faults spawner.old) (Sp.faults spawner.new) 0) }
 {
     match start(spawner, &server.rt, job) {
         Ok(task) => Some(task),
@@ -206,6 +209,7 @@ pub fn last_turn<R: Wait, C: SharedCluster, Cl, G>(
 }
 
 /// Accepts the n-th connection and starts its job. A link whose job cannot be started is turned away and handed back.
+#[tactic(auto, using(crate::proofs::Runs::turned_none, crate::proofs::Runs::turned_lacking))]
 pub fn start_one<
     R: Threads + Wait + Copy + Send + Drop + 'static,
     C: SharedCluster + Send + 'static,
@@ -227,9 +231,15 @@ where
     requires agents { (0 < server.now.agents) × (server.now.agents ≡ C.agents) }
     requires number { n ≡ L.given listener.old + 1 }
     ensures ours { IsOurs (arc_value server.now.board) pass.new }
-    ensures given { OnOk result (L.given listener.new ≡ n) }
+    ensures given { MatchResult result (λ _. L.given listener.new ≡ n) (λ why. L.given listener.new ≡ L.given listener.old + lacking (Err why)) }
     ensures kept { IfOk result (λ o. IfSome o (IsKept ⟦<NoteOf<ServeJob<R, Served<C>, Cl, G, L::Link>> as Promise<Finished<L::Link, Served<C>>>>⟧.kept_by)) }
-    ensures job { IfOk result (λ o. IfSome o (λ task. IsOfRun (arc_value server.now.board) C.agents L.Link.state (note_of task).0.value × ((note_of task).0.value.draw ≡ draw) × IsNew n (L.Link.state (note_of task).0.value.link))) }
+    ensures job { IfOk result (λ o. IfSome o (λ task. IsStartedAs n draw (arc_value server.now.board) C.agents L.Link.state (note_of task).0.value)) }
+    ensures turned { MatchResult result
+        (λ o. MatchOption o
+            (TurnedAway (L.closed listener.old) (L.closed listener.new) (Sp.faults spawner.old) (Sp.faults spawner.new) 1)
+            (λ _. TurnedAway (L.closed listener.old) (L.closed listener.new) (Sp.faults spawner.old) (Sp.faults spawner.new) 0))
+        (λ why. TurnedAway (L.closed listener.old) (L.closed listener.new) (Sp.faults spawner.old) (Sp.faults spawner.new + lacking (Err why)) (lacking (Err why))) }
+    ensures counted { L.faults listener.old ≤ L.faults listener.new }
     ensures cause { IfErr result (λ why. why ≡ stops.Listener → Rose (L.faults listener.old) (L.faults listener.new)) }
 {
     let Ok(link) = listener.accept() else {
@@ -245,8 +255,56 @@ where
     }
 }
 
+// Accepts the n-th connection, and puts its task behind the others.
+fn start_next<
+    R: Threads + Wait + Copy + Send + Drop + 'static,
+    C: SharedCluster + Send + 'static,
+    Cl: Clock + Copy + Send + Drop + 'static,
+    G: Gate + Copy + Send + Drop + 'static,
+    L: Listener,
+    W: Words,
+    Sp: Spawner,
+>(
+    server: &Server<R, Served<C>, Cl, G>,
+    pass: &mut Pass<Served<C>>,
+    listener: &mut L,
+    words: &mut W,
+    spawner: &mut Sp,
+    tasks: &mut Vec<TaskOf<R, C, Cl, G, L::Link>>,
+    n: u32,
+) -> Result<(), Stop>
+where
+    L::Link: Send + 'static,
+    requires ours { IsOurs (arc_value server.now.board) pass.old }
+    requires agents { (0 < server.now.agents) × (server.now.agents ≡ C.agents) }
+    requires number { n ≡ L.given listener.old + 1 }
+    requires drawn { HasDrawn (W.draws words.old) (L.given listener.old) }
+    requires tasks { AllTasks tasks.old.items ⟦<NoteOf<ServeJob<R, Served<C>, Cl, G, L::Link>> as Promise<Finished<L::Link, Served<C>>>>⟧.kept_by (λ p. IsStarted (arc_value server.now.board) C.agents (W.draws words.old) L.Link.state p.0.value) }
+    ensures ours { IsOurs (arc_value server.now.board) pass.new }
+    ensures given { OnOk result (L.given listener.new ≡ n) }
+    ensures drawn { OnOk result (HasDrawn (W.draws words.new) n) }
+    ensures tasks { AllTasks tasks.new.items ⟦<NoteOf<ServeJob<R, Served<C>, Cl, G, L::Link>> as Promise<Finished<L::Link, Served<C>>>>⟧.kept_by (λ p. IsStarted (arc_value server.now.board) C.agents (W.draws words.new) L.Link.state p.0.value) }
+    ensures starts { Starts (L.closed listener.old) (L.closed listener.new) (Sp.faults spawner.old) (Sp.faults spawner.new) (L.given listener.old) (L.given listener.new) (length tasks.old.items) (length tasks.new.items) result }
+    ensures counted { L.faults listener.old ≤ L.faults listener.new }
+    ensures cause { IfErr result (λ why. why ≡ stops.Listener → Rose (L.faults listener.old) (L.faults listener.new)) }
+{
+    match tasks.reserve(1) {
+        Ok(()) => {
+            let draw = words.draw();
+            match start_one(server, pass, listener, spawner, draw, n) {
+                Ok(Some(task)) => {
+                    tasks.push_reserved(task);
+                    Ok(())
+                }
+                Ok(None) => Ok(()),
+                Err(why) => Err(why),
+            }
+        }
+        Err(AllocError) => Err(Stop::Memory),
+    }
+}
+
 /// Accepts so many connections and starts their jobs.
-#[tactic(auto, using(crate::proofs::Tasks::all_one_more))]
 pub fn start_tasks<
     R: Threads + Wait + Copy + Send + Drop + 'static,
     C: SharedCluster + Send + 'static,
@@ -268,55 +326,84 @@ where
     L::Link: Send + 'static,
     requires ours { IsOurs (arc_value server.now.board) pass.old }
     requires agents { (0 < server.now.agents) × (server.now.agents ≡ C.agents) }
-    requires fresh { L.given listener.old ≡ 0 }
-    requires tasks { AllTasks tasks.old.items ⟦<NoteOf<ServeJob<R, Served<C>, Cl, G, L::Link>> as Promise<Finished<L::Link, Served<C>>>>⟧.kept_by (λ p. IsOfRun (arc_value server.now.board) C.agents L.Link.state p.0.value) }
+    requires fresh { (L.given listener.old ≡ 0) × HasDrawn (W.draws words.old) 0 }
+    requires tasks { AllTasks tasks.old.items ⟦<NoteOf<ServeJob<R, Served<C>, Cl, G, L::Link>> as Promise<Finished<L::Link, Served<C>>>>⟧.kept_by (λ p. IsStarted (arc_value server.now.board) C.agents (W.draws words.old) L.Link.state p.0.value) }
     ensures ours { IsOurs (arc_value server.now.board) pass.new }
     ensures given { OnOk result (L.given listener.new ≡ count) }
-    ensures tasks { AllTasks tasks.new.items ⟦<NoteOf<ServeJob<R, Served<C>, Cl, G, L::Link>> as Promise<Finished<L::Link, Served<C>>>>⟧.kept_by (λ p. IsOfRun (arc_value server.now.board) C.agents L.Link.state p.0.value) }
+    ensures tasks { AllTasks tasks.new.items ⟦<NoteOf<ServeJob<R, Served<C>, Cl, G, L::Link>> as Promise<Finished<L::Link, Served<C>>>>⟧.kept_by (λ p. IsStarted (arc_value server.now.board) C.agents (W.draws words.new) L.Link.state p.0.value) }
+    ensures starts { Starts (L.closed listener.old) (L.closed listener.new) (Sp.faults spawner.old) (Sp.faults spawner.new) (L.given listener.old) (L.given listener.new) (length tasks.old.items) (length tasks.new.items) result }
+    ensures cause { IfErr result (λ why. why ≡ stops.Listener → Rose (L.faults listener.old) (L.faults listener.new)) }
 {
     let mut n = 0;
     while n < count {
-        if tasks.reserve(1).is_err() {
-            return Err(Stop::Memory);
-        }
         n += 1;
-        let draw = words.draw();
-        match start_one(server, pass, listener, spawner, draw, n) {
-            Ok(Some(task)) => tasks.push_reserved(task),
-            Ok(None) => {}
+        match start_next(server, pass, listener, words, spawner, tasks, n) {
+            Ok(()) => {}
             Err(why) => return Err(why),
         }
     }
     Ok(())
 }
 
-/// Waits for all tasks, and takes their passes and links back.
-#[tactic(auto, using(crate::proofs::Tasks::all_rest))]
+// Waits for a task, and takes its pass and its link back.
+fn finish_one<
+    R: Threads + Wait + Copy + Send + Drop + 'static,
+    C: SharedCluster + Send + 'static,
+    Cl: Clock + Copy + Send + Drop + 'static,
+    G: Gate + Copy + Send + Drop + 'static,
+    L: Listener,
+    W: Words,
+>(
+    server: &Server<R, Served<C>, Cl, G>,
+    pass: &mut Pass<Served<C>>,
+    listener: &mut L,
+    words: &W,
+    task: TaskOf<R, C, Cl, G, L::Link>,
+)
+where
+    L::Link: Send + 'static,
+    requires ours { IsOurs (arc_value server.now.board) pass.old }
+    requires kept { IsKept ⟦<NoteOf<ServeJob<R, Served<C>, Cl, G, L::Link>> as Promise<Finished<L::Link, Served<C>>>>⟧.kept_by task }
+    requires started { IsStarted (arc_value server.now.board) C.agents (W.draws words.now) L.Link.state (note_of task).0.value }
+    ensures ours { IsOurs (arc_value server.now.board) pass.new }
+    ensures given { L.given listener.new ≡ L.given listener.old }
+    ensures faults { L.faults listener.new ≡ L.faults listener.old }
+    ensures served { ServesOne C.shows C.takes C.agents (W.draws words.now) (L.closed listener.old) (L.closed listener.new) }
+{
+    let Finished {
+        link, pass: own, ..
+    } = finish_task(server, task);
+    give_back(server, pass, own);
+    listener.close(link);
+}
+
+/// Waits for all tasks, and takes their passes and links back. The words are those from which the connections had their
+/// draws.
 pub fn finish_tasks<
     R: Threads + Wait + Copy + Send + Drop + 'static,
     C: SharedCluster + Send + 'static,
     Cl: Clock + Copy + Send + Drop + 'static,
     G: Gate + Copy + Send + Drop + 'static,
     L: Listener,
+    W: Words,
 >(
     server: &Server<R, Served<C>, Cl, G>,
     pass: &mut Pass<Served<C>>,
     listener: &mut L,
+    words: &W,
     tasks: &mut Vec<TaskOf<R, C, Cl, G, L::Link>>,
 )
 where
     L::Link: Send + 'static,
     requires ours { IsOurs (arc_value server.now.board) pass.old }
-    requires tasks { AllTasks tasks.old.items ⟦<NoteOf<ServeJob<R, Served<C>, Cl, G, L::Link>> as Promise<Finished<L::Link, Served<C>>>>⟧.kept_by (λ p. IsOfRun (arc_value server.now.board) C.agents L.Link.state p.0.value) }
+    requires tasks { AllTasks tasks.old.items ⟦<NoteOf<ServeJob<R, Served<C>, Cl, G, L::Link>> as Promise<Finished<L::Link, Served<C>>>>⟧.kept_by (λ p. IsStarted (arc_value server.now.board) C.agents (W.draws words.now) L.Link.state p.0.value) }
     ensures ours { IsOurs (arc_value server.now.board) pass.new }
     ensures given { L.given listener.new ≡ L.given listener.old }
+    ensures faults { L.faults listener.new ≡ L.faults listener.old }
+    ensures served { AllServed C.shows C.takes C.agents (W.draws words.now) (L.closed listener.old) (L.closed listener.new) (length tasks.old.items) }
 {
     while let Some(task) = tasks.pop() {
-        let Finished {
-            link, pass: own, ..
-        } = finish_task(server, task);
-        give_back(server, pass, own);
-        listener.close(link);
+        finish_one(server, pass, listener, words, task);
     }
 }
 
@@ -342,14 +429,16 @@ where
     L::Link: Send + 'static,
     requires ours { IsOurs (arc_value server.now.board) pass.old }
     requires agents { (0 < server.now.agents) × (server.now.agents ≡ C.agents) }
-    requires fresh { L.given listener.old ≡ 0 }
+    requires fresh { (L.given listener.old ≡ 0) × HasDrawn (W.draws words.old) 0 }
     ensures ours { IsOurs (arc_value server.now.board) pass.new }
     ensures given { OnOk result (L.given listener.new ≡ count) }
+    ensures links { HandsBack C.shows C.takes C.agents (W.draws words.new) (L.closed listener.old) (L.closed listener.new) (Sp.faults spawner.old) (Sp.faults spawner.new) (L.given listener.new) result }
     ensures kept { AreKept (known pass.new).seen }
+    ensures cause { IfErr result (λ why. why ≡ stops.Listener → Rose (L.faults listener.old) (L.faults listener.new)) }
 {
     let mut tasks: Vec<TaskOf<R, C, Cl, G, L::Link>> = Vec::new(server.alloc);
     let started = start_tasks(server, pass, listener, words, spawner, &mut tasks, count);
-    finish_tasks(server, pass, listener, &mut tasks);
+    finish_tasks(server, pass, listener, words, &mut tasks);
     last_turn(server, pass);
     started
 }

@@ -1,17 +1,21 @@
-use Rattle.std.proofs.Common.{◌≡◌}
+use Rattle.std.proofs.Common.{◌≡◌, ◌≤◌, ◌-◌, length}
 use Rattle.std.specs.Arc.{arc_value}
 use Rattle.serve_loop.specs.Boards.{IsOurs}
-use Rattle.serve_loop.specs.Jobs.{AllTasks, HasEnded, IsOfRun}
+use Rattle.serve_loop.specs.Jobs.{AllTasks, HasEnded}
+use Rattle.serve_loop.specs.Runs.{AllServed, IsStarted}
 use Rattle.serve_loop.proofs.run.finish_tasks.Given as goal
 
--- what is known of the tasks that are left
+-- the links of the tasks that are gone, and what is known of those that are left
 abbrev pub invariant-loop-task : goal.invariant-loop-task
 invariant-loop-task g l =
     IsOurs (arc_value l.server.board) l.pass
     × (g.L.Listener.given l.listener ≡ g.L.Listener.given l.fn.listener)
+    × (g.L.Listener.faults l.listener ≡ g.L.Listener.faults l.fn.listener)
+    × (length l.tasks.items ≤ length l.fn.tasks.items)
+    × AllServed g.C.SharedCluster.shows g.C.SharedCluster.takes g.C.SharedCluster.agents (g.W.Words.draws l.words) (g.L.Listener.closed l.fn.listener) (g.L.Listener.closed l.listener) (length l.fn.tasks.items - length l.tasks.items)
     × AllTasks l.tasks.items
         (λ p d. HasEnded g.C.SharedCluster.shows g.C.SharedCluster.takes g.L.Link.Link.state p.0.value d)
-        (λ p. IsOfRun (arc_value l.server.board) g.C.SharedCluster.agents g.L.Link.Link.state p.0.value)
+        (λ p. IsStarted (arc_value l.server.board) g.C.SharedCluster.agents (g.W.Words.draws l.words) g.L.Link.Link.state p.0.value)
 
 abbrev pub decreases-loop-task : goal.decreases-loop-task
 decreases-loop-task g l = goal.left-loop-task g l
