@@ -1,0 +1,53 @@
+//! Plays the worked cases of the catalog machine in the folder where it runs, and says of each whether the store answers,
+//! fires and frees what it should, and whether each query gets the answer and the index that it should. They lie in
+//! `data/`.
+//!
+//! `cases.txt` has the name of a case in each line. A line of the case `NAME.case` is a command, or a query after `?`, or
+//! after `^` a query of which the channels are asked, then ` => ` and what it should give; other lines are nothing. `commands.rt`,
+//! `queries.rt` and `shown.rt` say how commands, queries and what they give are written.
+#![tactic(auto)]
+
+mod commands;
+mod playing;
+mod queries;
+mod shown;
+mod words;
+
+use crate::playing::play;
+use anyhow::{Context, Result};
+use std::fs;
+use std::process::ExitCode;
+
+fn main(rt: HostRuntime) -> Result<ExitCode> {
+    let names = fs::read_to_string(&rt, "cases.txt").context("cases.txt")?;
+    let mut differing = 0u64;
+    for name in names.as_str().lines() {
+        if !is_as_written(&rt, name)? {
+            differing = differing.saturating_add(1);
+        }
+    }
+    Ok(if differing == 0 {
+        ExitCode::SUCCESS
+    } else {
+        ExitCode::from(1)
+    })
+}
+
+// Plays the case of this name, prints its line, and says whether it is as written.
+fn is_as_written(rt: &HostRuntime, name: &str) -> Result<bool> {
+    let alloc = rt.alloc();
+    let path = format!(in alloc; "{name}.case")?;
+    let text = fs::read_to_string(rt, &path).context(path)?;
+    match play(alloc, text.as_str())? {
+        None => {
+            println!(rt; "{name} as written")?;
+            Ok(true)
+        }
+        Some(difference) => {
+            let line = difference.line;
+            let is = difference.is.as_str();
+            println!(rt; "{name} differs at line {line}, which gives {is}")?;
+            Ok(false)
+        }
+    }
+}

@@ -1,0 +1,109 @@
+ghost use Rattle.std.specs.Prelude.{◌≡◌, ◌<◌};
+
+use crate::words::Words;
+use crate::{commands, queries, shown};
+use cat_model::{Answer, Memory, Query, Steps};
+use catalog_query::{View, chans, evaluate};
+use catalog_store::{Store, is_taken};
+use std::alloc::Global;
+use std::marker::Brand;
+use std::sync::ledger::{Blank, Ledger};
+
+/// A line that gives something else than what is written behind it.
+#[derive(Drop)]
+pub struct Difference {
+    pub line: u64,
+    pub is: String,
+}
+
+/// Plays the lines of a case over a new store, and gives the first that differs.
+pub fn play(alloc: Global, text: &str) -> Result<Option<Difference>, Memory> {
+    let mut store = Store::new(alloc)?;
+    let mut line = 0u64;
+    for words in text.lines() {
+        line = line.saturating_add(1);
+        if let Some((said, wanted)) = words.split_once(" => ") {
+            let is = given(alloc, &mut store, said)?;
+            if is.as_str() != wanted {
+                return Ok(Some(Difference { line, is }));
+            }
+        }
+    }
+    Ok(None)
+}
+
+// What a line gives: a query after `?` its answer, a query after `^` its channels, and a command what it does.
+fn given(alloc: Global, store: &mut Store, said: &str) -> Result<String, Memory> {
+    let mut words = said.split_whitespace();
+    if said.starts_with("? ") {
+        words.next();
+        return answer(alloc, store, &mut words);
+    }
+    if said.starts_with("^ ") {
+        words.next();
+        return channels(alloc, store, &mut words);
+    }
+    apply(alloc, store, &mut words)
+}
+
+fn unread(alloc: Global) -> Result<String, Memory> {
+    Ok(String::from_str(alloc, "not read")?)
+}
+
+// Applies a command at the next position.
+fn apply(alloc: Global, store: &mut Store, words: &mut Words) -> Result<String, Memory> {
+    let Some(command) = commands::read(alloc, words) else {
+        return unread(alloc);
+    };
+    let position = store.length().saturating_add(1);
+    if position > 262_144 || !is_taken(&command) {
+        return unread(alloc);
+    }
+    let (answer, fired) = store.apply(alloc, position, &command)?;
+    Ok(shown::applied(alloc, &answer, &fired)?)
+}
+
+fn view_of(store: &Store) -> View<'_> {
+    View {
+        kv: store.kv(),
+        catalog: store.catalog(),
+        sessions: store.sessions(),
+        queries: store.queries(),
+        indexes: store.indexes(),
+    }
+}
+
+fn answer(alloc: Global, store: &Store, words: &mut Words) -> Result<String, Memory> {
+    let Some(query) = queries::read(alloc, words) else {
+        return unread(alloc);
+    };
+    let (answer, index) = evaluated(alloc, store, &query)?;
+    Ok(shown::found(alloc, index, &answer)?)
+}
+
+// The answer to the query with its index. Nobody reads how many evaluations were made.
+fn evaluated(alloc: Global, store: &Store, query: &Query) -> Result<(Answer, u64), Memory> {
+    counted::<Brand>(alloc, store, query, Blank::new(1))
+}
+
+fn counted<L: Ledger>(
+    alloc: Global,
+    store: &Store,
+    query: &Query,
+    blank: Blank,
+) -> Result<(Answer, u64), Memory>
+    requires name { blank.name ≡ L.name }
+    requires parts { blank.parts ≡ L.parts }
+    requires some { 0 < L.parts }
+{
+    let mut steps: Steps<L> = Steps::new(blank);
+    evaluate(alloc, &view_of(store), query, &mut steps)
+}
+
+fn channels(alloc: Global, store: &Store, words: &mut Words) -> Result<String, Memory> {
+    let Some(query) = queries::read(alloc, words) else {
+        return unread(alloc);
+    };
+    let chans = chans(alloc, &view_of(store), &query)?;
+    Ok(shown::hangs(alloc, chans.as_slice())?)
+}
