@@ -23,13 +23,7 @@ impl ClusterInterface for Cluster<MemKeeper> {
         self.step(alloc, &event)
     }
 
-    fn ask(
-        &mut self,
-        alloc: Global,
-        agent: u32,
-        asked: &Asked,
-        draw: Draw,
-    ) -> Result<u64, Memory> {
+    fn ask(&mut self, alloc: Global, agent: u32, asked: &Asked, draw: Draw) -> Result<u64, Memory> {
         self.ask(alloc, agent, asked, draw)
     }
 

@@ -54,13 +54,7 @@ pub trait ClusterInterface: Drop {
 
     /// Asks an agent, and gives the request's number. What it gives waits to be taken. After `Memory` nothing has
     /// changed, or the event was cut short.
-    fn ask(
-        &mut self,
-        alloc: Global,
-        agent: u32,
-        asked: &Asked,
-        draw: Draw,
-    ) -> Result<u64, Memory>
+    fn ask(&mut self, alloc: Global, agent: u32, asked: &Asked, draw: Draw) -> Result<u64, Memory>
         requires agent { IsAgentNumber (state self.old) agent }
         requires built { IsTakenAsked asked.now }
         ensures whole { OnOk result (ClusterStep (state self.old) (event.Ask agent asked.now draw) (state self.new) true) }

@@ -112,7 +112,12 @@ module _ (shows : ℕ → Ask → Reply → List Mark → Type 0) (takes : Asked
 
   pub cut_later : (link : LinkState) (v w : Knowledge Mark) (requests : ℕ) → Grows v w → IsCut shows takes c link v requests → IsCut shows takes c link w requests
   cut_later link v w requests g x = record {
-    es = x.es; rejection = x.rejection; rest = x.rest; unwritten = x.unwritten; least = x.least; most = x.most;
+    es = x.es;
+    rejection = x.rejection;
+    rest = x.rest;
+    unwritten = x.unwritten;
+    least = x.least;
+    most = x.most;
     came = record { stream = x.came.stream; written = x.came.written; passed = passed_later link v w x.es _ _ g x.came.passed; gives = x.came.gives; due = x.came.due };
   }
 
@@ -131,9 +136,13 @@ module _ (shows : ℕ → Ask → Reply → List Mark → Type 0) (takes : Asked
 
   so_far : (s : Stage) (rest : List ℕ) → Talks shows takes c s rest → IsCut shows takes c s.link s.known s.requests
   so_far s rest x = let n = x.count in record {
-    es = x.es; rejection = None; rest = rest; unwritten = [];
+    es = x.es;
+    rejection = None;
+    rest = rest;
+    unwritten = [];
     came = came_whole s.link s.known x.es x.stream rest x.passed (gives_none x.stream (items_of x.es) s.reader.held x.told);
-    least = omega arith; most = omega arith;
+    least = omega arith;
+    most = omega arith;
   }
 
   -- what is due was written in part
@@ -158,15 +167,23 @@ module _ (shows : ℕ → Ask → Reply → List Mark → Type 0) (takes : Asked
   -- a Continue
   pub continues : (s : Stage) (new : LinkState) (rest : List ℕ) (r : Result Unit Cause) → Wrote s.link continue_bytes r new → Owes shows takes c s rest go_on → GoesOn shows takes c r (record s { link = new }) rest
   continues s new rest (Ok u) w o = record {
-    es = continued ∷ o.es; stream = o.stream;
+    es = continued ∷ o.es;
+    stream = o.stream;
     passed = passed_true new s.known o.es (continued ∷ o.es) _ _ o.passed.are_true (passed_wrote s.link new s.known o.es _ _ continue_bytes w.after (wrote_whole s.link new continue_bytes w) o.passed);
-    told = o.told; going = o.going; count = o.count; unshut = w.after.shut ∙ o.unshut;
+    told = o.told;
+    going = o.going;
+    count = o.count;
+    unshut = w.after.shut ∙ o.unshut;
   }
   continues s new rest (Err why) w o = stopped why s.link new s.known s.requests o.passed.later w.stopped (let n = o.count in record {
-    es = continued ∷ o.es; rejection = None; rest = rest; unwritten = w.unwritten;
+    es = continued ∷ o.es;
+    rejection = None;
+    rest = rest;
+    unwritten = w.unwritten;
     came = came_part s.link new s.known (continued ∷ o.es) None o.stream rest (bytes_of o.es) continue_bytes (Err why) (passed_true s.link s.known o.es (continued ∷ o.es) _ _ o.passed.are_true o.passed)
-      (gives_none o.stream (items_of (continued ∷ o.es)) s.reader.held o.told) (append-nil (bytes_of o.es ++ continue_bytes)) w;
-    least = omega arith; most = omega arith;
+        (gives_none o.stream (items_of (continued ∷ o.es)) s.reader.held o.told) (append-nil (bytes_of o.es ++ continue_bytes)) w;
+    least = omega arith;
+    most = omega arith;
   })
 
   -- the reply to a request
@@ -188,14 +205,19 @@ module _ (shows : ℕ → Ask → Reply → List Mark → Type 0) (takes : Asked
 
     pub gave : (new : LinkState) {u : Unit {0}} → Wrote s.link (text_of reply m.close) (Ok u) new → Talks shows takes c (record s { link = new; requests = n }) rest
     gave new w = record {
-      es = es; stream = o.stream;
+      es = es;
+      stream = o.stream;
       passed = passed_wrote s.link new s.known es _ _ (text_of reply m.close) w.after (wrote_whole s.link new _ w) passed;
-      told = o.told; going = o.going; count = counted; unshut = w.after.shut ∙ o.unshut;
+      told = o.told;
+      going = o.going;
+      count = counted;
+      unshut = w.after.shut ∙ o.unshut;
     }
 
     pub gave_last : (new : LinkState) {u : Unit {0}} → Wrote s.link (text_of reply m.close) (Ok u) new → m.close ≡ true → EndsBy shows takes c cause.Closed new s.known n
     gave_last new w closes = record {
-      es = es; rest = rest;
+      es = es;
+      rest = rest;
       came = came_whole new s.known es o.stream rest (passed_wrote s.link new s.known es _ _ (text_of reply m.close) w.after (wrote_whole s.link new _ w) passed) gives;
       count = counted;
       ends = inr closes;
@@ -203,9 +225,13 @@ module _ (shows : ℕ → Ask → Reply → List Mark → Type 0) (takes : Asked
 
     pub gave_part : (new : LinkState) (why : Cause) → Wrote s.link (text_of reply m.close) (Err why) new → EndsBy shows takes c why new s.known s.requests
     gave_part new why w = stopped why s.link new s.known s.requests o.passed.later w.stopped (let k = o.count in record {
-      es = es; rejection = None; rest = rest; unwritten = w.unwritten;
+      es = es;
+      rejection = None;
+      rest = rest;
+      unwritten = w.unwritten;
       came = came_part s.link new s.known es None o.stream rest (bytes_of o.es) (text_of reply m.close) (Err why) passed gives (append-nil (bytes_of o.es ++ text_of reply m.close)) w;
-      least = omega arith; most = omega arith;
+      least = omega arith;
+      most = omega arith;
     })
 
     pub gave_next : (new : LinkState) {u : Unit {0}} (r : Result Unit Cause) → Wrote s.link (text_of reply m.close) (Ok u) new → MatchResult r (λ _. m.close ≡ false) (λ why. (m.close ≡ true) × (why ≡ cause.Closed))
@@ -216,47 +242,57 @@ module _ (shows : ℕ → Ask → Reply → List Mark → Type 0) (takes : Asked
   -- the reply to what is refused
   pub refuses : (s : Stage) (new : LinkState) (why : Rejection) {u : Unit {0}} → Wrote s.link (last_bytes (Some why)) (Ok u) new → OwesRefusal shows takes c s.link s.known s.requests why → EndsBy shows takes c (cause.Refused why) new s.known s.requests
   refuses s new why {u} w o = record {
-    es = o.es; rest = [];
+    es = o.es;
+    rest = [];
     came = subst (λ (l : List ℕ). Came shows takes c new s.known o.es (Some why) [] l) w.whole
-      (came_part s.link new s.known o.es (Some why) o.stream [] (bytes_of o.es) (last_bytes (Some why)) (Ok u) (passed_as s.link s.known o.es o.stream (o.stream ++ []) _ (append-nil o.stream) o.passed) o.gives refl w);
+        (came_part s.link new s.known o.es (Some why) o.stream [] (bytes_of o.es) (last_bytes (Some why)) (Ok u) (passed_as s.link s.known o.es o.stream (o.stream ++ []) _ (append-nil o.stream) o.passed) o.gives refl w);
     count = o.count;
     ends = refl;
   }
 
   pub refuses_part : (s : Stage) (new : LinkState) (why : Rejection) (cut : Cause) → Wrote s.link (last_bytes (Some why)) (Err cut) new → OwesRefusal shows takes c s.link s.known s.requests why → EndsBy shows takes c cut new s.known s.requests
   refuses_part s new why cut w o = stopped cut s.link new s.known s.requests o.passed.later w.stopped (let k = o.count in record {
-    es = o.es; rejection = Some why; rest = []; unwritten = w.unwritten;
+    es = o.es;
+    rejection = Some why;
+    rest = [];
+    unwritten = w.unwritten;
     came = came_part s.link new s.known o.es (Some why) o.stream [] (bytes_of o.es) (last_bytes (Some why)) (Err cut) (passed_as s.link s.known o.es o.stream (o.stream ++ []) _ (append-nil o.stream) o.passed) o.gives refl w;
-    least = omega arith; most = omega arith;
+    least = omega arith;
+    most = omega arith;
   })
 
   -- what a read leaves
   pub read_more : (s : Stage) (new : LinkState) (into : List ℕ) (n : ℕ) (r : Result ℕ Failed) → r ≡ Ok n → Reads s.link into r new → Talks shows takes c s [] → Talks shows takes c (record s { link = new }) (take n into)
   read_more s new into n r e w x = record {
-    es = x.es; stream = x.stream;
+    es = x.es;
+    stream = x.stream;
     passed = record {
       heard = known_on c.first.heard s.link.heard new.heard x.stream (take n into) (x.passed.heard ∙ ap (append_known c.first.heard) (append-nil x.stream))
-        (subst (λ (z : Result ℕ Failed). MatchResult z (λ count. new.heard ≡ append_known s.link.heard (take count into)) (λ _. new.heard ≡ s.link.heard)) e w.heard);
+          (subst (λ (z : Result ℕ Failed). MatchResult z (λ count. new.heard ≡ append_known s.link.heard (take count into)) (λ _. new.heard ≡ s.link.heard)) e w.heard);
       said = w.said ∙ x.passed.said;
       are_true = x.passed.are_true;
       grown = x.passed.grown;
       later = later_read c.first s.link new into r w x.passed.later;
     };
-    told = x.told; going = x.going; count = x.count; unshut = w.shut ∙ x.unshut;
+    told = x.told;
+    going = x.going;
+    count = x.count;
+    unshut = w.shut ∙ x.unshut;
   }
 
   came_read : (s : Stage) (new : LinkState) (into : List ℕ) (r : Result ℕ Failed) → new.heard ≡ s.link.heard → Reads s.link into r new → (x : Talks shows takes c s []) → Came shows takes c new s.known x.es None [] []
   came_read s new into r heard w x = came_whole new s.known x.es x.stream [] (record {
-      heard = heard ∙ x.passed.heard;
-      said = w.said ∙ x.passed.said;
-      are_true = x.passed.are_true;
-      grown = x.passed.grown;
-      later = later_read c.first s.link new into r w x.passed.later;
-    }) (gives_none x.stream (items_of x.es) s.reader.held x.told)
+    heard = heard ∙ x.passed.heard;
+    said = w.said ∙ x.passed.said;
+    are_true = x.passed.are_true;
+    grown = x.passed.grown;
+    later = later_read c.first s.link new into r w x.passed.later;
+  }) (gives_none x.stream (items_of x.es) s.reader.held x.told)
 
   pub read_end : (s : Stage) (new : LinkState) (into : List ℕ) {n : ℕ} → Reads s.link into (Ok n) new → n ≡ 0 → 0 < length into → Talks shows takes c s [] → EndsBy shows takes c cause.Closed new s.known s.requests
   read_end s new into {n} w e room x = record {
-    es = x.es; rest = [];
+    es = x.es;
+    rest = [];
     came = came_read s new into (Ok n) (w.heard ∙ (ap (λ (z : ℕ). append_known s.link.heard (take z into)) e ∙ known_nil s.link.heard)) w x;
     count = x.count;
     ends = inl (refl, rose_from c.first.ends s.link.ends new.ends x.passed.later.ends (w.at_end.at_end (ap Ok e) room));
@@ -264,7 +300,8 @@ module _ (shows : ℕ → Ask → Reply → List Mark → Type 0) (takes : Asked
 
   pub read_fault : (s : Stage) (new : LinkState) (into : List ℕ) {f : Failed} → Reads s.link into (Err f) new → Talks shows takes c s [] → EndsBy shows takes c cause.ReadFault new s.known s.requests
   read_fault s new into {f} w x = record {
-    es = x.es; rest = [];
+    es = x.es;
+    rest = [];
     came = came_read s new into (Err f) w.heard w x;
     count = x.count;
     ends = (refl, rose_from c.first.read_faults s.link.read_faults new.read_faults x.passed.later.read_faults w.cause.failed);
@@ -272,12 +309,19 @@ module _ (shows : ℕ → Ask → Reply → List Mark → Type 0) (takes : Asked
 
   pub begins : (reader : Reader) → Read [] [] reader.held → reader.stop ≡ None → c.first.shut ≡ false → Talks shows takes c (record { link = c.first; reader = reader; known = c.begun; requests = 0 }) []
   begins reader told going unshut = record {
-    es = []; stream = [];
+    es = [];
+    stream = [];
     passed = record {
-      heard = sym (known_nil c.first.heard); said = sym (known_nil c.first.said); are_true = tt; grown = grows_none c.begun;
+      heard = sym (known_nil c.first.heard);
+      said = sym (known_nil c.first.said);
+      are_true = tt;
+      grown = grows_none c.begun;
       later = record { number = refl; ends = omega arith; read_faults = omega arith; write_faults = omega arith };
     };
-    told = told; going = going; count = refl; unshut = unshut;
+    told = told;
+    going = going;
+    count = refl;
+    unshut = unshut;
   }
 
   -- what a call of the reader leaves to be done
@@ -288,29 +332,39 @@ module _ (shows : ℕ → Ask → Reply → List Mark → Type 0) (takes : Asked
 
     owes : (given : Given) → Read (x.stream ++ take used piece) (items_of x.es ++ given ∷ []) after.held → after.stop ≡ None → Owes shows takes c (record s { reader = after }) (drop used piece) given
     owes given told going = record {
-      es = x.es; stream = x.stream ++ take used piece;
+      es = x.es;
+      stream = x.stream ++ take used piece;
       passed = passed_as s.link s.known x.es (x.stream ++ piece) _ _ taken x.passed;
-      told = told; going = going; count = x.count; unshut = x.unshut; before = so_far s piece x;
+      told = told;
+      going = going;
+      count = x.count;
+      unshut = x.unshut;
+      before = so_far s piece x;
     }
 
     pub comes : (got : Got) → (got ≢ gots.Memory → Told (x.stream ++ seen_by got used piece) (items_of x.es ++ given_by got) after.held after.stop) → after.stop ≡ stop_of got → Moves s.reader.held piece used got after.held
         → Comes shows takes c (record s { reader = after }) (drop used piece) got
     comes gots.More told stop moves =
         let none = drop_all piece used moves.0 in record {
-          es = x.es; stream = x.stream ++ piece;
+          es = x.es;
+          stream = x.stream ++ piece;
           passed = passed_as s.link s.known x.es (x.stream ++ piece) _ _ (ap (λ (l : List ℕ). (x.stream ++ piece) ++ l) none ∙ append-nil (x.stream ++ piece)) x.passed;
           told = subst (λ (l : List Given). Read (x.stream ++ piece) l after.held) (append-nil (items_of x.es))
-            (subst (λ (o : Option Stop). Told (x.stream ++ piece) (items_of x.es ++ []) after.held o) stop (told (λ e. cc e)));
-          going = stop; count = x.count; unshut = x.unshut;
+              (subst (λ (o : Option Stop). Told (x.stream ++ piece) (items_of x.es ++ []) after.held o) stop (told (λ e. cc e)));
+          going = stop;
+          count = x.count;
+          unshut = x.unshut;
         }
     comes gots.Continue told stop moves = owes go_on (subst (λ (o : Option Stop). Told (x.stream ++ take used piece) (items_of x.es ++ go_on ∷ []) after.held o) stop (told (λ e. cc e))) stop
     comes (gots.Message m) told stop moves = owes (whole (raw m)) (subst (λ (o : Option Stop). Told (x.stream ++ take used piece) (items_of x.es ++ whole (raw m) ∷ []) after.held o) stop (told (λ e. cc e))) stop
     comes (gots.Refused why) told stop moves = record {
-      es = x.es; stream = x.stream ++ piece; passed = x.passed;
+      es = x.es;
+      stream = x.stream ++ piece;
+      passed = x.passed;
       gives = record {
         tail = refused why;
         messages = subst (λ (l : List Given). Messages (x.stream ++ piece) l (refused why)) (append-nil (items_of x.es))
-          (subst (λ (o : Option Stop). Told (x.stream ++ piece) (items_of x.es ++ []) after.held o) stop (told (λ e. cc e)));
+            (subst (λ (o : Option Stop). Told (x.stream ++ piece) (items_of x.es ++ []) after.held o) stop (told (λ e. cc e)));
         rejection_is = refl;
       };
       count = x.count;
@@ -335,9 +389,15 @@ module _ (shows : ℕ → Ask → Reply → List Mark → Type 0) (takes : Asked
 
   came_shut : (v : Knowledge Mark) (es : List Exchange) (rejection : Option Rejection) (rest unwritten : List ℕ) → Came shows takes c link v es rejection rest unwritten → Came shows takes c shut_link v es rejection rest unwritten
   came_shut v es rejection rest unwritten x = let p = x.passed in let l = p.later in record {
-    stream = x.stream; written = x.written; gives = x.gives; due = x.due;
+    stream = x.stream;
+    written = x.written;
+    gives = x.gives;
+    due = x.due;
     passed = record {
-      heard = p.heard; said = p.said; are_true = p.are_true; grown = p.grown;
+      heard = p.heard;
+      said = p.said;
+      are_true = p.are_true;
+      grown = p.grown;
       later = record { number = l.number; ends = l.ends; read_faults = l.read_faults; write_faults = l.write_faults };
     };
   }

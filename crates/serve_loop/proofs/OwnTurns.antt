@@ -65,7 +65,7 @@ rests_by mine n old mid new rest are none own l = record {
   rest = rest ++ l.rest;
   are = joined old mid new rest l.rest are l.are;
   own = λ k a. same_among n k _ (l.own k (subst (Among k) (none_append takes rest l.rest none) a))
-    (subst (λ (z : List ℕ). Among n (mine ++ z)) (sym (append_none opens rest l.rest l.opens_none)) own);
+      (subst (λ (z : List ℕ). Among n (mine ++ z)) (sym (append_none opens rest l.rest l.opens_none)) own);
 }
 
 pub rests_first : (shows : ℕ → Ask → Reply → List Mark → Type 0) (mine : List ℕ) (ask : Ask) (k : ℕ) (t : Turned) (old new : List Mark) → Turns shows (Some ask) k t old new → Rests mine old new
@@ -151,8 +151,8 @@ waits_first n ask old mid mine m k once own = record {
   own = own;
   asked = subst (IsAmong (asked_mark n ask)) (sym m.are) (in_right (asked_mark n ask) old m.rest m.asked);
   untaken = λ a.
-    let before : Among n (numbers takes old) = subst (Among n) (ap (numbers takes) m.are ∙ append_none takes old m.rest m.takes_none) a in
-    once_apart n (numbers opens old) (numbers opens m.rest) (subst EachOnce (ap (numbers opens) m.are ∙ numbers_append opens old m.rest) once) (k.taken n before) (subst (Among n) (sym m.opens_it) (one n));
+      let before : Among n (numbers takes old) = subst (Among n) (ap (numbers takes) m.are ∙ append_none takes old m.rest m.takes_none) a in
+      once_apart n (numbers opens old) (numbers opens m.rest) (subst EachOnce (ap (numbers opens) m.are ∙ numbers_append opens old m.rest) once) (k.taken n before) (subst (Among n) (sym m.opens_it) (one n));
 }
 
 -- one that waited still does
@@ -161,7 +161,7 @@ waits_on n ask seen old mine w e = record {
   own = w.own;
   asked = subst (IsAmong (asked_mark n ask)) (sym e.1) (in_left (asked_mark n ask) seen e.0 w.asked);
   untaken = λ a. ⊎_elim (λ (b : Among n (numbers takes seen)). w.untaken b) (λ (b : Among n (numbers takes e.0)). (e.2 n w.own).1 b)
-    (among_append n (numbers takes seen) (numbers takes e.0) (subst (Among n) (ap (numbers takes) e.1 ∙ numbers_append takes seen e.0) a));
+      (among_append n (numbers takes seen) (numbers takes e.0) (subst (Among n) (ap (numbers takes) e.1 ∙ numbers_append takes seen e.0) a));
 }
 
 pub waits_quiet : (n : ℕ) (ask : Ask) (old mid : List Mark) (mine : List ℕ) → Waits n ask old mine → AddsQuiet old mid → Waits n ask mid mine
@@ -185,7 +185,7 @@ stands_first shows ask k t old new mine w' x shut before after s m =
     let own : Among t.number w'.mine = subst (Among t.number) (sym m) (among_right t.number mine _ (subst (Among t.number) (sym whole) (one t.number))) in
     let once : EachOnce (numbers opens x.mid) = subst EachOnce (ap (numbers opens) l.are ∙ append_none opens x.mid l.rest l.opens_none) after.once in
     stands_known shows t.number ask t.got w' (subst (λ (z : List Mark). StandsOver shows t.number ask t.got z w'.mine) (sym s)
-      (stands shows t.number ask t.got x.mid new w'.mine (waits_first t.number ask old x.mid w'.mine w before once own) x.got shut after))
+    (stands shows t.number ask t.got x.mid new w'.mine (waits_first t.number ask old x.mid w'.mine w before once own) x.got shut after))
 
 pub stands_next : (shows : ℕ → Ask → Reply → List Mark → Type 0) (ask : Ask) (k : ℕ) (t : Turned) (seen old new : List Mark) (mine : List ℕ) (w' : Knowledge Mark)
     → Waits k ask seen mine → Extends opens takes mine seen old

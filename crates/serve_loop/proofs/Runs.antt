@@ -112,7 +112,7 @@ module _ {R S Cl G L : Type 0} {H : Ghosts S Mark} where
         new = subst (λ (k : ℕ). IsNew k (state job.link)) number i.new;
         agent = i.agent ∙ ap (agent_of agents) number;
         drawn = subst (λ (d : Draw). IsDrawn (option_map (λ before. before ++ x ∷ []) draws) (state job.link).number d) (sym i.draw_is)
-          (subst (λ (k : ℕ). IsDrawn (option_map (λ before. before ++ x ∷ []) draws) k x) (sym e ∙ number) (drawn_now draws g x h));
+            (subst (λ (k : ℕ). IsDrawn (option_map (λ before. before ++ x ∷ []) draws) k x) (sym e ∙ number) (drawn_now draws g x h));
       }
 
 -- a link that was served, by what its job promised
@@ -128,7 +128,12 @@ module _ (shows : ℕ → Ask → Reply → List Mark → Type 0) (takes : Asked
       → EndsBy shows takes c why link known requests → link.shut ≡ true → IsServed shows takes agents draws link
   is_served c link known why requests new agent drawn ends shut =
       let number : c.first.number ≡ link.number = sym (later_number c shows takes why link known requests ends) in record {
-        first = c.first; draw = c.draw; begun = c.begun; known = known; cause = why; requests = requests;
+        first = c.first;
+        draw = c.draw;
+        begun = c.begun;
+        known = known;
+        cause = why;
+        requests = requests;
         new = subst (λ (n : ℕ). IsNew n c.first) number new;
         drawn = subst (λ (n : ℕ). IsDrawn draws n c.draw) number drawn;
         ends = subst (λ (a : ℕ). EndsBy shows takes (record { agent = a; draw = c.draw; first = c.first; begun = c.begun }) why link known requests) (agent ∙ ap (agent_of agents) number) ends;

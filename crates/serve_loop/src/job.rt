@@ -47,9 +47,13 @@ pub struct Finished<L, S: History> {
 }
 
 /// Serves a connection to its end, and shuts it: each request is asked and answered before the next one is read.
-pub fn serve_connection<R: Wait + Drop, C: SharedCluster, Cl: Clock + Drop, G: Gate + Drop, L: Link>(
-    job: ServeJob<R, Served<C>, Cl, G, L>,
-) -> Finished<L, Served<C>>
+pub fn serve_connection<
+    R: Wait + Drop,
+    C: SharedCluster,
+    Cl: Clock + Drop,
+    G: Gate + Drop,
+    L: Link,
+>(job: ServeJob<R, Served<C>, Cl, G, L>) -> Finished<L, Served<C>>
     requires ours { IsOurs (arc_value job.board) job.pass }
     requires agent { (0 < job.agent) × (job.agent ≤ C.agents) }
     requires fresh { (job.reader.stop ≡ None) × Told [] [] job.reader.held job.reader.stop }
@@ -104,8 +108,7 @@ pub fn serve_connection<R: Wait + Drop, C: SharedCluster, Cl: Clock + Drop, G: G
 }
 
 impl<R: Wait + Drop, C: SharedCluster, Cl: Clock + Drop, G: Gate + Drop, L: Link> Job
-    for ServeJob<R, Served<C>, Cl, G, L>
-{
+    for ServeJob<R, Served<C>, Cl, G, L> {
     ghost use Rattle.std.specs.Arc.{arc_value};
     ghost use Rattle.http_wire.specs.State.{Told};
     ghost use Rattle.serve_loop.specs.Boards.{IsOurs};

@@ -20,7 +20,9 @@ use crate::serving::Board;
 use crate::writing::send_refusing;
 use cat_model::{Draw, Memory, Refusal};
 use http_wire::RequestReader;
-use serve_outside::{Clock, Gate, Job, Link, Listener, NoteOf, Spawner, Task, Words, finish, start};
+use serve_outside::{
+    Clock, Gate, Job, Link, Listener, NoteOf, Spawner, Task, Words, finish, start,
+};
 use std::alloc::{AllocError, Global};
 use std::sync::{Arc, Wait};
 use std::thread::{Promise, Threads};
@@ -36,8 +38,10 @@ pub enum Stop {
 }
 
 /// A connection's task.
-pub type TaskOf<R, C, Cl, G, L> =
-    Task<NoteOf<ServeJob<R, Served<C>, Cl, G, L>>, Finished<L, Served<C>>>;
+pub type TaskOf<R, C, Cl, G, L> = Task<
+    NoteOf<ServeJob<R, Served<C>, Cl, G, L>>,
+    Finished<L, Served<C>>,
+>;
 
 /// What all connections of a run share.
 #[derive(Drop)]
@@ -55,7 +59,14 @@ pub struct Server<R, S: History, Cl, G> {
 fn parts<R, C: SharedCluster, Cl, G>(
     server: &Server<R, Served<C>, Cl, G>,
     pass: &mut Pass<Served<C>>,
-) -> Result<(RequestReader, Arc<Board<Served<C>>, Global>, Pass<Served<C>>), Memory>
+) -> Result<
+    (
+        RequestReader,
+        Arc<Board<Served<C>>, Global>,
+        Pass<Served<C>>,
+    ),
+    Memory,
+>
     requires ours { IsOurs (arc_value server.now.board) pass.old }
     ensures ours { IsOurs (arc_value server.now.board) pass.new }
     ensures reader { IfOk result (λ r. (r.0.stop ≡ None) × Told [] [] r.0.held r.0.stop) }
@@ -72,7 +83,13 @@ fn parts<R, C: SharedCluster, Cl, G>(
 }
 
 // The job of the n-th connection, or its link where there is no memory for a job.
-fn job_of<R: Wait + Copy + Drop, C: SharedCluster, Cl: Clock + Copy + Drop, G: Gate + Copy + Drop, L: Link>(
+fn job_of<
+    R: Wait + Copy + Drop,
+    C: SharedCluster,
+    Cl: Clock + Copy + Drop,
+    G: Gate + Copy + Drop,
+    L: Link,
+>(
     server: &Server<R, Served<C>, Cl, G>,
     pass: &mut Pass<Served<C>>,
     link: L,
@@ -182,10 +199,7 @@ pub fn finish_task<
     Cl: Clock + Drop,
     G: Gate + Drop,
     L: Link,
->(
-    server: &Server<R, Served<C>, Cl, G>,
-    task: TaskOf<R, C, Cl, G, L>,
-) -> Finished<L, Served<C>>
+>(server: &Server<R, Served<C>, Cl, G>, task: TaskOf<R, C, Cl, G, L>) -> Finished<L, Served<C>>
     requires kept { IsKept ⟦<NoteOf<ServeJob<R, Served<C>, Cl, G, L>> as Promise<Finished<L, Served<C>>>>⟧.kept_by task }
     ensures { HasEnded C.shows C.takes L.state (note_of task).0.value result }
 {
@@ -236,8 +250,8 @@ where
     ensures job { IfOk result (λ o. IfSome o (λ task. IsStartedAs n draw (arc_value server.now.board) C.agents L.Link.state (note_of task).0.value)) }
     ensures turned { MatchResult result
         (λ o. MatchOption o
-            (TurnedAway (L.closed listener.old) (L.closed listener.new) (Sp.faults spawner.old) (Sp.faults spawner.new) 1)
-            (λ _. TurnedAway (L.closed listener.old) (L.closed listener.new) (Sp.faults spawner.old) (Sp.faults spawner.new) 0))
+        (TurnedAway (L.closed listener.old) (L.closed listener.new) (Sp.faults spawner.old) (Sp.faults spawner.new) 1)
+        (λ _. TurnedAway (L.closed listener.old) (L.closed listener.new) (Sp.faults spawner.old) (Sp.faults spawner.new) 0))
         (λ why. TurnedAway (L.closed listener.old) (L.closed listener.new) (Sp.faults spawner.old) (Sp.faults spawner.new + lacking (Err why)) (lacking (Err why))) }
     ensures counted { L.faults listener.old ≤ L.faults listener.new }
     ensures cause { IfErr result (λ why. why ≡ stops.Listener → Rose (L.faults listener.old) (L.faults listener.new)) }
@@ -371,7 +385,9 @@ where
     ensures served { ServesOne C.shows C.takes C.agents (W.draws words.now) (L.closed listener.old) (L.closed listener.new) }
 {
     let Finished {
-        link, pass: own, ..
+        link,
+        pass: own,
+        ..
     } = finish_task(server, task);
     give_back(server, pass, own);
     listener.close(link);

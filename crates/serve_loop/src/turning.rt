@@ -111,7 +111,10 @@ fn wait_for<R: Wait, C: SharedCluster, Cl: Clock, G: Gate>(
     ensures answered { IfOk result (λ reply. (ask : SpecAsk) → Stands C.shows turned.number ask turned.got (known pass.old)
         → IsAnswered C.shows ask reply (known pass.new).seen (known pass.new).mine) }
 {
-    let Turned { mut number, mut got } = turned;
+    let Turned {
+        mut number,
+        mut got,
+    } = turned;
     for _ in rt.forever() {
         match got {
             Collected::Ready(reply) => return Ok(reply),

@@ -93,11 +93,7 @@ fn discard(_: Reply) {}
 
 /// Writes a refusal, behind which the connection ends.
 #[tactic(auto, using(crate::proofs::Written::wrote_none))]
-pub(crate) fn send_refusing<L: Link>(
-    link: &mut L,
-    alloc: Global,
-    why: Refusal,
-) -> Result<(), Cause>
+pub(crate) fn send_refusing<L: Link>(link: &mut L, alloc: Global, why: Refusal) -> Result<(), Cause>
     requires unshut { (L.state link.old).shut ≡ false }
     ensures { Wrote (L.state link.old) (spec.text_of (spec.refusing why) true) result (L.state link.new) }
 {

@@ -14,8 +14,8 @@ invariant-loop-task g l =
     × (length l.tasks.items ≤ length l.fn.tasks.items)
     × AllServed g.C.SharedCluster.shows g.C.SharedCluster.takes g.C.SharedCluster.agents (g.W.Words.draws l.words) (g.L.Listener.closed l.fn.listener) (g.L.Listener.closed l.listener) (length l.fn.tasks.items - length l.tasks.items)
     × AllTasks l.tasks.items
-        (λ p d. HasEnded g.C.SharedCluster.shows g.C.SharedCluster.takes g.L.Link.Link.state p.0.value d)
-        (λ p. IsStarted (arc_value l.server.board) g.C.SharedCluster.agents (g.W.Words.draws l.words) g.L.Link.Link.state p.0.value)
+    (λ p d. HasEnded g.C.SharedCluster.shows g.C.SharedCluster.takes g.L.Link.Link.state p.0.value d)
+    (λ p. IsStarted (arc_value l.server.board) g.C.SharedCluster.agents (g.W.Words.draws l.words) g.L.Link.Link.state p.0.value)
 
 abbrev pub decreases-loop-task : goal.decreases-loop-task
 decreases-loop-task g l = goal.left-loop-task g l

@@ -10,5 +10,5 @@ pub returns-in-Err-clause-turned : goal.returns-in-Err-clause-turned
 returns-in-Err-clause-turned g c =
     let state = g.L.Link.Link.state in
     turned_one (g.L.Listener.closed c.args.listener.now) (g.L.Listener.closed c.close.new.self) _ _ _ (state c.in-Err.job.link) (state c.turn_away.new.link)
-      (subst (λ (j : _). IsNew (state j.link).number (state j.link)) (sym c.in-Err.ensures.refused) c.requires.new)
-      c.turn_away.ensures c.close.ensures.closed c.in-Err.ensures.cause
+    (subst (λ (j : _). IsNew (state j.link).number (state j.link)) (sym c.in-Err.ensures.refused) c.requires.new)
+    c.turn_away.ensures c.close.ensures.closed c.in-Err.ensures.cause

@@ -23,14 +23,14 @@ returns-in-Ok-Some-clause-tasks g c =
     let one = started_now board agents draws state x given c.args.n (note_of task).0.value c.requires.drawn c.requires.number job in
     let both = all_one_more (λ t. IsKept (λ p d. HasEnded shows takes state p.0.value d) t × IsStarted board agents more state (note_of t).0.value) items task all (kept, one) in
     subst (λ (o : Option (List Draw)). AllTasks c.push_reserved.new.self.items (λ p d. HasEnded shows takes state p.0.value d) (λ p. IsStarted board agents o state p.0.value)) (sym c.draw-draw.ensures)
-      (subst (λ (l : List _). All (λ t. IsKept (λ p d. HasEnded shows takes state p.0.value d) t × IsStarted board agents more state (note_of t).0.value) l) (sym (c.push_reserved.ensures.items ∙ ap (λ (l : List _). l ++ task ∷ []) c.reserve.ensures.items)) both)
+    (subst (λ (l : List _). All (λ t. IsKept (λ p d. HasEnded shows takes state p.0.value d) t × IsStarted board agents more state (note_of t).0.value) l) (sym (c.push_reserved.ensures.items ∙ ap (λ (l : List _). l ++ task ∷ []) c.reserve.ensures.items)) both)
 
 pub returns-in-Ok-None-clause-drawn : goal.returns-in-Ok-None-clause-drawn
 returns-in-Ok-None-clause-drawn g c =
     let shows = g.C.SharedCluster.shows in let takes = g.C.SharedCluster.takes in let agents = g.C.SharedCluster.agents in let state = g.L.Link.Link.state in
     let board = arc_value c.args.server.now.board in let draws = g.W.Words.draws c.args.words.now in let given = g.L.Listener.given c.args.listener.now in let x = c.draw-draw.result in
     subst (λ (o : Option (List Draw)). HasDrawn o c.args.n) (sym c.draw-draw.ensures)
-      (subst (λ (k : ℕ). HasDrawn (option_map (λ before. before ++ x ∷ []) draws) k) (sym c.requires.number) (has_drawn draws given x c.requires.drawn))
+    (subst (λ (k : ℕ). HasDrawn (option_map (λ before. before ++ x ∷ []) draws) k) (sym c.requires.number) (has_drawn draws given x c.requires.drawn))
 
 pub returns-in-Err-clause-starts : goal.returns-in-Err-clause-starts
 returns-in-Err-clause-starts g c =

@@ -17,8 +17,7 @@ loop-n-init g c =
 
 pub loop-n-preserved : goal.loop-n-preserved
 loop-n-preserved g c =
-    let closed = g.L.Listener.closed in let faults = g.Sp.Spawner.faults in let given = g.L.Listener.given in let i = c.loop-n.invariant in
-    (
+    let closed = g.L.Listener.closed in let faults = g.Sp.Spawner.faults in let given = g.L.Listener.given in let i = c.loop-n.invariant in (
       omega arith,
       c.in-Ok.ensures.ours,
       c.in-Ok.ensures.given,

@@ -25,8 +25,8 @@ returns-clause-stands g c =
     let mine' = c.give.new.pass.seat.me.0.mine in
     let same : c.take-turn.new.pass.seat.me.0.seen ≡ old = c.take-turn.ensures.seen ∙ ap (λ (s : _). g.C.SharedCluster.marks s.cluster) (sym c.state.ensures.value) in
     let step : mine' ≡ c.take-turn.new.pass.seat.me.0.mine ++ numbers opens (drop (length old) new) =
-        subst (λ (l : List Mark). mine' ≡ c.take-turn.new.pass.seat.me.0.mine ++ numbers opens (drop (length l) new)) same c.give.ensures.mine in
+    subst (λ (l : List Mark). mine' ≡ c.take-turn.new.pass.seat.me.0.mine ++ numbers opens (drop (length l) new)) same c.give.ensures.mine in
     let now_mine : mine' ≡ mine ++ numbers opens (drop (length old) new) =
-        subst (λ (l : List ℕ). mine' ≡ l ++ numbers opens (drop (length old) new)) c.take-turn.ensures.mine step in
+    subst (λ (l : List ℕ). mine' ≡ l ++ numbers opens (drop (length old) new)) c.take-turn.ensures.mine step in
     let extends : Extends opens takes mine seen old = subst (λ (s : _). Extends opens takes mine seen (g.C.SharedCluster.marks s.cluster)) (sym c.state.ensures.value) c.take-turn.ensures.grown in
     turned_next g.C.SharedCluster.shows c.args.number c.turn-turned.result seen old new mine c.give.new.pass.seat.me.0 extends c.turn-turned.ensures.turned c.turn-turned.ensures.unclosed c.turn-turned.ensures.after c.give.ensures.seen now_mine
