@@ -41,9 +41,6 @@ pub trait SharedCluster: Drop {
     /// How many agents there are.
     ghost agents: { ℕ };
 
-    /// The clocks can go on by so many milliseconds.
-    ghost can_go: { Self → ℕ → Type 0 };
-
     /// The reply to the request with this number shows what it asks for and its kind give over the log that these marks
     /// tell.
     ghost shows: { ℕ → SpecAsk → SpecReply → List SpecMark → Type 0 };
@@ -60,14 +57,9 @@ pub trait SharedCluster: Drop {
     fn kept(&self)
         ensures { AreKept (marks self.now) };
 
-    /// Whether the clocks can go on by so many milliseconds. Nothing happens.
-    fn has_time(&self, ms: u64) -> bool
-        ensures { result ≡ true → can_go self.now ms };
-
-    /// All clocks go on by so many milliseconds, and what is due by then happens: elections, heartbeats, the expiry of
-    /// sessions, the end of reads that wait. No request is asked or taken.
+    /// All clocks go on by so many milliseconds, but for those that are at their end, and what is due by then happens. No
+    /// request is asked or taken.
     fn advance(&mut self, alloc: Global, ms: u64) -> Result<(), Memory>
-        requires { can_go self.old ms }
         ensures { AddsQuiet (marks self.old) (marks self.new) };
 
     /// Asks an agent, and gives the request's number, which was never given before. The reply comes later. An ask that

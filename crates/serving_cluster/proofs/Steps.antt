@@ -1,0 +1,219 @@
+-- What the calls of a cluster put behind its marks, and that it goes on to serve.
+use Rattle.std.proofs.Common.{◌≡◌, ◌<◌, ◌≤◌, ◌⊎◌, ℕ, suc, Bool, true, false, inl, inr, List, [], ◌∷◌, ◌++◌, length, reverse, arith, refl, sym, ap, ◌∙◌, subst, Option, Some, None, Result, Ok, Err}
+use Rattle.std.proofs.lemmas.List.{reverse-reverse}
+use Rattle.std.specs.Prelude.{MatchResult, IfOk, OnErr, OnOk, nat_le, if◌then◌else◌}
+use Rattle.cat_model.specs.declared.memory.Memory.{Memory}
+use Rattle.cat_model.specs.declared.request.Event.{Event}
+use Rattle.cat_model.specs.declared.request.Event.TheVariants as event
+use Rattle.cat_model.specs.declared.reply.Mark.{Mark}
+use Rattle.cat_model.specs.declared.reply.Mark.TheVariants as mark
+use Rattle.open_requests.specs.declared.collected.Collected as from_cluster
+use Rattle.cluster_interface.specs.Taking as taking
+use Rattle.cluster_rules.specs.Lasting.{Lasting}
+use Rattle.cluster_rules.specs.Replies.{Closed, Out, Question, Replied, Reply, came, number_of, reply_of}
+use Rattle.cluster_rules.specs.Cluster.{Cluster}
+use Rattle.cluster_rules.specs.Past.{HasNoOut, IsNotHeld}
+use Rattle.cluster_rules.specs.Reached.{Fits, IsAgentNumber, Settling, none, pair, moves_of}
+use Rattle.cluster_rules.specs.Step.{ClusterStep, marked, noted}
+use Rattle.cluster_rules.specs.Sound.{IsAmong, Sound, entered_in}
+use Rattle.cluster_rules.proofs.Numbers.{sound_kept}
+use Rattle.cluster_rules.proofs.Theirs.{gone_taken, theirs}
+use Rattle.cluster_turns.specs.Turns.{FindsNoMemory}
+use Rattle.cluster_interface.specs.Interface.{SettlesTo}
+use Rattle.cluster_turns.specs.Pairs.{IsPartlySettled, IsPartOfPair, settled}
+use Rattle.raft_model.proofs.Tests.{at_bool}
+use Rattle.cluster_rules.proofs.Tools.{le_tells_not}
+use Rattle.script_runs.specs.declared.misfit.Misfit.TheVariants.{NoServer}
+use Rattle.script_runs.specs.Holds.{IsFirstStart}
+use Rattle.script_runs.specs.Lines.{misfit}
+use Rattle.script_runs.proofs.Fitting.{event_fits}
+use Rattle.turn_lock.specs.Lists.{Among, numbers}
+use Rattle.serve_loop.specs.declared.cluster.Ask.{Ask}
+use Rattle.serve_loop.specs.declared.cluster.Collected.{Collected}
+use Rattle.serve_loop.specs.declared.cluster.Collected.TheVariants as collected
+use Rattle.serve_loop.specs.Collects.{Collects, IsGiven}
+use Rattle.serve_loop.specs.Marks.{AddsAsked, AddsCut, AddsQuiet, AreKept, answered_mark, asked_mark, opens, restarts, takes}
+use Rattle.serve_loop.proofs.MarkLists.{cut_cut, quiet_cut, quiet_none, quiet_quiet}
+use Rattle.serving_rules.specs.Keeping.{Keeps}
+use Rattle.serving_rules.specs.Serving.{Serves}
+use Rattle.serving_rules.proofs.Keeping.{step_keeps}
+use Rattle.serving_cluster.specs.Shared.{IsOpen, shared_of}
+use Rattle.serving_rules.proofs.Serving.{asked_on, elected, is_sound, none_closed, partly_on, settled_on, taken_on, ticked_on}
+use Rattle.serving_cluster.specs.Shown.{Shows, log_of, question}
+use Rattle.serving_cluster.proofs.Marks.{Silent, are_kept, asked_event, cut_event, opened, quiet_event, quietly, silent, took}
+use Rattle.serving_cluster.proofs.Reverses.{among_or_not, in_back, in_reverse, reverse_cons}
+
+abbrev marks : Cluster → List Mark
+marks c = reverse c.past
+
+-- no request's event, and no restart
+record IsPlain (made : Event) (c : Cluster) : Type 0 where
+  pub past : (marked made c).past ≡ mark.Made made ∷ c.past
+  pub silent : Silent (mark.Made made ∷ [])
+
+plain_step : (c c' : Cluster) (made : Event) (whole : Bool) → IsPlain made c → ClusterStep c made c' whole → AddsQuiet (marks c) (marks c')
+plain_step c c' made whole p s = either (step_keeps c c' made whole s)
+  where
+    either : Keeps (marked made c) c' ⊎ (Keeps (noted made c) c' × (whole ≡ false)) → AddsQuiet (marks c) (marks c')
+    either (inl k) = quiet_event k.more (mark.Made made) c.past c'.past (k.past ∙ ap (λ (l : List Mark). k.more ++ l) p.past) k.quiet p.silent
+    either (inr k) = quiet_event k.0.more (mark.Made made) c.past c'.past k.0.past k.0.quiet p.silent
+
+plain_tick : (c : Cluster) (server ms : ℕ) → IsPlain (event.Tick server ms) c
+plain_tick c server ms = record { past = refl; silent = record { opens_none = refl; takes_none = refl; restarts_none = refl } }
+
+plain_delivery : (c : Cluster) (k : ℕ) → IsPlain (event.Deliver k) c
+plain_delivery c k = record { past = refl; silent = record { opens_none = refl; takes_none = refl; restarts_none = refl } }
+
+plain_loss : (c : Cluster) (k : ℕ) → IsPlain (event.Drop k) c
+plain_loss c k = record { past = refl; silent = record { opens_none = refl; takes_none = refl; restarts_none = refl } }
+
+-- a tick
+pub tick_quiet : (c c' : Cluster) (server ms : ℕ) (r : Result (Unit {0}) Memory) → OnOk r (ClusterStep c (event.Tick server ms) c' true) → OnErr r (FindsNoMemory (event.Tick server ms) c c') → AddsQuiet (marks c) (marks c')
+tick_quiet c c' server ms (Ok done) whole cut = plain_step c c' (event.Tick server ms) true (plain_tick c server ms) whole
+tick_quiet c c' server ms (Err why) whole (inl e) = subst (λ (z : Cluster). AddsQuiet (marks c) (marks z)) (sym e) (quiet_none (marks c))
+tick_quiet c c' server ms (Err why) whole (inr short) = plain_step c c' (event.Tick server ms) false (plain_tick c server ms) short
+
+pub tick_serves : (agents : ℕ) (c c' : Cluster) (server ms : ℕ) (r : Result (Unit {0}) Memory) → Serves agents c → misfit c (event.Tick server ms) ≡ None → OnOk r (ClusterStep c (event.Tick server ms) c' true) → OnErr r (FindsNoMemory (event.Tick server ms) c c') → Serves agents c'
+tick_serves agents c c' server ms (Ok done) s fits whole cut = ticked_on agents c c' server ms true s (event_fits c (event.Tick server ms) fits) whole
+tick_serves agents c c' server ms (Err why) s fits whole (inl e) = subst (Serves agents) (sym e) s
+tick_serves agents c c' server ms (Err why) s fits whole (inr short) = ticked_on agents c c' server ms false s (event_fits c (event.Tick server ms) fits) short
+
+-- a request
+asked_whole : (c c' : Cluster) (a : Ask) → ClusterStep c (event.Ask a.agent a.asked a.draw) c' true → (number : ℕ) → number ≡ c'.asked → AddsAsked number a (marks c) (marks c')
+asked_whole c c' a s number e = either (step_keeps c c' (event.Ask a.agent a.asked a.draw) true s)
+  where
+    either : Keeps (marked (event.Ask a.agent a.asked a.draw) c) c' ⊎ (Keeps (noted (event.Ask a.agent a.asked a.draw) c) c' × (true ≡ false)) → AddsAsked number a (marks c) (marks c')
+    either (inl k) = subst (λ n. AddsAsked n a (marks c) (marks c')) (sym (e ∙ k.asked)) (asked_event k.more (suc c.asked) a c.past c'.past k.past k.quiet)
+    either (inr k) = absurd (cc k.1)
+
+asked_cut : (c c' : Cluster) (a : Ask) (whole : Bool) → ClusterStep c (event.Ask a.agent a.asked a.draw) c' whole → AddsCut (marks c) (marks c')
+asked_cut c c' a whole s = either (step_keeps c c' (event.Ask a.agent a.asked a.draw) whole s)
+  where
+    either : Keeps (marked (event.Ask a.agent a.asked a.draw) c) c' ⊎ (Keeps (noted (event.Ask a.agent a.asked a.draw) c) c' × (whole ≡ false)) → AddsCut (marks c) (marks c')
+    either (inl k) = cut_event k.more (asked_mark (suc c.asked) a) c.past c'.past k.past k.quiet refl refl
+    either (inr k) = cut_event k.0.more (mark.Made (event.Ask a.agent a.asked a.draw)) c.past c'.past k.0.past k.0.quiet refl refl
+
+pub asks : (c c' : Cluster) (a : Ask) (r : Result ℕ Memory) → OnOk r (ClusterStep c (event.Ask a.agent a.asked a.draw) c' true) → IfOk r (λ number. number ≡ c'.asked) → IfOk r (λ number. AddsAsked number a (marks c) (marks c'))
+asks c c' a (Ok number) whole e = asked_whole c c' a whole number e
+asks c c' a (Err why) whole e = e
+
+pub asks_cut : (c c' : Cluster) (a : Ask) (r : Result ℕ Memory) → OnErr r (FindsNoMemory (event.Ask a.agent a.asked a.draw) c c') → OnErr r (AddsCut (marks c) (marks c'))
+asks_cut c c' a (Ok number) cut = cut
+asks_cut c c' a (Err why) (inl e) = subst (λ (z : Cluster). AddsCut (marks c) (marks z)) (sym e) (quiet_cut (marks c) (marks c) (quiet_none (marks c)))
+asks_cut c c' a (Err why) (inr short) = asked_cut c c' a false short
+
+pub ask_serves : (agents : ℕ) (c c' : Cluster) (a : Ask) (r : Result ℕ Memory) → Serves agents c → IsAgentNumber c a.agent → OnOk r (ClusterStep c (event.Ask a.agent a.asked a.draw) c' true) → OnErr r (FindsNoMemory (event.Ask a.agent a.asked a.draw) c c') → Serves agents c'
+ask_serves agents c c' a (Ok number) s fits whole cut = asked_on agents c c' a.agent a.asked a.draw true s fits whole
+ask_serves agents c c' a (Err why) s fits whole (inl e) = subst (Serves agents) (sym e) s
+ask_serves agents c c' a (Err why) s fits whole (inr short) = asked_on agents c c' a.agent a.asked a.draw false s fits short
+
+-- an agent of so many is one of the cluster's
+pub is_agent : (agents : ℕ) (c : Cluster) (agent : ℕ) → Serves agents c → (0 < agent) × (agent ≤ agents) → IsAgentNumber c agent
+is_agent agents c agent s f = (f.0, subst (λ n. agent ≤ n) (sym s.count) f.1)
+
+-- deliveries
+pairs_quiet : (n : ℕ) (c c' : Cluster) → Settling n c c' → AddsQuiet (marks c) (marks c')
+pairs_quiet n c c' none = quiet_none (marks c)
+pairs_quiet n c c' (pair {n = k} p c₁ c₂ low fits first fits' second more) =
+    quiet_quiet (marks c) (marks c₁) (marks c') (plain_step c c₁ (event.Deliver p.number) true (plain_delivery c p.number) first)
+    (quiet_quiet (marks c₁) (marks c₂) (marks c') (plain_step c₁ c₂ (event.Drop p.number) true (plain_loss c₁ p.number) second) (pairs_quiet k c₂ c' more))
+
+mark_quiet : (pairs : ℕ) (c : Cluster) → AddsQuiet (marks c) (marks (settled pairs c))
+mark_quiet pairs c = quietly (mark.Settled pairs true ∷ []) c.past (mark.Settled pairs true ∷ c.past) refl (record { opens_none = refl; takes_none = refl; restarts_none = refl })
+
+part_quiet : (c c' : Cluster) → IsPartOfPair c c' → AddsQuiet (marks c) (marks c')
+part_quiet c c' (inl e) = subst (λ (z : Cluster). AddsQuiet (marks c) (marks z)) (sym e) (quiet_none (marks c))
+part_quiet c c' (inr (p, low, fits, inl short)) = plain_step c c' (event.Deliver p.number) false (plain_delivery c p.number) short
+part_quiet c c' (inr (p, low, fits, inr (c₁, first, fits', inl e))) =
+    subst (λ (z : Cluster). AddsQuiet (marks c) (marks z)) (sym e) (plain_step c c₁ (event.Deliver p.number) true (plain_delivery c p.number) first)
+part_quiet c c' (inr (p, low, fits, inr (c₁, first, fits', inr short))) =
+    quiet_quiet (marks c) (marks c₁) (marks c') (plain_step c c₁ (event.Deliver p.number) true (plain_delivery c p.number) first) (plain_step c₁ c' (event.Drop p.number) false (plain_loss c₁ p.number) short)
+
+pub settles : (most : ℕ) (c c' : Cluster) (r : Result ℕ Memory) → IfOk r (SettlesTo most c c') → OnErr r (IsPartlySettled most c c') → AddsQuiet (marks c) (marks c')
+settles most c c' (Ok pairs) (mid, all, is, few, stops) cut =
+    subst (λ (z : Cluster). AddsQuiet (marks c) (marks z)) (sym is) (quiet_quiet (marks c) (marks mid) (marks (settled pairs mid)) (pairs_quiet pairs c mid all) (mark_quiet pairs mid))
+settles most c c' (Err why) whole (pairs, few, (mid, all, part)) = quiet_quiet (marks c) (marks mid) (marks c') (pairs_quiet pairs c mid all) (part_quiet mid c' part)
+
+pub settle_serves : (agents most : ℕ) (c c' : Cluster) (r : Result ℕ Memory) → Serves agents c → IfOk r (SettlesTo most c c') → OnErr r (IsPartlySettled most c c') → Serves agents c'
+settle_serves agents most c c' (Ok pairs) s (mid, all, is, few, stops) cut = settled_on agents pairs c mid c' s all is
+settle_serves agents most c c' (Err why) s whole cut = partly_on agents most c c' s cut
+
+-- the taking of a reply
+one_taken : (number : ℕ) (c : Cluster) → reverse (mark.Taken number ∷ c.past) ≡ marks c ++ mark.Taken number ∷ []
+one_taken number c = reverse_cons (mark.Taken number) c.past
+
+-- a request's mark is that of its question
+pub shows : (agents number : ℕ) (c : Cluster) (reply : Reply) (before after : List Out) → Serves agents c → c.tray ≡ before ++ Replied reply ∷ after → reply.number ≡ number → (a : Ask) → IsAmong (asked_mark number a) (marks c) → Shows number a reply (marks c)
+shows agents number c reply before after s there e a asked =
+    let sound = is_sound agents c s in
+    let t = (theirs c sound before after reply there).1 (question number a) (in_back (came (question number a)) c.past asked) (sym e) in
+    let log : log_of (marks c) ≡ c.world.agreed = ap entered_in (reverse-reverse c.past) ∙ sound.parts.counts.entries in
+    record {
+      shown = subst (λ l. reply ≡ reply_of (question number a) reply.kind reply.known reply.contact l) (sym log) t.0;
+      lasts = subst (λ l. Lasting (question number a) reply.kind l) (sym log) t.1;
+    }
+
+given : (agents number : ℕ) (c : Cluster) (reply : Reply) (before after : List Out) → Serves agents c → c.tray ≡ before ++ Replied reply ∷ after → reply.number ≡ number → IsGiven Shows number reply (marks c)
+given agents number c reply before after s there e = record {
+  number_is = e;
+  answered = in_reverse (answered_mark reply) c.past (theirs c (is_sound agents c s) before after reply there).0;
+  shown = shows agents number c reply before after s there e;
+}
+
+-- what was never answered, or taken
+gone : (agents number : ℕ) (c : Cluster) → Serves agents c → HasNoOut number c.tray → IsNotHeld number c.held → (Among number (numbers opens (marks c)) → ⊥) ⊎ Among number (numbers takes (marks c))
+gone agents number c s out held = either (among_or_not number (numbers opens (marks c)))
+  where
+    either : Among number (numbers opens (marks c)) ⊎ (Among number (numbers opens (marks c)) → ⊥) → (Among number (numbers opens (marks c)) → ⊥) ⊎ Among number (numbers takes (marks c))
+    either (inl a) = inr (took number c.past (gone_taken c (is_sound agents c s) number out held (opened number c.past a)))
+    either (inr b) = inl b
+
+-- a collected reply
+pub collects_reply : (agents number : ℕ) (c c' : Cluster) (reply : Reply) → Serves agents c → taking.Collects number (from_cluster.TheVariants.Ready reply) c c' → Collects Shows number (collected.Ready reply) (marks c) (marks c')
+collects_reply agents number c c' reply s (t, e) =
+    (ap (λ (z : Cluster). marks z) t.is ∙ (ap (λ n. reverse (mark.Taken n ∷ c.past)) e ∙ one_taken number c), given agents number c reply t.before t.after s t.there e)
+
+pub reply_serves : (agents number : ℕ) (c c' : Cluster) (reply : Reply) → Serves agents c → taking.Collects number (from_cluster.TheVariants.Ready reply) c c' → Serves agents c'
+reply_serves agents number c c' reply s (t, e) = subst (Serves agents) (sym t.is) (taken_on agents reply.number c (Replied reply) t.before t.after s refl t.there)
+
+pub collects_gone : (agents number : ℕ) (c c' : Cluster) → Serves agents c → taking.Collects number from_cluster.TheVariants.Gone c c' → Collects Shows number collected.Gone (marks c) (marks c')
+collects_gone agents number c c' s (e, out, held) = (ap (λ (z : Cluster). marks z) e, gone agents number c s out held)
+
+pub never_closed : (agents number at : ℕ) (c c' : Cluster) → Serves agents c → taking.Collects number (from_cluster.TheVariants.Closed at) c c' → ⊥
+never_closed agents number at c c' s t = none_closed agents c s t.before t.after number at t.there
+
+-- whatever was collected
+pub is_open : (agents number : ℕ) (c c' : Cluster) (r : from_cluster.Collected) → Serves agents c → taking.Collects number r c c' → IsOpen r
+is_open agents number c c' (from_cluster.TheVariants.Ready reply) s t = tt
+is_open agents number c c' (from_cluster.TheVariants.Closed at) s t = never_closed agents number at c c' s t
+is_open agents number c c' (from_cluster.TheVariants.NotYet wanted) s t = tt
+is_open agents number c c' from_cluster.TheVariants.Gone s t = tt
+
+pub collects : (agents number : ℕ) (c c' : Cluster) (r : from_cluster.Collected) → Serves agents c → taking.Collects number r c c' → Collects Shows number (shared_of r) (marks c) (marks c')
+collects agents number c c' (from_cluster.TheVariants.Ready reply) s t = collects_reply agents number c c' reply s t
+collects agents number c c' (from_cluster.TheVariants.Closed at) s t = absurd (never_closed agents number at c c' s t)
+collects agents number c c' (from_cluster.TheVariants.NotYet wanted) s t = ap (λ (z : Cluster). marks z) t.0
+collects agents number c c' from_cluster.TheVariants.Gone s t = collects_gone agents number c c' s t
+
+pub collect_serves : (agents number : ℕ) (c c' : Cluster) (r : from_cluster.Collected) → Serves agents c → taking.Collects number r c c' → Serves agents c'
+collect_serves agents number c c' (from_cluster.TheVariants.Ready reply) s t = reply_serves agents number c c' reply s t
+collect_serves agents number c c' (from_cluster.TheVariants.Closed at) s t = absurd (never_closed agents number at c c' s t)
+collect_serves agents number c c' (from_cluster.TheVariants.NotYet wanted) s t = subst (Serves agents) (sym t.0) s
+collect_serves agents number c c' from_cluster.TheVariants.Gone s t = subst (Serves agents) (sym t.0) s
+
+-- server 1 is there to stand for election
+pub first_fits : (c : Cluster) (servers : ℕ) → length c.servers ≡ servers → 0 < servers → misfit c (event.Timeout 1) ≡ None
+unfolding misfit
+first_fits c servers e some = at_bool (λ b. (if b then None else Some NoServer) ≡ None) (nat_le 1 (length c.servers)) (λ _. refl) (λ f. absurd (none (le_tells_not 1 (length c.servers) f)))
+  where
+    none : length c.servers < 1 → ⊥
+    none l = omega (arith, e, some, l)
+
+pub first_serves : (agents : ℕ) (c c' : Cluster) → IsFirstStart c → length c.agents ≡ agents → misfit c (event.Timeout 1) ≡ None → ClusterStep c (event.Timeout 1) c' true → Serves agents c'
+first_serves agents c c' first count fits step = elected agents c c' true first count (event_fits c (event.Timeout 1) fits) step
+
+pub begun_serves : (given agents most : ℕ) (c c' : Cluster) (pairs : ℕ) → given ≡ agents → Serves given c → SettlesTo most c c' pairs → Serves agents c'
+begun_serves given agents most c c' pairs e s (mid, all, is, few, stops) = subst (λ n. Serves n c') e (settled_on given pairs c mid c' s all is)
+
+pub kept : (agents : ℕ) (c : Cluster) → Serves agents c → AreKept (marks c)
+kept agents c s = are_kept c.past (sound_kept c (is_sound agents c s))

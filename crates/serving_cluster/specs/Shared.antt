@@ -1,0 +1,15 @@
+-- What a cluster gives of a request, as its users' turns see it.
+use Rattle.open_requests.specs.declared.collected.Collected as cluster
+use Rattle.serve_loop.specs.declared.cluster.Collected.{Collected}
+use Rattle.serve_loop.specs.declared.cluster.Collected.TheVariants as collected
+
+-- the request is not closed
+abbrev pub IsOpen : cluster.Collected → Type 0
+IsOpen (cluster.TheVariants.Closed event) = ⊥
+IsOpen other = Unit {0}
+
+abbrev pub shared_of : cluster.Collected → Collected
+shared_of (cluster.TheVariants.Ready reply) = collected.Ready reply
+shared_of (cluster.TheVariants.Closed event) = collected.Closed
+shared_of (cluster.TheVariants.NotYet wanted) = collected.NotYet
+shared_of cluster.TheVariants.Gone = collected.Gone

@@ -1,0 +1,126 @@
+//! The cluster as its users' turns see it.
+
+ghost use Rattle.std.specs.Prelude.{◌≡◌, IfOk, OnErr, reverse};
+ghost use Rattle.script_runs.specs.Taken.{IsTakenAsked};
+ghost use Rattle.serve_loop.specs.Collects.{Collects};
+ghost use Rattle.serve_loop.specs.Marks.{AddsAsked, AddsCut, AddsQuiet};
+ghost use Rattle.serve_loop.specs.Turns.{MayAsk};
+ghost use Rattle.serving_cluster.specs.Shown.{Shows};
+ghost use Rattle.serving_cluster.specs.Shared.{IsOpen, shared_of};
+
+use crate::serving::{AgentCount, ServingCluster};
+use cat_model::{Asked, Event, Memory};
+use cluster_interface::ClusterInterface;
+use script_runs::is_taken;
+use serve_loop::{Ask, Collected, SharedCluster};
+use std::alloc::Global;
+
+fn discard(_: Ask) {}
+
+fn discard_event(_: Event) {}
+
+// A request's reply, or what else there is of a request that is not closed.
+fn shared(collected: open_requests::Collected) -> Collected
+    requires { IsOpen collected }
+    ensures { result ≡ shared_of collected }
+{
+    match collected {
+        open_requests::Collected::Ready(reply) => Collected::Ready(reply),
+        open_requests::Collected::Closed { .. } => unreachable!(),
+        open_requests::Collected::NotYet(_) => Collected::NotYet,
+        open_requests::Collected::Gone => Collected::Gone,
+    }
+}
+
+impl<J: AgentCount, S: ClusterInterface> ServingCluster<J, S> {
+    // The clock of a server goes on. One that is at its end stays there.
+    fn tick(&mut self, alloc: Global, server: u32, ms: u64) -> Result<(), Memory>
+        ensures { AddsQuiet (reverse self.old.past) (reverse self.new.past) }
+    {
+        let tick = Event::Tick(server, ms);
+        let fits = self.cluster.fits(&tick);
+        match fits {
+            Ok(()) => self.cluster.step(alloc, tick),
+            Err(_) => {
+                discard_event(tick);
+                Ok(())
+            }
+        }
+    }
+
+    // The clocks of all servers go on, one after another.
+    fn tick_all(&mut self, alloc: Global, ms: u64) -> Result<(), Memory>
+        ensures { AddsQuiet (reverse self.old.past) (reverse self.new.past) }
+    {
+        let last = self.cluster.servers();
+        let mut server = 0;
+        while server < last {
+            server += 1;
+            match self.tick(alloc, server, ms) {
+                Ok(()) => {}
+                Err(Memory) => return Err(Memory),
+            }
+        }
+        Ok(())
+    }
+
+    // Asks an agent that is there.
+    fn ask_agent(&mut self, alloc: Global, ask: &Ask) -> Result<u64, Memory>
+        requires { MayAsk J.agents IsTakenAsked ask.now }
+        ensures asked { IfOk result (λ number. AddsAsked number ask.now (reverse self.old.past) (reverse self.new.past)) }
+        ensures cut { OnErr result (AddsCut (reverse self.old.past) (reverse self.new.past)) }
+    {
+        self.cluster.ask(alloc, ask.agent, &ask.asked, ask.draw)
+    }
+
+    // Takes a request's reply, if it is there. No request is closed, since no server restarts.
+    fn take_reply(&mut self, number: u64) -> Collected
+        ensures { Collects Shows number result (reverse self.old.past) (reverse self.new.past) }
+    {
+        let collected = self.cluster.collect(number);
+        shared(collected)
+    }
+}
+
+impl<J: AgentCount, S: ClusterInterface> SharedCluster for ServingCluster<J, S> {
+    ghost use Rattle.std.specs.Prelude.{reverse};
+    ghost use Rattle.script_runs.specs.Taken.{IsTakenAsked};
+    ghost use Rattle.serving_cluster.specs.Shown.{Shows};
+
+    ghost marks = { λ c. reverse c.past };
+
+    ghost agents = { J.agents };
+
+    ghost shows = { Shows };
+
+    ghost takes = { IsTakenAsked };
+
+    fn takes(&self, asked: &Asked) -> bool {
+        match asked {
+            Asked::Good(request) => is_taken(request),
+            Asked::Bad(_) => true,
+        }
+    }
+
+    fn kept(&self) {
+        self.cluster.asked();
+    }
+
+    fn advance(&mut self, alloc: Global, ms: u64) -> Result<(), Memory> {
+        self.tick_all(alloc, ms)
+    }
+
+    fn ask(&mut self, alloc: Global, ask: Ask) -> Result<u64, Memory> {
+        let asked = self.ask_agent(alloc, &ask);
+        discard(ask);
+        asked
+    }
+
+    fn settle(&mut self, alloc: Global, most: u32) -> Result<u32, Memory> {
+        self.cluster.settle(alloc, most)
+    }
+
+    fn collect(&mut self, number: u64) -> Collected {
+        self.take_reply(number)
+    }
+}
