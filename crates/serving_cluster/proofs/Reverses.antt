@@ -1,5 +1,5 @@
 -- Lists the other way round.
-use Rattle.std.proofs.Common.{◌≡◌, ℕ, ◌⊎◌, inl, inr, Bool, true, false, List, [], ◌∷◌, ◌++◌, ◌==◌, reverse, refl, sym, ap, ◌∙◌, subst, append-nil, Option, Some, None}
+use Rattle.std.proofs.Common.{◌≡◌, ℕ, ◌⊎◌, inl, inr, List, [], ◌∷◌, ◌++◌, ◌==◌, reverse, refl, sym, ap, ◌∙◌, subst, append-nil, Option, Some, None}
 use Rattle.std.proofs.lemmas.List.{reverse-append, reverse-reverse}
 use Rattle.raft_model.proofs.Tests.{at_bool, eq_tells}
 use Rattle.cluster_rules.proofs.Tools.{eq_tells_not}

@@ -1,7 +1,7 @@
 -- What the calls of a cluster put behind its marks, and that it goes on to serve.
-use Rattle.std.proofs.Common.{◌≡◌, ◌<◌, ◌≤◌, ◌⊎◌, ℕ, suc, Bool, true, false, inl, inr, List, [], ◌∷◌, ◌++◌, length, reverse, arith, refl, sym, ap, ◌∙◌, subst, Option, Some, None, Result, Ok, Err}
+use Rattle.std.proofs.Common.{◌≡◌, ◌<◌, ◌≤◌, ◌⊎◌, ℕ, suc, Bool, true, false, inl, inr, List, [], ◌∷◌, ◌++◌, length, reverse, arith, refl, sym, ap, ◌∙◌, subst, Some, None, Result, Ok, Err}
 use Rattle.std.proofs.lemmas.List.{reverse-reverse}
-use Rattle.std.specs.Prelude.{MatchResult, IfOk, OnErr, OnOk, nat_le, if◌then◌else◌}
+use Rattle.std.specs.Prelude.{IfOk, OnErr, OnOk, nat_le, if◌then◌else◌}
 use Rattle.cat_model.specs.declared.memory.Memory.{Memory}
 use Rattle.cat_model.specs.declared.request.Event.{Event}
 use Rattle.cat_model.specs.declared.request.Event.TheVariants as event
@@ -10,12 +10,12 @@ use Rattle.cat_model.specs.declared.reply.Mark.TheVariants as mark
 use Rattle.open_requests.specs.declared.collected.Collected as from_cluster
 use Rattle.cluster_interface.specs.Taking as taking
 use Rattle.cluster_rules.specs.Lasting.{Lasting}
-use Rattle.cluster_rules.specs.Replies.{Closed, Out, Question, Replied, Reply, came, number_of, reply_of}
+use Rattle.cluster_rules.specs.Replies.{Out, Replied, Reply, came, reply_of}
 use Rattle.cluster_rules.specs.Cluster.{Cluster}
 use Rattle.cluster_rules.specs.Past.{HasNoOut, IsNotHeld}
-use Rattle.cluster_rules.specs.Reached.{Fits, IsAgentNumber, Settling, none, pair, moves_of}
+use Rattle.cluster_rules.specs.Reached.{IsAgentNumber, Settling, none, pair}
 use Rattle.cluster_rules.specs.Step.{ClusterStep, marked, noted}
-use Rattle.cluster_rules.specs.Sound.{IsAmong, Sound, entered_in}
+use Rattle.cluster_rules.specs.Sound.{IsAmong, entered_in}
 use Rattle.cluster_rules.proofs.Numbers.{sound_kept}
 use Rattle.cluster_rules.proofs.Theirs.{gone_taken, theirs}
 use Rattle.cluster_turns.specs.Turns.{FindsNoMemory}
@@ -29,18 +29,17 @@ use Rattle.script_runs.specs.Lines.{misfit}
 use Rattle.script_runs.proofs.Fitting.{event_fits}
 use Rattle.turn_lock.specs.Lists.{Among, numbers}
 use Rattle.serve_loop.specs.declared.cluster.Ask.{Ask}
-use Rattle.serve_loop.specs.declared.cluster.Collected.{Collected}
 use Rattle.serve_loop.specs.declared.cluster.Collected.TheVariants as collected
 use Rattle.serve_loop.specs.Collects.{Collects, IsGiven}
-use Rattle.serve_loop.specs.Marks.{AddsAsked, AddsCut, AddsQuiet, AreKept, answered_mark, asked_mark, opens, restarts, takes}
-use Rattle.serve_loop.proofs.MarkLists.{cut_cut, quiet_cut, quiet_none, quiet_quiet}
+use Rattle.serve_loop.specs.Marks.{AddsAsked, AddsCut, AddsQuiet, AreKept, answered_mark, asked_mark, opens, takes}
+use Rattle.serve_loop.proofs.MarkLists.{quiet_cut, quiet_none, quiet_quiet}
 use Rattle.serving_rules.specs.Keeping.{Keeps}
 use Rattle.serving_rules.specs.Serving.{Serves}
 use Rattle.serving_rules.proofs.Keeping.{step_keeps}
 use Rattle.serving_cluster.specs.Shared.{IsOpen, shared_of}
 use Rattle.serving_rules.proofs.Serving.{asked_on, elected, is_sound, none_closed, partly_on, settled_on, taken_on, ticked_on}
 use Rattle.serving_cluster.specs.Shown.{Shows, log_of, question}
-use Rattle.serving_cluster.proofs.Marks.{Silent, are_kept, asked_event, cut_event, opened, quiet_event, quietly, silent, took}
+use Rattle.serving_cluster.proofs.Marks.{Silent, are_kept, asked_event, cut_event, opened, quiet_event, quietly, took}
 use Rattle.serving_cluster.proofs.Reverses.{among_or_not, in_back, in_reverse, reverse_cons}
 
 abbrev marks : Cluster → List Mark
