@@ -1,6 +1,6 @@
 -- Each status is one of HTTP's, a number of three digits.
 use Rattle.std.proofs.Common.{◌≤◌, ◌<◌, ℕ, Bool, true, false, List, [], ◌∷◌, ◌==◌, length, arith, Option, Some, None}
-use Rattle.std.specs.Prelude.{◌&&◌, not}
+use Rattle.std.specs.Prelude.{◌&&◌, not, if◌then◌else◌}
 use Rattle.cat_model.specs.Keys.{is_empty}
 use Rattle.cat_model.specs.declared.applied.Applied.{Applied}
 use Rattle.cat_model.specs.declared.applied.Applied.TheVariants as applied
@@ -12,6 +12,7 @@ use Rattle.cat_model.specs.declared.query.Answer.{Answer}
 use Rattle.cat_model.specs.declared.query.Answer.TheVariants as answer
 use Rattle.cat_model.specs.declared.query.Query.{Query}
 use Rattle.cat_model.specs.declared.query.Query.TheVariants as query
+use Rattle.cat_model.specs.declared.reply.Form.TheVariants.{Json, Octets}
 use Rattle.cat_model.specs.declared.reply.Refusal.{Refusal}
 use Rattle.cat_model.specs.declared.reply.Refusal.TheVariants as refusal
 use Rattle.cat_model.specs.declared.row.KvRow.{KvRow}
@@ -21,16 +22,17 @@ use Rattle.reply_body.specs.Contents.{shown_content}
 use Rattle.reply_body.specs.Others.{shown_delay, shown_ran, shown_renewal, shown_rows_of_agent}
 use Rattle.reply_body.specs.Reads.{has_none, shown_bytes, shown_key, shown_listing, shown_names, shown_other, shown_read, shown_rows, shown_tree, shown_value}
 use Rattle.reply_body.specs.Refusals.{shown_refusal}
+use Rattle.reply_body.specs.Rows.{names_data}
 use Rattle.reply_body.specs.Writes.{shown_done, shown_refuse, shown_write}
 use Rattle.reply_body.specs.declared.shown.Shown.{Shown}
 
--- what holds of both branches
-at_bool : (P : Bool → Type 0) (b : Bool) → P true → P false → P b
-at_bool P true f g = f
-at_bool P false f g = g
-
 abbrev IsFine : Shown → Type 0
 IsFine shown = (100 ≤ shown.status) × (shown.status < 1000)
+
+-- what is so of both branches
+either : (b : Bool) (x y : Shown) → IsFine x → IsFine y → IsFine (if b then x else y)
+either true x y f g = f
+either false x y f g = g
 
 ok : (100 ≤ 200) × (200 < 1000)
 ok = (omega arith, omega arith)
@@ -68,14 +70,14 @@ rows_fine [] = absent
 rows_fine (r ∷ rows) = ok
 
 bytes_fine : (value : List ℕ) → IsFine (shown_bytes value)
-bytes_fine value = at_bool (λ b. IsFine (if b then plain 200 [] else record { status = 200; body = value; form = _ })) (length value == 0) ok ok
+bytes_fine value = either (length value == 0) (plain 200 []) (record { status = 200; body = value; form = Octets }) ok ok
 
 value_fine : (rows : List KvRow) → IsFine (shown_value rows)
 value_fine [] = absent
 value_fine (r ∷ rows) = bytes_fine r.value
 
 names_fine : (prefix : List ℕ) (names : List (List ℕ)) → IsFine (shown_names prefix names)
-names_fine prefix names = at_bool (λ b. IsFine (if b then plain 404 [] else json 200 _)) (has_none names && not (is_empty prefix)) absent ok
+names_fine prefix names = either (has_none names && not (is_empty prefix)) (plain 404 []) (json 200 (names_data names)) absent ok
 
 key_fine : (raw : Bool) (a : Answer) → IsFine (shown_key raw a)
 key_fine true (answer.Rows rows) = value_fine rows
@@ -133,7 +135,7 @@ write_fine c (applied.RolledBack op v) = conflict
 write_fine c (applied.Refused why) = refuse_fine why
 
 agent_fine : (body : List ℕ) → IsFine (shown_rows_of_agent body)
-agent_fine body = at_bool (λ b. IsFine (if b then plain 200 [] else record { status = 200; body = body; form = _ })) (length body == 0) ok ok
+agent_fine body = either (length body == 0) (plain 200 []) (record { status = 200; body = body; form = Json }) ok ok
 
 delay_fine : (c : Command) (key : List ℕ) → IsFine (shown_delay c key)
 delay_fine (command.Txn ops) key = conflict
