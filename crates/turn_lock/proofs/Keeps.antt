@@ -11,9 +11,9 @@ use lib.ListN.{get_elem?}
 use Rattle.atomic_table.specs.Table.{State, Me, Act, keeps, takes, gives, step, stepped, Valid, carried_after, Allows, Splits, Joins}
 use Rattle.atomic_table.proofs.Lists.{at_set, at_snoc, set_again, set_else, at_longer, one_turn}
 use Rattle.turn_lock.specs.declared.knowledge.Knowledge.{Knowledge}
-use Rattle.turn_lock.specs.Lists.{Among, EachOnce, numbers, total, Extends}
+use Rattle.turn_lock.specs.Lists.{Among, AreFronts, EachOnce, numbers, total, Extends}
 use Rattle.turn_lock.specs.Rule.{all_shares, newcomer, waiting, having, passed, noted, IsTrue, Differ, IsHome, IsOut, IsKept, given, left, right, longer, both, Draws, Comes, Awaits, Leaves}
-use Rattle.turn_lock.proofs.Lists.{among_append, among_left, among_right, numbers_append, once_apart, total_set, total_snoc, total_le, set_at, each_set, each_snoc, extends_more, untouched_longer}
+use Rattle.turn_lock.proofs.Lists.{among_append, among_left, among_right, numbers_append, once_apart, total_set, total_snoc, total_le, set_at, each_set, each_snoc, extends_more, fronts_both, fronts_longer, untouched_longer}
 
 module _ {S I : Type 0} (items : S → List I) (opens closes : I → Option ℕ) where
   abbrev V : Type 0
@@ -102,8 +102,8 @@ module _ {S I : Type 0} (items : S → List I) (opens closes : I → Option ℕ)
           shares = q.0;
           count = q.1;
           each = each_set (F r.served (r.drawn + 1) r.log) s.views id w
-              record { shared = omega arith; queued = λ _. (omega (arith, r.count), omega arith); turned = λ e. absurd (false≢true (sym calm ∙ e)); grown = fit.grown; own = fit.own }
-              (λ j u ne bt. let f = r.each j u bt in record { shared = f.shared; queued = λ h. let a = f.queued h in (a.0, omega (arith, a.1)); turned = f.turned; grown = f.grown; own = f.own });
+              record { shared = omega arith; queued = λ _. (omega (arith, r.count), omega arith); turned = λ e. absurd (false≢true (sym calm ∙ e)); grown = fit.grown; own = fit.own; fronts = fit.fronts }
+              (λ j u ne bt. let f = r.each j u bt in record { shared = f.shared; queued = λ h. let a = f.queued h in (a.0, omega (arith, a.1)); turned = f.turned; grown = f.grown; own = f.own; fronts = f.fronts });
           apart = apart_set s.views id w r.apart (λ j u ne bt. let f = r.each j u bt in
               ((λ _ h e. let a = (f.queued h).1 in omega arith), (r.apart id j v u (λ e. ne (sym e)) at bt).1));
           slot = slot_same (set s.words 0 ((get_or s.words 0 0 + 1) % 2 ^ 64)) s r.log id v w at refl r.slot;
@@ -139,12 +139,12 @@ module _ {S I : Type 0} (items : S → List I) (opens closes : I → Option ℕ)
           shares = (queue_set r.served r.drawn r.served r.drawn id s.views v w at (r.shares, r.count) refl refl).0;
           count = (queue_set r.served r.drawn r.served r.drawn id s.views v w at (r.shares, r.count) refl refl).1;
           each = each_set (F r.served r.drawn r.log) s.views id w
-              record { shared = fit.shared; queued = fit.queued; turned = λ _. (wait, mine, h.2); grown = subst (λ (l : List I). Extends opens closes v.mine l r.log) (sym h.2) ([], sym (append-nil r.log), λ n a. ((λ z. z), (λ z. z))); own = λ k a. subst (λ (l : List I). Among k (numbers opens l)) (sym h.2) (own_all s r id v at k a) }
+              record { shared = fit.shared; queued = fit.queued; turned = λ _. (wait, mine, h.2); grown = subst (λ (l : List I). Extends opens closes v.mine l r.log) (sym h.2) ([], sym (append-nil r.log), λ n a. ((λ z. z), (λ z. z))); own = λ k a. subst (λ (l : List I). Among k (numbers opens l)) (sym h.2) (own_all s r id v at k a); fronts = fit.fronts }
               (λ j u ne bt. r.each j u bt);
           apart = apart_set s.views id w r.apart (λ j u ne bt. r.apart id j v u (λ e. ne (sym e)) at bt);
           slot = inr (id, w, set_at s.views id v w at, refl, ap (λ l. set l 0 none) h.1);
         },
-        (h.0, refl, subst (λ (l : List I). Extends opens closes v.mine v.seen l) (sym h.2) fit.grown),
+        (h.0, refl, subst (λ (l : List I). Extends opens closes v.mine v.seen l) (sym h.2) fit.grown, subst (λ (l : List I). AreFronts v.told l) (sym h.2) fit.fronts),
       ))
       (λ (o : IsOut items opens closes s). dite (ℕ_discrete o.0 id)
       (λ (e : o.0 ≡ id). let here : get_elem? s.views id ≡ some o.1 = subst (λ (k : ℕ). get_elem? s.views k ≡ some o.1) e o.2 in
@@ -222,6 +222,7 @@ module _ {S I : Type 0} (items : S → List I) (opens closes : I → Option ℕ)
                 grown = ([], sym (append-nil xs), λ n a. ((λ z. z), (λ z. z)));
                 own = λ n a. subst (Among n) (sym opened) (⊎_elim (λ (c : Among n v.mine). among_left n (numbers opens r.log) (numbers opens rest) (own_all s r id v at n c)) (λ (c : Among n (numbers opens rest)). among_right n (numbers opens r.log) (numbers opens rest) c)
                     (among_append n v.mine (numbers opens rest) (subst (Among n) mine a)));
+                fronts = subst (AreFronts v.told) (sym grown) (fronts_longer v.told r.log rest fit.fronts);
               }
               (λ j u ne bt. let f = r.each j u bt in record {
                 shared = f.shared;
@@ -231,6 +232,7 @@ module _ {S I : Type 0} (items : S → List I) (opens closes : I → Option ℕ)
                 grown = subst (Extends opens closes u.mine u.seen) (sym grown) (extends_more opens closes u.mine u.seen r.log rest f.grown
                     (λ n a. ((λ b. once n (own_all s r j u bt n a) b), (λ b. foreign j u ne bt n a (may.2 n b)))));
                 own = f.own;
+                fronts = subst (AreFronts u.told) (sym grown) (fronts_longer u.told r.log rest f.fronts);
               });
           apart = apart_set s.views id w r.apart (λ j u ne bt. ((λ h. absurd (omega arith)), (λ n a b. foreign j u ne bt n b (subst (Among n) mine a))));
           slot = inl (x, ap (λ l. set l 0 (some (Some x))) (out s r id v at has), refl, each_set (λ (u : V). u.turn ≡ false) s.views id w refl none_else);
@@ -263,9 +265,9 @@ module _ {S I : Type 0} (items : S → List I) (opens closes : I → Option ℕ)
         shares = omega arith;
         count = omega arith;
         each = each_snoc ls vs w
-            record { shared = omega arith; queued = λ h. absurd (omega arith); turned = λ h. absurd (false≢true h); grown = (fit.grown.0, fit.grown.1, λ n h. absurd h); own = λ n h. absurd h }
+            record { shared = omega arith; queued = λ h. absurd (omega arith); turned = λ h. absurd (false≢true h); grown = (fit.grown.0, fit.grown.1, λ n h. absurd h); own = λ n h. absurd h; fronts = tt }
             (each_set ls s.views id l
-            record { shared = omega arith; queued = fit.queued; turned = fit.turned; grown = fit.grown; own = fit.own }
+            record { shared = omega arith; queued = fit.queued; turned = fit.turned; grown = fit.grown; own = fit.own; fronts = fit.fronts }
             (λ j u _ bt. r.each j u bt));
         apart = apart_snoc vs w (apart_set s.views id l r.apart (λ j u ne bt. r.apart id j v u (λ k. ne (sym k)) at bt)) ((λ h. absurd (omega arith)), (λ n h. absurd h))
             (λ j u bt. ((λ h. absurd (omega arith)), (λ n h. absurd h)));
@@ -309,7 +311,7 @@ module _ {S I : Type 0} (items : S → List I) (opens closes : I → Option ℕ)
     words = refl;
     shares = omega arith;
     count = omega arith;
-    each = λ j v at. subst (F 0 0 (items x)) (only j v at) record { shared = omega arith; queued = λ h. absurd (omega arith); turned = λ h. absurd (false≢true h); grown = (items x, refl, λ n h. absurd h); own = λ n h. absurd h };
+    each = λ j v at. subst (F 0 0 (items x)) (only j v at) record { shared = omega arith; queued = λ h. absurd (omega arith); turned = λ h. absurd (false≢true h); grown = (items x, refl, λ n h. absurd h); own = λ n h. absurd h; fronts = tt };
     apart = λ i j v w ne at bt. subst (λ (y : V). D y w) (only i v at) ((λ h. absurd (omega arith)), (λ n h. absurd h));
     slot = inl (x, refl, refl, λ j v at. ap (λ (y : V). y.turn) (sym (only j v at)));
   }
@@ -343,9 +345,9 @@ module _ {S I : Type 0} (items : S → List I) (opens closes : I → Option ℕ)
         shares = omega arith;
         count = omega arith;
         each = each_set ls vs other z
-            record { shared = omega arith; queued = λ h. absurd (omega arith); turned = λ h. absurd (false≢true h); grown = (r.log, refl, λ n h. absurd h); own = λ n h. absurd h }
+            record { shared = omega arith; queued = λ h. absurd (omega arith); turned = λ h. absurd (false≢true h); grown = (r.log, refl, λ n h. absurd h); own = λ n h. absurd h; fronts = tt }
             (λ j u _ bt. each_set ls s.views id b
-            record { shared = omega arith; queued = λ h. absurd (omega arith); turned = λ e. absurd (false≢true (sym calm ∙ e)); grown = k.0; own = k.1 }
+            record { shared = omega arith; queued = λ h. absurd (omega arith); turned = λ e. absurd (false≢true (sym calm ∙ e)); grown = k.0; own = k.1; fronts = ((fit'.grown.0, fit'.grown.1), fronts_both v.told w.told r.log fit.fronts fit'.fronts) }
             (λ i x _ ct. r.each i x ct) j u bt);
         apart = apart_but vs other z
             (λ i j u x ne ni nj bt ct. ⊎_elim

@@ -3,7 +3,7 @@ use Rattle.std.proofs.Common.{◌≡◌, ℕ, zero, suc, ◌+◌, ◌≤◌, ◌
 use mathlib.Core.Option.{some, some-injective, some-ne-none}
 use lib.ListN.{get_elem?}
 use Rattle.atomic_table.proofs.Lists.{at_set, at_snoc}
-use Rattle.turn_lock.specs.Lists.{Among, EachOnce, ahead, numbers, total, Untouched, Extends}
+use Rattle.turn_lock.specs.Lists.{Among, AreFronts, EachOnce, ahead, numbers, total, Untouched, Extends}
 
 pub among_append : (n : ℕ) (xs ys : List ℕ) → Among n (xs ++ ys) → Among n xs ⊎ Among n ys
 among_append n [] ys h = inr h
@@ -64,6 +64,15 @@ beginnings (x ∷ xs) (y ∷ ys) r t e le =
     let heads : x ≡ y = cc e in
     let tails : xs ++ r ≡ ys ++ t = cc e in
     let b = beginnings xs ys r t tails (omega arith) in (b.0, cc (heads, b.1), b.2)
+
+-- beginnings of a list begin a longer one
+pub fronts_longer : {I : Type 0} (xss : List (List I)) (ys more : List I) → AreFronts xss ys → AreFronts xss (ys ++ more)
+fronts_longer [] ys more f = tt
+fronts_longer (xs ∷ xss) ys more f = ((f.0.0 ++ more, ap (λ (l : List _). l ++ more) f.0.1 ∙ append_assoc xs f.0.0 more), fronts_longer xss ys more f.1)
+
+pub fronts_both : {I : Type 0} (xss yss : List (List I)) (log : List I) → AreFronts xss log → AreFronts yss log → AreFronts (xss ++ yss) log
+fronts_both [] yss log f g = g
+fronts_both (xs ∷ xss) yss log f g = (f.0, fronts_both xss yss log f.1 g)
 
 module _ {I : Type 0} (opens takes : I → Option ℕ) where
   pub untouched_append : (mine : List ℕ) (xs ys : List I) → Untouched opens takes mine xs → Untouched opens takes mine ys → Untouched opens takes mine (xs ++ ys)

@@ -5,7 +5,7 @@ use mathlib.Core.Option.{some, none}
 use lib.ListN.{get_elem?}
 use Rattle.atomic_table.specs.Table.{State, Me, Step, rest}
 use Rattle.turn_lock.specs.declared.knowledge.Knowledge.{Knowledge}
-use Rattle.turn_lock.specs.Lists.{Among, numbers, total, Extends}
+use Rattle.turn_lock.specs.Lists.{Among, AreFronts, numbers, total, Extends}
 
 -- the shares of all passes together
 abbrev pub all_shares : ℕ
@@ -22,7 +22,7 @@ pooled n m = min (n + m) (2 ^ 64 - 1)
 module _ {I : Type 0} where
   -- has n shares, and knows nothing
   abbrev pub newcomer : ℕ → Knowledge I
-  newcomer n = record { shares = n; waits = 0; ticket = 0; turn = false; seen = []; mine = [] }
+  newcomer n = record { shares = n; waits = 0; ticket = 0; turn = false; seen = []; mine = []; told = [] }
 
   abbrev pub waiting : Knowledge I → ℕ → Knowledge I
   waiting v t = record v { waits = 1; ticket = t }
@@ -35,13 +35,13 @@ module _ {I : Type 0} where
 
   -- the new pass has seen as much, and opened no number
   abbrev pub right : Knowledge I → Knowledge I
-  right v = record { shares = given v.shares; waits = 0; ticket = 0; turn = false; seen = v.seen; mine = [] }
+  right v = record { shares = given v.shares; waits = 0; ticket = 0; turn = false; seen = v.seen; mine = []; told = [] }
 
   abbrev pub longer : List I → List I → List I
   longer xs ys = if nat_lt (length xs) (length ys) then ys else xs
 
   abbrev pub both : Knowledge I → Knowledge I → Knowledge I
-  both v w = record v { shares = v.shares + w.shares; seen = longer v.seen w.seen; mine = v.mine ++ w.mine }
+  both v w = record v { shares = v.shares + w.shares; seen = longer v.seen w.seen; mine = v.mine ++ w.mine; told = w.seen ∷ (v.told ++ w.told) }
 
   abbrev pub passed : Knowledge I → Knowledge I
   passed v = record v { waits = 0; turn = false }
@@ -52,13 +52,14 @@ module _ {I : Type 0} (opens takes : I → Option ℕ) where
   noted v xs = record v { seen = xs; mine = v.mine ++ numbers opens (drop (length v.seen) xs) }
 
   -- What a pass knows is true: its ticket is one of those that are out, with the turn it has seen the whole list, and
-  -- what it has not seen of the list neither opens nor takes its numbers.
+  -- what it has not seen of the list neither opens nor takes its numbers. The list begins with all that joined passes had seen.
   pub record IsTrue (served drawn : ℕ) (log : List I) (v : Knowledge I) : Type 0 where
     pub shared : v.waits ≤ v.shares
     pub queued : 0 < v.waits → (served ≤ v.ticket) × (v.ticket < drawn)
     pub turned : v.turn ≡ true → (v.waits ≡ 1) × (v.ticket ≡ served) × (v.seen ≡ log)
     pub grown : Extends opens takes v.mine v.seen log
     pub own : (n : ℕ) → Among n v.mine → Among n (numbers opens v.seen)
+    pub fronts : AreFronts v.told log
 
   -- two passes differ in their tickets and in their numbers
   abbrev pub Differ : Knowledge I → Knowledge I → Type 0
@@ -94,7 +95,7 @@ module _ {S I : Type 0} (items : S → List I) (opens takes : I → Option ℕ) 
 
   -- the state x came with the turn
   abbrev pub Comes : Sat → Sat → Type 0
-  Comes m m' = (x : S) × (m' ≡ (having m.0 (items x), (0, Some x) ∷ [])) × Extends opens takes m.0.mine m.0.seen (items x)
+  Comes m m' = (x : S) × (m' ≡ (having m.0 (items x), (0, Some x) ∷ [])) × Extends opens takes m.0.mine m.0.seen (items x) × AreFronts m.0.told (items x)
 
   -- where the ticket is the one that is served, the turn has come
   abbrev pub Awaits : Step (Option S) → Sat → ℕ → Sat → Type 0

@@ -15,4 +15,6 @@ pub struct Knowledge<I> {
     pub seen: LinkedList<I>,
     /// The numbers that were opened in its turns.
     pub mine: LinkedList<u64>,
+    /// What the passes that were put into it had seen, each of them the beginning of the list that it had seen.
+    pub told: LinkedList<LinkedList<I>>,
 }

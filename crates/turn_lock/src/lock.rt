@@ -57,14 +57,14 @@ impl<S: History> Pass<S> {
 }
 
 impl<S: History> HistoryLock<S> {
-    ghost use Rattle.turn_lock.specs.Lists.{numbers, Extends};
+    ghost use Rattle.turn_lock.specs.Lists.{numbers, AreFronts, Extends};
     ghost use Rattle.turn_lock.specs.Rule.{all_shares, given, pooled, waiting, having, both};
     ghost use Rattle.turn_lock.specs.Passes.{IsSame, IsFree, HasTurn, MayEnd};
 
     /// A lock over the state, and the pass that all others are split from.
     pub fn new(alloc: Global, state: S) -> Result<(HistoryLock<S>, Pass<S>), (S, AllocError)>
         ensures own { IfOk result (λ r. (r.1.seat.table_id ≡ r.0.table.shared.table_id) × IsFree r.1.seat) }
-        ensures knows { IfOk result (λ r. (r.1.seat.me.0.seen ≡ []) × (r.1.seat.me.0.mine ≡ [])) }
+        ensures knows { IfOk result (λ r. (r.1.seat.me.0.seen ≡ []) × (r.1.seat.me.0.mine ≡ []) × (r.1.seat.me.0.told ≡ [])) }
         ensures shares { IfOk result (λ r. r.1.shares ≡ all_shares) }
         ensures no_memory { IfErr result (λ r. r.0 ≡ state) }
     {
@@ -93,6 +93,7 @@ impl<S: History> HistoryLock<S> {
         ensures own { IsSame seat.old seat.new }
         ensures turn { (t : ℕ) × (seat.new.me ≡ (having (waiting seat.old.me.0 t) (S.items result), (0, None) ∷ [])) }
         ensures grown { Extends S.opens S.takes seat.old.me.0.mine seat.old.me.0.seen (S.items result) }
+        ensures told { AreFronts seat.old.me.0.told (S.items result) }
     {
         let shared = &self.table.shared;
         let ticket = shared.fetch_add::<DrawTicket>(seat, DRAWN, 1);
@@ -109,15 +110,17 @@ impl<S: History> HistoryLock<S> {
     }
 
     /// Waits for the turn. The state's list goes on from all that the pass has seen, and what was added since neither
-    /// opens nor takes a number that the pass opened. The pass has then seen the whole list.
+    /// opens nor takes a number that the pass opened. It begins with all that passes had seen that were put into this one.
+    /// The pass has then seen the whole list.
     pub fn take<R: Wait>(&self, rt: &R, pass: &mut Pass<S>) -> Turn<S>
         requires own { pass.old.seat.table_id ≡ self.now.table.shared.table_id }
         requires free { IsFree pass.old.seat }
         ensures own { IsSame pass.old.seat pass.new.seat × (pass.new.shares ≡ pass.old.shares) }
         ensures turn { HasTurn pass.new.seat × (result.taken.value ≡ pass.new.seat) }
         ensures seen { pass.new.seat.me.0.seen ≡ S.items result.state }
-        ensures mine { pass.new.seat.me.0.mine ≡ pass.old.seat.me.0.mine }
+        ensures mine { (pass.new.seat.me.0.mine ≡ pass.old.seat.me.0.mine) × (pass.new.seat.me.0.told ≡ pass.old.seat.me.0.told) }
         ensures grown { Extends S.opens S.takes pass.old.seat.me.0.mine pass.old.seat.me.0.seen (S.items result.state) }
+        ensures told { AreFronts pass.old.seat.me.0.told (S.items result.state) }
     {
         let state = self.wait_turn(rt, &mut pass.seat);
         Turn {
@@ -135,6 +138,7 @@ impl<S: History> HistoryLock<S> {
         ensures free { IsFree pass.new.seat }
         ensures seen { pass.new.seat.me.0.seen ≡ S.items turn.state }
         ensures mine { pass.new.seat.me.0.mine ≡ pass.old.seat.me.0.mine ++ numbers S.opens (drop (length pass.old.seat.me.0.seen) (S.items turn.state)) }
+        ensures told { pass.new.seat.me.0.told ≡ pass.old.seat.me.0.told }
     {
         let Turn { state, taken: _ } = turn;
         let shared = &self.table.shared;
@@ -149,9 +153,9 @@ impl<S: History> HistoryLock<S> {
         requires own { pass.old.seat.table_id ≡ self.now.table.shared.table_id }
         requires free { IsFree pass.old.seat }
         ensures own { IsSame pass.old.seat pass.new.seat × IsFree pass.new.seat }
-        ensures same { (pass.new.seat.me.0.seen ≡ pass.old.seat.me.0.seen) × (pass.new.seat.me.0.mine ≡ pass.old.seat.me.0.mine) }
+        ensures same { (pass.new.seat.me.0.seen ≡ pass.old.seat.me.0.seen) × (pass.new.seat.me.0.mine ≡ pass.old.seat.me.0.mine) × (pass.new.seat.me.0.told ≡ pass.old.seat.me.0.told) }
         ensures new { IfOk result (λ p. (p.seat.table_id ≡ self.now.table.shared.table_id) × IsFree p.seat) }
-        ensures knows { IfOk result (λ p. (p.seat.me.0.seen ≡ pass.old.seat.me.0.seen) × (p.seat.me.0.mine ≡ [])) }
+        ensures knows { IfOk result (λ p. (p.seat.me.0.seen ≡ pass.old.seat.me.0.seen) × (p.seat.me.0.mine ≡ []) × (p.seat.me.0.told ≡ [])) }
         ensures shares { IfOk result (λ p. (p.shares ≡ given pass.old.shares) × (pass.new.shares ≡ pass.old.shares - p.shares)) }
         ensures refused { OnErr result ((pass.old.shares < 2) × (pass.new.shares ≡ pass.old.shares)) }
     {
@@ -168,13 +172,15 @@ impl<S: History> HistoryLock<S> {
         })
     }
 
-    /// Puts another pass into this one, which has then seen what either had, and has the numbers and shares of both.
+    /// Puts another pass into this one, which has then seen what either had, has the numbers and shares of both, and
+    /// knows what the other had seen.
     pub fn join(&self, pass: &mut Pass<S>, other: Pass<S>)
         requires own { (pass.old.seat.table_id ≡ self.now.table.shared.table_id) × (other.seat.table_id ≡ self.now.table.shared.table_id) }
         requires free { IsFree pass.old.seat × IsFree other.seat }
         ensures own { IsSame pass.old.seat pass.new.seat × IsFree pass.new.seat }
         ensures seen { pass.new.seat.me.0.seen ≡ (both pass.old.seat.me.0 other.seat.me.0).seen }
         ensures mine { pass.new.seat.me.0.mine ≡ pass.old.seat.me.0.mine ++ other.seat.me.0.mine }
+        ensures told { pass.new.seat.me.0.told ≡ other.seat.me.0.seen ∷ (pass.old.seat.me.0.told ++ other.seat.me.0.told) }
         ensures shares { pass.new.shares ≡ pooled pass.old.shares other.shares }
     {
         let Pass {

@@ -2,7 +2,7 @@ use Rattle.std.proofs.Common.{rules, ℕ, List, Option, ◌≡◌, ◌∷◌, So
 use Rattle.std.proofs.lemmas.Option.{same_Some}
 use Rattle.atomic_table.specs.Table.{rest}
 use Rattle.turn_lock.specs.declared.knowledge.Knowledge.{Knowledge}
-use Rattle.turn_lock.specs.Lists.{Extends}
+use Rattle.turn_lock.specs.Lists.{AreFronts, Extends}
 use Rattle.turn_lock.proofs.Keeps.{draws, awaits, in_hand}
 use Rattle.turn_lock.proofs.lock.HistoryLock.wait_turn.Goals as goal
 
@@ -30,3 +30,14 @@ returns-in-Some-exchange-clause-grown g c =
     let same : come.0 ≡ state = same_Some _ _ (ap (in_hand g.S.History.items g.S.History.opens g.S.History.takes) (sym e ∙ c.exchange.ensures.2) ∙ c.in-Some-exchange.is) in
     let P : Knowledge g.row.S-Item.Denot → g.row.S.Denot → Type 0 = λ v x. Extends g.S.History.opens g.S.History.takes v.mine v.seen (g.S.History.items x) in
     subst (λ x. P (c.args.seat.now.me.0) x) same (subst (λ v. Extends g.S.History.opens g.S.History.takes v.0.mine v.0.seen (g.S.History.items come.0)) i.3 come.2)
+
+pub returns-in-Some-exchange-clause-told : goal.returns-in-Some-exchange-clause-told
+returns-in-Some-exchange-clause-told g c =
+    let i = c.loop.invariant in
+    let hit : c.load.result ≡ c.loop.seat.me.0.ticket % 2 ^ 64 = c.if-load-ticket.true ∙ (i.2 ∙ ap (λ m. m.0.ticket % 2 ^ 64) (sym i.3)) in
+    let come = c.load.ensures.2.0 hit in
+    let state = c.in-Some-exchange.state in
+    let e = ap (λ m. m.1) come.1 in
+    let same : come.0 ≡ state = same_Some _ _ (ap (in_hand g.S.History.items g.S.History.opens g.S.History.takes) (sym e ∙ c.exchange.ensures.2) ∙ c.in-Some-exchange.is) in
+    let P : Knowledge g.row.S-Item.Denot → g.row.S.Denot → Type 0 = λ v x. AreFronts v.told (g.S.History.items x) in
+    subst (λ x. P (c.args.seat.now.me.0) x) same (subst (λ v. AreFronts v.0.told (g.S.History.items come.0)) i.3 come.3)
