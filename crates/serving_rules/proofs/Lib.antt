@@ -1,3 +1,4 @@
 pub mod Moves
 pub mod Keeping
 pub mod Serving
+pub mod Holding

@@ -20,14 +20,14 @@ use Rattle.cluster_turns.specs.Pairs.{IsPartlySettled, IsPartOfPair, settled}
 use Rattle.script_runs.specs.Holds.{IsFirstStart}
 use Rattle.script_runs.proofs.Holding.{a_start}
 use Rattle.serving_rules.specs.Keeping.{Keeps}
-use Rattle.serving_rules.specs.Serving.{IsServing, AreServing, Serves}
+use Rattle.serving_rules.specs.Serving.{Size, IsSized, IsServing, AreServing, Serves}
 use Rattle.serving_rules.proofs.Keeping.{step_keeps}
 
-abbrev pub begins : (agents : ℕ) (c : Cluster) → IsFirstStart c → length c.agents ≡ agents → Serves agents c
-begins agents c b n = record { start = c; whole = true; moves = []; begins = b; reached = at_start; serving = tt; count = n }
+abbrev pub begins : (size : Size) (c : Cluster) → IsFirstStart c → IsSized size c → Serves size c
+begins size c b n = record { start = c; whole = true; moves = []; begins = b; sized = n.0; reached = at_start; serving = tt; count = n.1 }
 
-pub is_sound : (agents : ℕ) (c : Cluster) → Serves agents c → Sound c
-is_sound agents c s = run_sound s.start (a_start s.start s.begins) s.whole s.moves c s.reached
+pub is_sound : (size : Size) (c : Cluster) → Serves size c → Sound c
+is_sound size c s = run_sound s.start (a_start s.start s.begins) s.whole s.moves c s.reached
 
 marked_agents : (made : Event) (c : Cluster) → length (marked made c).agents ≡ length c.agents
 marked_agents (event.Ask agent asked draw) c = refl
@@ -42,62 +42,64 @@ agents_after c c' made whole s = either (step_keeps c c' made whole s)
     either (inr k) = k.0.agents
 
 -- an event that may come behind what was done before
-abbrev by_move : (agents : ℕ) (c c' : Cluster) (made : Event) (whole : Bool) → (s : Serves agents c) → IsServing (Makes made) s.moves → Fits c made → ClusterStep c made c' whole → Serves agents c'
-by_move agents c c' made whole s may fits step = record {
+abbrev by_move : (size : Size) (c c' : Cluster) (made : Event) (whole : Bool) → (s : Serves size c) → IsServing (Makes made) s.moves → Fits c made → ClusterStep c made c' whole → Serves size c'
+by_move size c c' made whole s may fits step = record {
   start = s.start;
   whole = s.whole && whole;
   moves = Makes made ∷ s.moves;
   begins = s.begins;
+  sized = s.sized;
   reached = by_event made whole s.reached fits step;
   serving = (may, s.serving);
   count = agents_after c c' made whole step ∙ s.count;
 }
 
-pub elected : (agents : ℕ) (c c' : Cluster) (whole : Bool) → IsFirstStart c → length c.agents ≡ agents → Fits c (event.Timeout 1) → ClusterStep c (event.Timeout 1) c' whole → Serves agents c'
-elected agents c c' whole b n fits step = by_move agents c c' (event.Timeout 1) whole (begins agents c b n) (refl, refl) fits step
+pub elected : (size : Size) (c c' : Cluster) (whole : Bool) → IsFirstStart c → IsSized size c → Fits c (event.Timeout 1) → ClusterStep c (event.Timeout 1) c' whole → Serves size c'
+elected size c c' whole b n fits step = by_move size c c' (event.Timeout 1) whole (begins size c b n) (refl, refl) fits step
 
-pub asked_on : (agents : ℕ) (c c' : Cluster) (agent : ℕ) (asked : Asked) (draw : Draw) (whole : Bool) → Serves agents c → Fits c (event.Ask agent asked draw) → ClusterStep c (event.Ask agent asked draw) c' whole → Serves agents c'
-asked_on agents c c' agent asked draw whole s fits step = by_move agents c c' (event.Ask agent asked draw) whole s tt fits step
+pub asked_on : (size : Size) (c c' : Cluster) (agent : ℕ) (asked : Asked) (draw : Draw) (whole : Bool) → Serves size c → Fits c (event.Ask agent asked draw) → ClusterStep c (event.Ask agent asked draw) c' whole → Serves size c'
+asked_on size c c' agent asked draw whole s fits step = by_move size c c' (event.Ask agent asked draw) whole s tt fits step
 
-pub ticked_on : (agents : ℕ) (c c' : Cluster) (server ms : ℕ) (whole : Bool) → Serves agents c → Fits c (event.Tick server ms) → ClusterStep c (event.Tick server ms) c' whole → Serves agents c'
-ticked_on agents c c' server ms whole s fits step = by_move agents c c' (event.Tick server ms) whole s tt fits step
+pub ticked_on : (size : Size) (c c' : Cluster) (server ms : ℕ) (whole : Bool) → Serves size c → Fits c (event.Tick server ms) → ClusterStep c (event.Tick server ms) c' whole → Serves size c'
+ticked_on size c c' server ms whole s fits step = by_move size c c' (event.Tick server ms) whole s tt fits step
 
 all_whole : (b : Bool) → (b && true) ≡ b
 all_whole true = refl
 all_whole false = refl
 
 -- a run that ends in so many pairs
-record EndsInPairs (agents n : ℕ) (c : Cluster) : Type 0 where
-  pub serves : Serves agents c
+record EndsInPairs (size : Size) (n : ℕ) (c : Cluster) : Type 0 where
+  pub serves : Serves size c
   pub pairs : EndInPairs n serves.moves
 
 -- a delivery and then the same message's loss
-pair_on : (agents n : ℕ) (c c₁ c₂ : Cluster) (k : ℕ) → EndsInPairs agents n c → Fits c (event.Deliver k) → ClusterStep c (event.Deliver k) c₁ true → Fits c₁ (event.Drop k) → ClusterStep c₁ (event.Drop k) c₂ true → EndsInPairs agents (suc n) c₂
-pair_on agents n c c₁ c₂ k e fits first fits' second =
-    let s = by_move agents c c₁ (event.Deliver k) true e.serves tt fits first in
-    record { serves = by_move agents c₁ c₂ (event.Drop k) true s refl fits' second; pairs = (refl, e.pairs) }
+pair_on : (size : Size) (n : ℕ) (c c₁ c₂ : Cluster) (k : ℕ) → EndsInPairs size n c → Fits c (event.Deliver k) → ClusterStep c (event.Deliver k) c₁ true → Fits c₁ (event.Drop k) → ClusterStep c₁ (event.Drop k) c₂ true → EndsInPairs size (suc n) c₂
+pair_on size n c c₁ c₂ k e fits first fits' second =
+    let s = by_move size c c₁ (event.Deliver k) true e.serves tt fits first in
+    record { serves = by_move size c₁ c₂ (event.Drop k) true s refl fits' second; pairs = (refl, e.pairs) }
 
-settling_on : (agents n m : ℕ) (c c' : Cluster) → EndsInPairs agents m c → Settling n c c' → EndsInPairs agents (n + m) c'
-settling_on agents n m c c' e none = subst (λ z. EndsInPairs agents z c) (plus m) e
+settling_on : (size : Size) (n m : ℕ) (c c' : Cluster) → EndsInPairs size m c → Settling n c c' → EndsInPairs size (n + m) c'
+settling_on size n m c c' e none = subst (λ z. EndsInPairs size z c) (plus m) e
   where
     plus : (m : ℕ) → m ≡ 0 + m
     plus m = omega arith
-settling_on agents n m c c' e (pair {n = k} p c₁ c₂ low fits first fits' second more) =
-    subst (λ z. EndsInPairs agents z c') (plus k m) (settling_on agents k (suc m) c₂ c' (pair_on agents m c c₁ c₂ p.number e fits first fits' second) more)
+settling_on size n m c c' e (pair {n = k} p c₁ c₂ low fits first fits' second more) =
+    subst (λ z. EndsInPairs size z c') (plus k m) (settling_on size k (suc m) c₂ c' (pair_on size m c c₁ c₂ p.number e fits first fits' second) more)
   where
     plus : (k m : ℕ) → k + suc m ≡ suc k + m
     plus k m = omega arith
 
-no_pairs : (agents : ℕ) (c : Cluster) → Serves agents c → EndsInPairs agents 0 c
-no_pairs agents c s = record { serves = s; pairs = tt }
+no_pairs : (size : Size) (c : Cluster) → Serves size c → EndsInPairs size 0 c
+no_pairs size c s = record { serves = s; pairs = tt }
 
 -- so many pairs, and their mark
-marked_pairs : (agents n : ℕ) (c : Cluster) → EndsInPairs agents n c → Serves agents (settled n c)
-marked_pairs agents n c e = record {
+marked_pairs : (size : Size) (n : ℕ) (c : Cluster) → EndsInPairs size n c → Serves size (settled n c)
+marked_pairs size n c e = record {
   start = e.serves.start;
   whole = e.serves.whole;
   moves = Settles n true ∷ e.serves.moves;
   begins = e.serves.begins;
+  sized = e.serves.sized;
   reached = by_settling n true e.serves.reached e.pairs;
   serving = (tt, e.serves.serving);
   count = e.serves.count;
@@ -106,26 +108,27 @@ marked_pairs agents n c e = record {
 plus_none : (n : ℕ) → n + 0 ≡ n
 plus_none n = omega arith
 
-pub settled_on : (agents pairs : ℕ) (c mid c' : Cluster) → Serves agents c → Settling pairs c mid → c' ≡ settled pairs mid → Serves agents c'
-settled_on agents pairs c mid c' s all is =
-    subst (Serves agents) (sym is) (marked_pairs agents pairs mid (subst (λ z. EndsInPairs agents z mid) (plus_none pairs) (settling_on agents pairs 0 c mid (no_pairs agents c s) all)))
+pub settled_on : (size : Size) (pairs : ℕ) (c mid c' : Cluster) → Serves size c → Settling pairs c mid → c' ≡ settled pairs mid → Serves size c'
+settled_on size pairs c mid c' s all is =
+    subst (Serves size) (sym is) (marked_pairs size pairs mid (subst (λ z. EndsInPairs size z mid) (plus_none pairs) (settling_on size pairs 0 c mid (no_pairs size c s) all)))
 
-part_on : (agents : ℕ) (c c' : Cluster) → Serves agents c → IsPartOfPair c c' → Serves agents c'
-part_on agents c c' s (inl e) = subst (Serves agents) (sym e) s
-part_on agents c c' s (inr (p, low, fits, inl short)) = by_move agents c c' (event.Deliver p.number) false s tt fits short
-part_on agents c c' s (inr (p, low, fits, inr (c₁, first, fits', inl e))) = subst (Serves agents) (sym e) (by_move agents c c₁ (event.Deliver p.number) true s tt fits first)
-part_on agents c c' s (inr (p, low, fits, inr (c₁, first, fits', inr short))) =
-    by_move agents c₁ c' (event.Drop p.number) false (by_move agents c c₁ (event.Deliver p.number) true s tt fits first) refl fits' short
+part_on : (size : Size) (c c' : Cluster) → Serves size c → IsPartOfPair c c' → Serves size c'
+part_on size c c' s (inl e) = subst (Serves size) (sym e) s
+part_on size c c' s (inr (p, low, fits, inl short)) = by_move size c c' (event.Deliver p.number) false s tt fits short
+part_on size c c' s (inr (p, low, fits, inr (c₁, first, fits', inl e))) = subst (Serves size) (sym e) (by_move size c c₁ (event.Deliver p.number) true s tt fits first)
+part_on size c c' s (inr (p, low, fits, inr (c₁, first, fits', inr short))) =
+    by_move size c₁ c' (event.Drop p.number) false (by_move size c c₁ (event.Deliver p.number) true s tt fits first) refl fits' short
 
-pub partly_on : (agents most : ℕ) (c c' : Cluster) → Serves agents c → IsPartlySettled most c c' → Serves agents c'
-partly_on agents most c c' s (pairs, few, (c₁, all, part)) = part_on agents c₁ c' (settling_on agents pairs 0 c c₁ (no_pairs agents c s) all).serves part
+pub partly_on : (size : Size) (most : ℕ) (c c' : Cluster) → Serves size c → IsPartlySettled most c c' → Serves size c'
+partly_on size most c c' s (pairs, few, (c₁, all, part)) = part_on size c₁ c' (settling_on size pairs 0 c c₁ (no_pairs size c s) all).serves part
 
-pub taken_on : (agents number : ℕ) (c : Cluster) (out : Out) (before after : List Out) → Serves agents c → number_of out ≡ Some number → c.tray ≡ before ++ out ∷ after → Serves agents (record c { tray = before ++ after; past = mark.Taken number ∷ c.past })
-taken_on agents number c out before after s is there = record {
+pub taken_on : (size : Size) (number : ℕ) (c : Cluster) (out : Out) (before after : List Out) → Serves size c → number_of out ≡ Some number → c.tray ≡ before ++ out ∷ after → Serves size (record c { tray = before ++ after; past = mark.Taken number ∷ c.past })
+taken_on size number c out before after s is there = record {
   start = s.start;
   whole = s.whole;
   moves = Takes number ∷ s.moves;
   begins = s.begins;
+  sized = s.sized;
   reached = by_taking number out before after s.reached is there;
   serving = (tt, s.serving);
   count = s.count;
@@ -150,11 +153,11 @@ restarted_among number server (mark.Entry e ∷ past) (inr r) = restarted_among 
 restarted_among number server (mark.Answered n kind known contact ∷ past) (inr r) = restarted_among number server past r
 
 -- the marks name just these moves
-pub marks_are : (agents : ℕ) (c : Cluster) (s : Serves agents c) → moves_of c.past ≡ s.moves
-marks_are agents c s = marks_are_moves s.start (a_start s.start s.begins) s.whole s.moves c s.reached
+pub marks_are : (size : Size) (c : Cluster) (s : Serves size c) → moves_of c.past ≡ s.moves
+marks_are size c s = marks_are_moves s.start (a_start s.start s.begins) s.whole s.moves c s.reached
 
 -- so no request is closed
-pub none_closed : (agents : ℕ) (c : Cluster) → Serves agents c → (before after : List Out) (number at : ℕ) → c.tray ≡ before ++ Closed number at ∷ after → ⊥
-none_closed agents c s before after number at there =
-    let o = each_in (OutIsSound c.world c.past) before after (Closed number at) c.tray there (is_sound agents c s).parts.tray in
-    none_restarts s.moves o.1.0 s.serving (subst (λ z. IsAmong (Makes (event.Restart o.1.0)) z) (marks_are agents c s) (restarted_among at o.1.0 c.past o.1.1))
+pub none_closed : (size : Size) (c : Cluster) → Serves size c → (before after : List Out) (number at : ℕ) → c.tray ≡ before ++ Closed number at ∷ after → ⊥
+none_closed size c s before after number at there =
+    let o = each_in (OutIsSound c.world c.past) before after (Closed number at) c.tray there (is_sound size c s).parts.tray in
+    none_restarts s.moves o.1.0 s.serving (subst (λ z. IsAmong (Makes (event.Restart o.1.0)) z) (marks_are size c s) (restarted_among at o.1.0 c.past o.1.1))

@@ -28,12 +28,21 @@ abbrev pub AreServing : List Move → Type 0
 AreServing [] = Unit {0}
 AreServing (m ∷ moves) = IsServing m moves × AreServing moves
 
--- Such moves led to it from servers with empty stores, and it has so many agents.
-pub record Serves (agents : ℕ) (c : Cluster) : Type 0 where
+-- how many servers and agents a cluster has
+pub record Size : Type 0 where
+  pub servers : ℕ
+  pub agents : ℕ
+
+abbrev pub IsSized : Size → Cluster → Type 0
+IsSized size c = (length c.servers ≡ size.servers) × (length c.agents ≡ size.agents)
+
+-- Such moves led to it from so many servers with empty stores, and it has so many agents.
+pub record Serves (size : Size) (c : Cluster) : Type 0 where
   pub start : Cluster
   pub whole : Bool
   pub moves : List Move
   pub begins : IsFirstStart start
+  pub sized : length start.servers ≡ size.servers
   pub reached : Reached start whole moves c
   pub serving : AreServing moves
-  pub count : length c.agents ≡ agents
+  pub count : length c.agents ≡ size.agents

@@ -1,6 +1,6 @@
 //! Laws of clusters that serve, each the contract of a function with an empty body.
 
-ghost use Rattle.std.specs.Prelude.{Bool, List, length, true, ℕ, ◌≡◌, ◌++◌, ◌∷◌, Some};
+ghost use Rattle.std.specs.Prelude.{Bool, List, true, ℕ, ◌≡◌, ◌++◌, ◌∷◌, Some};
 ghost use Rattle.cat_model.specs.declared.request.Asked.{Asked};
 ghost use Rattle.cat_model.specs.declared.request.Draw.{Draw};
 ghost use Rattle.cat_model.specs.declared.request.Event.TheVariants as event;
@@ -8,44 +8,44 @@ ghost use Rattle.cat_model.specs.declared.reply.Mark.TheVariants as mark;
 ghost use Rattle.cluster_rules.specs.Cluster.{Cluster};
 ghost use Rattle.cluster_rules.specs.Reached.{Fits, Settling};
 ghost use Rattle.cluster_rules.specs.Replies.{Closed, Out, number_of};
-ghost use Rattle.cluster_rules.specs.Sound.{Sound};
 ghost use Rattle.cluster_rules.specs.Step.{ClusterStep};
 ghost use Rattle.cluster_turns.specs.Pairs.{IsPartlySettled, settled};
 ghost use Rattle.script_runs.specs.Holds.{IsFirstStart};
-ghost use Rattle.serving_rules.specs.Serving.{Serves};
+ghost use Rattle.serving_rules.specs.Holding.{Holds};
+ghost use Rattle.serving_rules.specs.Serving.{IsSized, Serves, Size};
 
 /// Servers with empty stores serve once server 1 has stood for election.
 pub fn elections_serve()
-    ensures { (agents : ℕ) (c c' : Cluster) (whole : Bool) → IsFirstStart c → length c.agents ≡ agents → Fits c (event.Timeout 1) → ClusterStep c (event.Timeout 1) c' whole → Serves agents c' }
+    ensures { (size : Size) (c c' : Cluster) (whole : Bool) → IsFirstStart c → IsSized size c → Fits c (event.Timeout 1) → ClusterStep c (event.Timeout 1) c' whole → Serves size c' }
 {}
 
 /// A request leaves a cluster that serves serving, whole or cut short.
 pub fn requests_serve()
-    ensures { (agents : ℕ) (c c' : Cluster) (agent : ℕ) (asked : Asked) (draw : Draw) (whole : Bool) → Serves agents c → Fits c (event.Ask agent asked draw) → ClusterStep c (event.Ask agent asked draw) c' whole → Serves agents c' }
+    ensures { (size : Size) (c c' : Cluster) (agent : ℕ) (asked : Asked) (draw : Draw) (whole : Bool) → Serves size c → Fits c (event.Ask agent asked draw) → ClusterStep c (event.Ask agent asked draw) c' whole → Serves size c' }
 {}
 
 /// So does a tick.
 pub fn ticks_serve()
-    ensures { (agents : ℕ) (c c' : Cluster) (server ms : ℕ) (whole : Bool) → Serves agents c → Fits c (event.Tick server ms) → ClusterStep c (event.Tick server ms) c' whole → Serves agents c' }
+    ensures { (size : Size) (c c' : Cluster) (server ms : ℕ) (whole : Bool) → Serves size c → Fits c (event.Tick server ms) → ClusterStep c (event.Tick server ms) c' whole → Serves size c' }
 {}
 
 /// So do deliveries, each followed by that message's loss.
 pub fn deliveries_serve()
-    ensures whole { (agents pairs : ℕ) (c mid c' : Cluster) → Serves agents c → Settling pairs c mid → c' ≡ settled pairs mid → Serves agents c' }
-    ensures cut { (agents most : ℕ) (c c' : Cluster) → Serves agents c → IsPartlySettled most c c' → Serves agents c' }
+    ensures whole { (size : Size) (pairs : ℕ) (c mid c' : Cluster) → Serves size c → Settling pairs c mid → c' ≡ settled pairs mid → Serves size c' }
+    ensures cut { (size : Size) (most : ℕ) (c c' : Cluster) → Serves size c → IsPartlySettled most c c' → Serves size c' }
 {}
 
 /// So does the taking of a request's out.
 pub fn takings_serve()
-    ensures { (agents number : ℕ) (c : Cluster) (out : Out) (before after : List Out) → Serves agents c → number_of out ≡ Some number → c.tray ≡ before ++ out ∷ after → Serves agents (record c { tray = before ++ after; past = mark.Taken number ∷ c.past }) }
+    ensures { (size : Size) (number : ℕ) (c : Cluster) (out : Out) (before after : List Out) → Serves size c → number_of out ≡ Some number → c.tray ≡ before ++ out ∷ after → Serves size (record c { tray = before ++ after; past = mark.Taken number ∷ c.past }) }
 {}
 
 /// All that holds of every run holds of a cluster that serves.
-pub fn serving_is_sound()
-    ensures { (agents : ℕ) (c : Cluster) → Serves agents c → Sound c }
+pub fn serving_holds()
+    ensures { (size : Size) (c : Cluster) → Serves size c → Holds c }
 {}
 
 /// No request is closed, since no server restarts.
 pub fn nothing_is_closed()
-    ensures { (agents : ℕ) (c : Cluster) → Serves agents c → (before after : List Out) (number at : ℕ) → c.tray ≡ before ++ Closed number at ∷ after → ⊥ }
+    ensures { (size : Size) (c : Cluster) → Serves size c → (before after : List Out) (number at : ℕ) → c.tray ≡ before ++ Closed number at ∷ after → ⊥ }
 {}

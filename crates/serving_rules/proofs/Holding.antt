@@ -1,0 +1,52 @@
+-- What holds of a cluster that serves.
+use Rattle.std.proofs.Common.{◌≡◌, Bool, true, List, [], sym, ap, subst}
+use Rattle.raft_model.specs.World.{World, Begins, IsReached, IsOfFirstRun, Reaches, here}
+use Rattle.raft_model.proofs.Theorems.{well_formed, first_run}
+use Rattle.cluster_rules.specs.Cluster.{Cluster}
+use Rattle.cluster_rules.specs.Reached.{Move, Reached, at_start, by_event, by_taking, by_handing, by_settling, by_advancing}
+use Rattle.cluster_rules.proofs.Reached.{run_sound}
+use Rattle.script_runs.specs.Holds.{IsFirstStart}
+use Rattle.script_runs.proofs.Holding.{a_start}
+use Rattle.script_runs.proofs.Indexes.{opened_tells}
+use Rattle.script_runs.proofs.Onward.{step_on}
+use Rattle.serving_rules.specs.Serving.{Size, Serves}
+use Rattle.serving_rules.specs.Holding.{Holds}
+use Rattle.serving_rules.proofs.Serving.{is_sound}
+
+-- the world goes on from that of the start
+record GoesFrom (start c : Cluster) : Type 0 where
+  pub on : (v : World) → Reaches c.world v → Reaches start.world v
+  pub reached : IsReached c.world
+
+run_goes : (start : Cluster) (whole : Bool) (moves : List Move) (c : Cluster) → Reached start whole moves c → IsReached start.world → GoesFrom start c
+run_goes start whole moves c at_start w = record { on = λ v z. z; reached = w }
+run_goes start whole moves c (by_event {whole = w₀} {moves = ms} {c = c₀} made all r fits step) w =
+    let before = run_goes start w₀ ms c₀ r w in
+    let x = step_on c₀ c made all step before.reached in
+    record { on = λ v z. before.on v (x.later.goes.on v z); reached = x.reached before.reached }
+run_goes start whole moves c (by_taking {whole = w₀} {moves = ms} {c = c₀} number out before after r is there) w = let g = run_goes start w₀ ms c₀ r w in record { on = g.on; reached = g.reached }
+run_goes start whole moves c (by_handing {whole = w₀} {moves = ms} {c = c₀} out before after r is there) w = let g = run_goes start w₀ ms c₀ r w in record { on = g.on; reached = g.reached }
+run_goes start whole moves c (by_settling {whole = w₀} {moves = ms} {c = c₀} pairs all r ends) w = let g = run_goes start w₀ ms c₀ r w in record { on = g.on; reached = g.reached }
+run_goes start whole moves c (by_advancing {whole = w₀} {moves = ms} {c = c₀} ms' made r ends) w = let g = run_goes start w₀ ms c₀ r w in record { on = g.on; reached = g.reached }
+
+of_first_run : (start c : Cluster) → IsFirstStart start → GoesFrom start c → IsOfFirstRun c.world
+of_first_run start c s g = record {
+  stores = s.stores;
+  start = start.world;
+  are_empty = s.empty;
+  begins = subst (λ (z : World). Begins s.stores z) (sym (ap (λ (z : Cluster). z.world) s.is)) s.begins;
+  reaches = g.on c.world here;
+}
+
+pub holds : (size : Size) (c : Cluster) → Serves size c → Holds c
+holds size c s =
+    let sound = is_sound size c s in
+    let first = run_sound s.start (a_start s.start s.begins) true [] s.start at_start in
+    let formed = well_formed c.world sound.parts.world in
+    record {
+      sound = sound;
+      fronts = λ server. (sound.parts.servers.each server).front;
+      formed = formed;
+      once = first_run c.world (of_first_run s.start c s.begins (run_goes s.start s.whole s.moves c s.reached first.parts.world));
+      indexes = opened_tells c.world.agreed formed.opens;
+    }
