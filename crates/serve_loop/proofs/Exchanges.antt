@@ -1,22 +1,21 @@
 -- What is exchanged over a connection, step by step.
-use Rattle.std.proofs.Common.{◌≡◌, ℕ, ◌+◌, ◌<◌, ◌≤◌, ◌⊎◌, inl, inr, Bool, true, false, List, [], ◌∷◌, ◌++◌, length, take, drop, refl, sym, ap, ◌∙◌, subst, arith, append_assoc, append-nil, take-append-drop, Option, Some, None, Result, Ok, Err}
-use Rattle.std.specs.Prelude.{◌≢◌, MatchResult, IfOk, OnErr}
+use Rattle.std.proofs.Common.{◌≡◌, ℕ, ◌+◌, ◌<◌, inl, inr, true, false, List, [], ◌∷◌, ◌++◌, length, take, drop, refl, sym, ap, ◌∙◌, subst, arith, append_assoc, append-nil, take-append-drop, Option, Some, None, Result, Ok, Err}
+use Rattle.std.specs.Prelude.{MatchOption, ◌≢◌, MatchResult, IfOk}
 use Rattle.std.specs.Io.KnownBytes.{append_known}
 use Rattle.std.proofs.Math.Seq.{drop-length}
 use Rattle.cat_model.specs.declared.memory.Memory.{Memory}
 use Rattle.cat_model.specs.declared.request.Asked.{Asked}
 use Rattle.cat_model.specs.declared.request.Asked.TheVariants.{Good, Bad}
+use Rattle.cat_model.specs.declared.request.Draw.{Draw}
 use Rattle.cat_model.specs.declared.request.Request.{Request}
-use Rattle.cat_model.specs.declared.reply.Refusal.{Refusal}
+use Rattle.cat_model.specs.declared.reply.Refusal.TheVariants.{Unsupported}
 use Rattle.cat_model.specs.declared.reply.Mark.{Mark}
-use Rattle.cat_outside.specs.Causes.{Rose}
 use Rattle.cat_outside.specs.declared.faults.Failed.{Failed}
 use Rattle.cluster_rules.specs.Replies.{Reply}
 use Rattle.http_wire.specs.declared.feeding.Fed.{Fed}
 use Rattle.http_wire.specs.declared.feeding.Got.{Got}
 use Rattle.http_wire.specs.declared.feeding.Got.TheVariants as gots
 use Rattle.http_wire.specs.declared.reader.Stop.{Stop}
-use Rattle.http_wire.specs.declared.reader.Stop.TheVariants as stops
 use Rattle.http_wire.specs.declared.rejection.Rejection.{Rejection}
 use Rattle.http_wire.specs.Reader.{raw, Takes, Moves}
 use Rattle.http_wire.specs.Replies.{continue_bytes}
@@ -31,7 +30,7 @@ use Rattle.serve_loop.specs.declared.cause.Cause.{Cause}
 use Rattle.serve_loop.specs.declared.cause.Cause.TheVariants as cause
 use Rattle.serve_loop.specs.Replies.{refusing, text_of}
 use Rattle.serve_loop.specs.Waiting.{Grows, IsAnswered}
-use Rattle.serve_loop.specs.Serving.{Connection, Exchange, continued, replied, items_of, bytes_of, count_of, last_bytes, Closes, asked_by, IsReply, IsResponse, unrouted, not_taken, answered, AreTrue, IsLater, Passed, Came, IsCut, IsWhole, EndsBy}
+use Rattle.serve_loop.specs.Serving.{Connection, Exchange, continued, replied, items_of, bytes_of, count_of, last_bytes, asked_by, IsReply, IsReplyTo, IsResponse, draw_of, unrouted, not_taken, answered, AreTrue, IsLater, Passed, Came, IsCut, IsWhole, EndsBy}
 use Rattle.serve_loop.specs.Stages.{IsAfterWrite, StopsBy, Wrote, Stage, Talks, Owes, OwesRefusal, Comes, GoesOn, IsTaking}
 use Rattle.serve_loop.proofs.OwnTurns.{grows_none, grows_on}
 use Rattle.serve_loop.proofs.Written.{known_nil, known_on, rose_from}
@@ -129,6 +128,18 @@ module _ (shows : ℕ → Ask → Reply → List Mark → Type 0) (takes : Asked
   pub routed_reply : (m : Raw) (n : ℕ) (r : Result Reply Memory) (asked : Asked) (v : Knowledge Mark) → asked ≡ asked_by m → IfOk r (IsResponse shows takes c asked n v) → IfOk r (λ reply. IsReply shows takes c m n reply v)
   routed_reply m n (Ok reply) asked v e i = replies m n reply asked v e i
   routed_reply m n (Err f) asked v e i = tt
+
+  -- the answer to what the cluster takes, and the refusal of what it does not take
+  pub answered_reply : (request : Request) (n : ℕ) (d : Draw) (o : Option Reply) (reply : Reply) (v : Knowledge Mark) → o ≡ Some reply → d ≡ draw_of c.draw n
+      → MatchOption o (takes (Good request) → ⊥) (λ r. IsAnswered shows (record { agent = c.agent; asked = Good request; draw = d }) r v.seen v.mine) → IsReplyTo shows takes c request n v reply
+  answered_reply request n d o reply v e f a =
+      let now : IsAnswered shows (record { agent = c.agent; asked = Good request; draw = d }) reply v.seen v.mine = subst (λ (z : Option Reply). MatchOption z (takes (Good request) → ⊥) (λ r. IsAnswered shows (record { agent = c.agent; asked = Good request; draw = d }) r v.seen v.mine)) e a in
+      inr (subst (λ (z : Draw). IsAnswered shows (record { agent = c.agent; asked = Good request; draw = z }) reply v.seen v.mine) f now)
+
+  pub untaken_reply : (request : Request) (n : ℕ) (d : Draw) (o : Option Reply) (r : Result Reply Memory) (v : Knowledge Mark) → o ≡ None
+      → MatchOption o (takes (Good request) → ⊥) (λ r. IsAnswered shows (record { agent = c.agent; asked = Good request; draw = d }) r v.seen v.mine) → IfOk r (λ reply. reply ≡ refusing Unsupported) → IfOk r (IsReplyTo shows takes c request n v)
+  untaken_reply request n d o (Ok reply) v e a is = inl (subst (λ (z : Option Reply). MatchOption z (takes (Good request) → ⊥) (λ r. IsAnswered shows (record { agent = c.agent; asked = Good request; draw = d }) r v.seen v.mine)) e a, is)
+  untaken_reply request n d o (Err f) v e a is = tt
 
   -- all that is due was written
   came_whole : (link : LinkState) (v : Knowledge Mark) (es : List Exchange) (stream rest : List ℕ) → Passed shows takes c link v es (stream ++ rest) (bytes_of es) → GivesAll stream (items_of es) None → Came shows takes c link v es None rest []
@@ -388,7 +399,7 @@ module _ (shows : ℕ → Ask → Reply → List Mark → Type 0) (takes : Asked
   shut_link = record link { shut = true }
 
   came_shut : (v : Knowledge Mark) (es : List Exchange) (rejection : Option Rejection) (rest unwritten : List ℕ) → Came shows takes c link v es rejection rest unwritten → Came shows takes c shut_link v es rejection rest unwritten
-  came_shut v es rejection rest unwritten x = let p = x.passed in let l = p.later in record {
+  came_shut v all rejection rest unwritten x = let p = x.passed in let l = p.later in record {
     stream = x.stream;
     written = x.written;
     gives = x.gives;

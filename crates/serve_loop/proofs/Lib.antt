@@ -1,4 +1,5 @@
 pub mod MarkLists
+pub mod Clocks
 pub mod OwnTurns
 pub mod Written
 pub mod Exchanges

@@ -1,17 +1,12 @@
 -- Lists of marks, one behind another.
-use Rattle.std.proofs.Common.{◌≡◌, ℕ, ◌⊎◌, inl, inr, List, [], ◌∷◌, ◌++◌, refl, sym, ap, ◌∙◌, subst, append_assoc, append-nil, Option, Some, None, Result, Ok, Err}
+use Rattle.std.proofs.Common.{◌≡◌, ℕ, inl, inr, List, [], ◌∷◌, ◌++◌, refl, sym, ap, ◌∙◌, append_assoc, append-nil, Option, Some, None, Result, Ok, Err}
 use Rattle.std.specs.Prelude.{MatchResult, IfOk, OnErr}
 use Rattle.cat_model.specs.declared.memory.Memory.{Memory}
-use Rattle.cluster_rules.specs.Replies.{Reply}
-use Rattle.serve_loop.specs.declared.cluster.Collected.{Collected}
-use Rattle.serve_loop.specs.declared.cluster.Collected.TheVariants as collected
-use Rattle.serve_loop.specs.Collects.{Collects}
 use Rattle.cat_model.specs.declared.reply.Mark.{Mark}
-use Rattle.cat_model.specs.declared.reply.Mark.TheVariants as mark
 use Rattle.turn_lock.specs.Lists.{numbers}
 use Rattle.turn_lock.proofs.Lists.{numbers_append}
 use Rattle.serve_loop.specs.declared.cluster.Ask.{Ask}
-use Rattle.serve_loop.specs.Marks.{AddsAsked, AddsCut, AddsQuiet, asked_mark, opens, restarts, takes}
+use Rattle.serve_loop.specs.Marks.{AddsAsked, AddsCut, AddsQuiet, asked_mark, opens, takes}
 use Rattle.cluster_rules.specs.Sound.{IsAmong}
 use Rattle.serve_loop.specs.Turns.{Makes}
 
@@ -31,9 +26,9 @@ in_right x [] ys a = a
 in_right x (y ∷ xs) ys a = inr (in_right x xs ys a)
 
 pub quiet_none : (old : List Mark) → AddsQuiet old old
-quiet_none old = record { rest = []; are = sym (append-nil old); opens_none = refl; takes_none = refl; restarts_none = refl }
+quiet_none old = record { rest = []; are = sym (append-nil old); opens_none = refl; takes_none = refl }
 
-joined : (a b c xs ys : List Mark) → b ≡ a ++ xs → c ≡ b ++ ys → c ≡ a ++ (xs ++ ys)
+pub joined : (a b c xs ys : List Mark) → b ≡ a ++ xs → c ≡ b ++ ys → c ≡ a ++ (xs ++ ys)
 joined a b c xs ys e f = f ∙ (ap (λ (l : List Mark). l ++ ys) e ∙ append_assoc a xs ys)
 
 pub quiet_quiet : (a b c : List Mark) → AddsQuiet a b → AddsQuiet b c → AddsQuiet a c
@@ -42,7 +37,6 @@ quiet_quiet a b c x y = record {
   are = joined a b c x.rest y.rest x.are y.are;
   opens_none = none_append opens x.rest y.rest x.opens_none ∙ y.opens_none;
   takes_none = none_append takes x.rest y.rest x.takes_none ∙ y.takes_none;
-  restarts_none = none_append restarts x.rest y.rest x.restarts_none ∙ y.restarts_none;
 }
 
 pub quiet_asked : (n : ℕ) (ask : Ask) (a b c : List Mark) → AddsQuiet a b → AddsAsked n ask b c → AddsAsked n ask a c
@@ -51,7 +45,6 @@ quiet_asked n ask a b c x w = record {
   are = joined a b c x.rest w.rest x.are w.are;
   opens_it = none_append opens x.rest w.rest x.opens_none ∙ w.opens_it;
   takes_none = none_append takes x.rest w.rest x.takes_none ∙ w.takes_none;
-  restarts_none = none_append restarts x.rest w.rest x.restarts_none ∙ w.restarts_none;
   asked = in_right (asked_mark n ask) x.rest w.rest w.asked;
 }
 
@@ -61,7 +54,6 @@ asked_quiet n ask a b c w y = record {
   are = joined a b c w.rest y.rest w.are y.are;
   opens_it = append_none opens w.rest y.rest y.opens_none ∙ w.opens_it;
   takes_none = append_none takes w.rest y.rest y.takes_none ∙ w.takes_none;
-  restarts_none = append_none restarts w.rest y.rest y.restarts_none ∙ w.restarts_none;
   asked = in_left (asked_mark n ask) w.rest y.rest w.asked;
 }
 
@@ -74,53 +66,23 @@ makes_quiet None number n a b c m q = (m.0, quiet_quiet a b c m.1 q)
 makes_quiet (Some ask) number n a b c m q = asked_quiet n ask a b c m q
 
 pub quiet_cut : (a b : List Mark) → AddsQuiet a b → AddsCut a b
-quiet_cut a b x = record { rest = x.rest; are = x.are; takes_none = x.takes_none; restarts_none = x.restarts_none }
+quiet_cut a b x = record { rest = x.rest; are = x.are; takes_none = x.takes_none }
 
 pub cut_cut : (a b c : List Mark) → AddsCut a b → AddsCut b c → AddsCut a c
 cut_cut a b c x y = record {
   rest = x.rest ++ y.rest;
   are = joined a b c x.rest y.rest x.are y.are;
   takes_none = none_append takes x.rest y.rest x.takes_none ∙ y.takes_none;
-  restarts_none = none_append restarts x.rest y.rest x.restarts_none ∙ y.restarts_none;
 }
 
 pub makes_cut : (ask : Option Ask) (number n : ℕ) (a b : List Mark) → Makes ask number n a b → AddsCut a b
 makes_cut None number n a b m = quiet_cut a b m.1
-makes_cut (Some ask) number n a b m = record { rest = m.rest; are = m.are; takes_none = m.takes_none; restarts_none = m.restarts_none }
-
--- no restart behind these marks either
-pub calm_cut : (a b : List Mark) → AddsCut a b → numbers restarts a ≡ [] → numbers restarts b ≡ []
-calm_cut a b x c = ap (numbers restarts) x.are ∙ (none_append restarts a x.rest c ∙ x.restarts_none)
-
-pub calm_quiet : (a b : List Mark) → AddsQuiet a b → numbers restarts a ≡ [] → numbers restarts b ≡ []
-calm_quiet a b x c = calm_cut a b (quiet_cut a b x) c
-
-pub calm_makes : (ask : Option Ask) (number n : ℕ) (a b : List Mark) → Makes ask number n a b → numbers restarts a ≡ [] → numbers restarts b ≡ []
-calm_makes ask number n a b m c = calm_cut a b (makes_cut ask number n a b m) c
-
-pub calm_ask : (r : Result ℕ Memory) (ask : Ask) (a b : List Mark) → IfOk r (λ n. AddsAsked n ask a b) → OnErr r (AddsCut a b) → numbers restarts a ≡ [] → numbers restarts b ≡ []
-calm_ask (Ok n) ask a b i o c = calm_makes (Some ask) 0 n a b i c
-calm_ask (Err e) ask a b i o c = calm_cut a b o c
+makes_cut (Some ask) number n a b m = record { rest = m.rest; are = m.are; takes_none = m.takes_none }
 
 pub asks : (r : Result ℕ Memory) (ask : Ask) (number : ℕ) (a b : List Mark) → IfOk r (λ n. AddsAsked n ask a b) → OnErr r (AddsCut a b)
     → MatchResult r (λ n. Makes (Some ask) number n a b) (λ _. AddsCut a b)
 asks (Ok n) ask number a b i o = i
 asks (Err e) ask number a b i o = o
-
-calm_taken : (n : ℕ) (a b : List Mark) → b ≡ a ++ mark.Taken n ∷ [] → numbers restarts a ≡ [] → numbers restarts b ≡ []
-calm_taken n a b e c = ap (numbers restarts) e ∙ (none_append restarts a (mark.Taken n ∷ []) c ∙ refl)
-
-pub calm_collected : (shows : ℕ → Ask → Reply → List Mark → Type 0) (n : ℕ) (got : Collected) (a b : List Mark) → Collects shows n got a b → numbers restarts a ≡ [] → numbers restarts b ≡ []
-calm_collected shows n (collected.Ready reply) a b x c = calm_taken n a b x.0 c
-calm_collected shows n collected.Closed a b x c = calm_taken n a b x.0 c
-calm_collected shows n collected.NotYet a b x c = ap (numbers restarts) x ∙ c
-calm_collected shows n collected.Gone a b x c = ap (numbers restarts) x.0 ∙ c
-
-pub none_closed : (shows : ℕ → Ask → Reply → List Mark → Type 0) (n : ℕ) (got : Collected) (a b : List Mark) → Collects shows n got a b → numbers restarts a ≡ [] → got ≡ collected.Closed → ⊥
-none_closed shows n (collected.Ready reply) a b x c e = cc e
-none_closed shows n collected.Closed a b x c e = x.1 c
-none_closed shows n collected.NotYet a b x c e = cc e
-none_closed shows n collected.Gone a b x c e = cc e
 
 pub cut_quiet : (a b c : List Mark) → AddsCut a b → AddsQuiet b c → AddsCut a c
 cut_quiet a b c x q = cut_cut a b c x (quiet_cut b c q)

@@ -1,5 +1,5 @@
 -- A turn for one's own request.
-use Rattle.std.proofs.Common.{◌≡◌, ℕ, ◌⊎◌, inl, inr, ⊎_elim, List, [], ◌∷◌, ◌++◌, length, drop, refl, sym, ap, ◌∙◌, subst, append_assoc, append-nil, Option, Some, None, Result, Ok, Err}
+use Rattle.std.proofs.Common.{◌≡◌, ℕ, inl, inr, ⊎_elim, List, [], ◌∷◌, ◌++◌, length, drop, refl, sym, ap, ◌∙◌, subst, append_assoc, append-nil, Option, Some, None, Result, Ok, Err}
 use Rattle.std.specs.Prelude.{MatchOption, MatchResult, IfOk, IfSome}
 use Rattle.std.proofs.Math.Seq.{drop-append_seam}
 use Rattle.cat_model.specs.declared.memory.Memory.{Memory}
@@ -16,11 +16,11 @@ use Rattle.serve_loop.specs.declared.cluster.Collected.TheVariants as collected
 use Rattle.serve_loop.specs.declared.served.Turned.{Turned}
 use Rattle.serve_loop.specs.Marks.{AddsAsked, AddsCut, AddsQuiet, AreKept, answered_mark, answers, asked_mark, opens, takes}
 use Rattle.serve_loop.specs.Collects.{Collects}
-use Rattle.serve_loop.specs.Turns.{Asks, Makes, Turns}
+use Rattle.serve_loop.specs.Turns.{Asks, Turns}
 use Rattle.cluster_rules.specs.Sound.{IsAmong}
 use Rattle.cat_model.specs.declared.request.Asked.{Asked}
 use Rattle.serve_loop.specs.Waiting.{Grows, IsAnswered, IsBehind, Looks, Stands, Waits}
-use Rattle.serve_loop.proofs.MarkLists.{append_none, in_left, in_right, none_append}
+use Rattle.serve_loop.proofs.MarkLists.{append_none, in_left, in_right, joined, none_append}
 
 -- what a turn may leave: own numbers alone are taken
 pub record Rests (mine : List ℕ) (old new : List Mark) : Type 0 where
@@ -46,12 +46,8 @@ leaves_none n old new e = record { rest = []; are = e ∙ sym (append-nil old); 
 
 leaves : (shows : ℕ → Ask → Reply → List Mark → Type 0) (n : ℕ) (got : Collected) (old new : List Mark) → Collects shows n got old new → Leaves n old new
 leaves shows n (collected.Ready reply) old new x = leaves_taken n old new x.0
-leaves shows n collected.Closed old new x = leaves_taken n old new x.0
 leaves shows n collected.NotYet old new x = leaves_none n old new x
 leaves shows n collected.Gone old new x = leaves_none n old new x.0
-
-joined : (a b c xs ys : List Mark) → b ≡ a ++ xs → c ≡ b ++ ys → c ≡ a ++ (xs ++ ys)
-joined a b c xs ys e f = f ∙ (ap (λ (l : List Mark). l ++ ys) e ∙ append_assoc a xs ys)
 
 same_among : (n k : ℕ) (ns : List ℕ) → n ≡ k → Among n ns → Among k ns
 same_among n k ns e a = subst (λ (z : ℕ). Among z ns) e a
@@ -125,25 +121,22 @@ given shows n ask reply mid new mine w is answered shown e k = record {
 -- what stands, of what was seen and opened
 pub StandsOver : (ℕ → Ask → Reply → List Mark → Type 0) → ℕ → Ask → Collected → List Mark → List ℕ → Type 0
 StandsOver shows n ask (collected.Ready reply) seen mine = IsAnswered shows ask reply seen mine
-StandsOver shows n ask collected.Closed seen mine = ⊥
 StandsOver shows n ask collected.NotYet seen mine = Waits n ask seen mine
 StandsOver shows n ask collected.Gone seen mine = ⊥
 
 stands_known : (shows : ℕ → Ask → Reply → List Mark → Type 0) (n : ℕ) (ask : Ask) (got : Collected) (k : Knowledge Mark) → StandsOver shows n ask got k.seen k.mine → Stands shows n ask got k
 unfolding StandsOver
 stands_known shows n ask (collected.Ready reply) k s = s
-stands_known shows n ask collected.Closed k s = s
 stands_known shows n ask collected.NotYet k s = s
 stands_known shows n ask collected.Gone k s = s
 
 -- a waiting request's collection
 pub stands : (shows : ℕ → Ask → Reply → List Mark → Type 0) (n : ℕ) (ask : Ask) (got : Collected) (mid new : List Mark) (mine : List ℕ)
-    → Waits n ask mid mine → Collects shows n got mid new → (got ≡ collected.Closed → ⊥) → AreKept new → StandsOver shows n ask got new mine
+    → Waits n ask mid mine → Collects shows n got mid new → AreKept new → StandsOver shows n ask got new mine
 unfolding StandsOver
-stands shows n ask (collected.Ready reply) mid new mine w x o k = given shows n ask reply mid new mine w x.0 x.1.answered x.1.shown (sym x.1.number_is) k
-stands shows n ask collected.Closed mid new mine w x o k = o refl
-stands shows n ask collected.NotYet mid new mine w x o k = subst (λ (l : List Mark). Waits n ask l mine) (sym x) w
-stands shows n ask collected.Gone mid new mine w x o k = ⊎_elim (λ (f : Among n (numbers opens mid) → ⊥). f (asked_opens n ask mid w.asked)) (λ (a : Among n (numbers takes mid)). w.untaken a) x.1
+stands shows n ask (collected.Ready reply) mid new mine w x k = given shows n ask reply mid new mine w x.0 x.1.answered x.1.shown (sym x.1.number_is) k
+stands shows n ask collected.NotYet mid new mine w x k = subst (λ (l : List Mark). Waits n ask l mine) (sym x) w
+stands shows n ask collected.Gone mid new mine w x k = ⊎_elim (λ (f : Among n (numbers opens mid) → ⊥). f (asked_opens n ask mid w.asked)) (λ (a : Among n (numbers takes mid)). w.untaken a) x.1
 
 -- a request that was just asked waits
 pub waits_first : (n : ℕ) (ask : Ask) (old mid : List Mark) (mine : List ℕ) → AddsAsked n ask old mid → AreKept old → EachOnce (numbers opens mid) → Among n mine → Waits n ask mid mine
@@ -176,26 +169,26 @@ more_mine n ask seen mine mine' f w = record { own = f n w.own; asked = w.asked;
 
 -- The first turn of a request, and each later one.
 pub stands_first : (shows : ℕ → Ask → Reply → List Mark → Type 0) (ask : Ask) (k : ℕ) (t : Turned) (old new : List Mark) (mine : List ℕ) (w' : Knowledge Mark)
-    → Turns shows (Some ask) k t old new → (t.got ≡ collected.Closed → ⊥) → AreKept old → AreKept new → w'.seen ≡ new → w'.mine ≡ mine ++ numbers opens (drop (length old) new)
+    → Turns shows (Some ask) k t old new → AreKept old → AreKept new → w'.seen ≡ new → w'.mine ≡ mine ++ numbers opens (drop (length old) new)
     → Stands shows t.number ask t.got w'
-stands_first shows ask k t old new mine w' x shut before after s m =
+stands_first shows ask k t old new mine w' x before after s m =
     let l = leaves shows t.number t.got x.mid new x.got in
     let w = x.made in
     let whole : numbers opens (drop (length old) new) ≡ t.number ∷ [] = mine_is old new (w.rest ++ l.rest) (joined old x.mid new w.rest l.rest w.are l.are) ∙ (append_none opens w.rest l.rest l.opens_none ∙ w.opens_it) in
     let own : Among t.number w'.mine = subst (Among t.number) (sym m) (among_right t.number mine _ (subst (Among t.number) (sym whole) (one t.number))) in
     let once : EachOnce (numbers opens x.mid) = subst EachOnce (ap (numbers opens) l.are ∙ append_none opens x.mid l.rest l.opens_none) after.once in
     stands_known shows t.number ask t.got w' (subst (λ (z : List Mark). StandsOver shows t.number ask t.got z w'.mine) (sym s)
-    (stands shows t.number ask t.got x.mid new w'.mine (waits_first t.number ask old x.mid w'.mine w before once own) x.got shut after))
+    (stands shows t.number ask t.got x.mid new w'.mine (waits_first t.number ask old x.mid w'.mine w before once own) x.got after))
 
 pub stands_next : (shows : ℕ → Ask → Reply → List Mark → Type 0) (ask : Ask) (k : ℕ) (t : Turned) (seen old new : List Mark) (mine : List ℕ) (w' : Knowledge Mark)
     → Waits k ask seen mine → Extends opens takes mine seen old
-    → Turns shows None k t old new → (t.got ≡ collected.Closed → ⊥) → AreKept new → w'.seen ≡ new → w'.mine ≡ mine ++ numbers opens (drop (length old) new)
+    → Turns shows None k t old new → AreKept new → w'.seen ≡ new → w'.mine ≡ mine ++ numbers opens (drop (length old) new)
     → Stands shows t.number ask t.got w'
-stands_next shows ask k t seen old new mine w' w e x shut after s m =
+stands_next shows ask k t seen old new mine w' w e x after s m =
     let at : Waits t.number ask old mine = subst (λ (z : ℕ). Waits z ask old mine) (sym x.made.0) (waits_on k ask seen old mine w e) in
     let mid : Waits t.number ask x.mid mine = waits_quiet t.number ask old x.mid mine at x.made.1 in
     let own : Waits t.number ask x.mid w'.mine = more_mine t.number ask x.mid mine w'.mine (λ z a. subst (Among z) (sym m) (among_left z mine _ a)) mid in
-    stands_known shows t.number ask t.got w' (subst (λ (z : List Mark). StandsOver shows t.number ask t.got z w'.mine) (sym s) (stands shows t.number ask t.got x.mid new w'.mine own x.got shut after))
+    stands_known shows t.number ask t.got w' (subst (λ (z : List Mark). StandsOver shows t.number ask t.got z w'.mine) (sym s) (stands shows t.number ask t.got x.mid new w'.mine own x.got after))
 
 -- what was seen and opened grows over a turn
 pub grows : (v w : Knowledge Mark) (old new : List Mark) (mine : List ℕ) → Extends opens takes mine v.seen old → Rests mine old new → w.seen ≡ new → w.mine ≡ v.mine ++ numbers opens (drop (length old) new) → Grows v w
@@ -207,17 +200,17 @@ grows v w old new mine e r s m = record {
 }
 
 pub turned_first : (shows : ℕ → Ask → Reply → List Mark → Type 0) (taken : Asked → Type 0) (ask : Ask) (r : Result (Option Turned) Memory) (old new : List Mark) (mine : List ℕ) (w : Knowledge Mark)
-    → MatchResult r (λ o. Asks shows taken ask o old new) (λ _. AddsCut old new) → IfOk r (λ o. IfSome o (λ t. t.got ≡ collected.Closed → ⊥)) → AreKept old → AreKept new → w.seen ≡ new
+    → MatchResult r (λ o. Asks shows taken ask o old new) (λ _. AddsCut old new) → AreKept old → AreKept new → w.seen ≡ new
     → w.mine ≡ mine ++ numbers opens (drop (length old) new) → IfOk r (λ o. MatchOption o (taken ask.asked → ⊥) (λ t. Stands shows t.number ask t.got w))
-turned_first shows taken ask (Ok (Some t)) old new mine w x shut before after s m = stands_first shows ask 0 t old new mine w x shut before after s m
-turned_first shows taken ask (Ok None) old new mine w x shut before after s m = x.0
-turned_first shows taken ask (Err e) old new mine w x shut before after s m = tt
+turned_first shows taken ask (Ok (Some t)) old new mine w x before after s m = stands_first shows ask 0 t old new mine w x before after s m
+turned_first shows taken ask (Ok None) old new mine w x before after s m = x.0
+turned_first shows taken ask (Err e) old new mine w x before after s m = tt
 
 pub turned_next : (shows : ℕ → Ask → Reply → List Mark → Type 0) (k : ℕ) (r : Result Turned Memory) (seen old new : List Mark) (mine : List ℕ) (w : Knowledge Mark)
-    → Extends opens takes mine seen old → MatchResult r (λ t. Turns shows None k t old new) (λ _. AddsCut old new) → IfOk r (λ t. t.got ≡ collected.Closed → ⊥) → AreKept new → w.seen ≡ new
+    → Extends opens takes mine seen old → MatchResult r (λ t. Turns shows None k t old new) (λ _. AddsCut old new) → AreKept new → w.seen ≡ new
     → w.mine ≡ mine ++ numbers opens (drop (length old) new) → IfOk r (λ t. (ask : Ask) → Waits k ask seen mine → Stands shows t.number ask t.got w)
-turned_next shows k (Ok t) seen old new mine w e x shut after s m = λ ask waits. stands_next shows ask k t seen old new mine w waits e x shut after s m
-turned_next shows k (Err e) seen old new mine w ext x shut after s m = tt
+turned_next shows k (Ok t) seen old new mine w e x after s m = λ ask waits. stands_next shows ask k t seen old new mine w waits e x after s m
+turned_next shows k (Err e) seen old new mine w ext x after s m = tt
 
 pub behind : (shows : ℕ → Ask → Reply → List Mark → Type 0) (taken : Asked → Type 0) (ask : Ask) (r : Result (Option Turned) Memory) (seen old new seen' : List Mark) (mine : List ℕ)
     → Extends opens takes mine seen old → MatchResult r (λ o. Asks shows taken ask o old new) (λ _. AddsCut old new) → seen' ≡ new → IfOk r (λ o. IfSome o (λ t. IsBehind t.number ask seen seen'))
@@ -262,9 +255,6 @@ module _ (shows : ℕ → Ask → Reply → List Mark → Type 0) where
   pub looks_ready : (n : ℕ) (got : Collected) (u : Knowledge Mark) (n' : ℕ) (got' : Collected) (w : Knowledge Mark) (reply : Reply) → got' ≡ collected.Ready reply → Looks shows n got u n' got' w
       → (ask : Ask) → Stands shows n ask got u → IsAnswered shows ask reply w.seen w.mine
   looks_ready n got u n' got' w reply e l ask x = subst (λ (z : Collected). Stands shows n' ask z w) e (l.each ask x)
-
-  pub never_closed : (n : ℕ) (got : Collected) (u : Knowledge Mark) (n' : ℕ) (got' : Collected) (w : Knowledge Mark) → got' ≡ collected.Closed → Looks shows n got u n' got' w → ⊥
-  never_closed n got u n' got' w e l = subst (λ (z : Collected). Stands shows n' l.some.0 z w) e l.some.1
 
   pub never_gone : (n : ℕ) (got : Collected) (u : Knowledge Mark) (n' : ℕ) (got' : Collected) (w : Knowledge Mark) → got' ≡ collected.Gone → Looks shows n got u n' got' w → ⊥
   never_gone n got u n' got' w e l = subst (λ (z : Collected). Stands shows n' l.some.0 z w) e l.some.1

@@ -1,29 +1,35 @@
 -- The links of a run, one after another.
-use Rattle.std.proofs.Common.{◌≡◌, ℕ, ◌+◌, ◌≤◌, List, [], ◌∷◌, ◌++◌, length, refl, sym, ap, ◌∙◌, subst, arith, append_assoc, append-nil, length-append, Option, None, Some, Result, Ok, Err, ◌-◌, true}
-use Rattle.std.specs.Prelude.{All, IfSome, ◌^◌, min}
-use Rattle.std.specs.List.{AllByRecursion}
+use Rattle.std.proofs.Common.{◌≡◌, ℕ, ◌+◌, ◌≤◌, ◌⊎◌, inl, inr, Bool, true, false, ◌||◌, List, [], ◌∷◌, ◌++◌, length, map, refl, sym, ap, ◌∙◌, subst, arith, append_assoc, append-nil, length-append, Option, None, Some, Result, Ok, Err, ◌-◌}
+use Rattle.std.specs.Prelude.{All, IfErr, IfSome, OnOk}
+use Rattle.std.specs.List.{AllByRecursion, list_any}
+use Rattle.std.proofs.lemmas.List.{map-append}
+use Rattle.std.proofs.lemmas.List.Folds.{list_any-append}
 use Rattle.std.specs.Option.{option_map}
 use Rattle.cat_model.specs.declared.request.Asked.{Asked}
 use Rattle.cat_model.specs.declared.request.Draw.{Draw}
 use Rattle.cat_model.specs.declared.reply.Mark.{Mark}
 use Rattle.cat_outside.specs.Causes.{Rose}
 use Rattle.cluster_rules.specs.Replies.{Reply}
+use Rattle.cluster_rules.specs.Sound.{IsAmong}
 use Rattle.serve_outside.specs.Links.{LinkState, IsNew}
 use Rattle.serve_outside.specs.Tasks.{IsKept, note_of}
 use Rattle.serve_outside.specs.declared.job.Task.{Task}
 use Rattle.turn_lock.specs.declared.knowledge.Knowledge.{Knowledge}
+use Rattle.turn_lock.specs.Lists.{AreFronts, IsFront}
 use Rattle.serve_loop.specs.declared.cluster.Ask.{Ask}
 use Rattle.serve_loop.specs.declared.cause.Cause.{Cause}
 use Rattle.serve_loop.specs.declared.cause.Cause.TheVariants as cause
 use Rattle.serve_loop.specs.Jobs.{AllTasks, agent_of}
-use Rattle.serve_loop.specs.Runs.{TurnsAway, IsTurnedAway, TurnedAway, Starts, lacking, HasDrawn, IsPlaced, IsDrawn, IsStarted, IsStartedAs, IsServed, ServesOne, AllServed, HandsBack}
+use Rattle.serve_loop.specs.Runs.{TurnsAway, IsTurnedAway, TurnedAway, Starts, lacking, HasDrawn, IsDrawn, IsStarted, IsStartedAs, IsServed, ServesOne, AllServed, HandsBack, is_short, outcome_of}
 use Rattle.serve_loop.specs.declared.run.Stop.{Stop}
+use Rattle.serve_loop.specs.declared.run.Stop.TheVariants as stops
 use Rattle.serve_loop.specs.declared.job.ServeJob.{ServeJob}
 use Rattle.crossbeam_utils.specs.declared.cache_padded.CachePadded.{CachePadded}
 use Rattle.turn_lock.specs.declared.history.History.{Ghosts}
 use Rattle.turn_lock.specs.declared.lock.HistoryLock.{HistoryLock}
-use Rattle.serve_loop.specs.Serving.{Connection, IsLater, EndsBy}
-use Rattle.serve_loop.proofs.Tasks.{all_kept}
+use Rattle.serve_loop.specs.Serving.{Connection, EndsBy}
+use Rattle.serve_loop.proofs.MarkLists.{in_left}
+use Rattle.serve_loop.proofs.Tasks.{all_kept, all_last, all_one_more, all_rest}
 
 pub if_some : {T : Type 0} → (o : Option T) (t : T) (P : T → Type 0) → o ≡ Some t → IfSome o P → P t
 if_some o t P e i = subst (λ (z : Option _). IfSome z P) e i
@@ -75,6 +81,13 @@ turned_on a b c f g h k j x y = record {
 pub all_noted : {P D : Type 0} → (tasks : List (Task P D)) (kept : P → D → Type 0) (N N' : P → Type 0) → ((p : P) → N p → N' p) → AllTasks tasks kept N → AllTasks tasks kept N'
 all_noted tasks kept N N' f a = all_kept (λ t. IsKept kept t × N (note_of t)) (λ t. IsKept kept t × N' (note_of t)) tasks a (λ t x. (x.0, f (note_of t) x.1))
 
+-- the last of these tasks, and those before it
+pub last_task : {P D : Type 0} → (xs ys : List (Task P D)) (x : Task P D) (kept : P → D → Type 0) (N : P → Type 0) → ys ≡ xs ++ x ∷ [] → AllTasks ys kept N → IsKept kept x × N (note_of x)
+last_task xs ys x kept N are a = all_last (λ t. IsKept kept t × N (note_of t)) xs ys x are a
+
+pub tasks_before : {P D : Type 0} → (xs ys : List (Task P D)) (x : Task P D) (kept : P → D → Type 0) (N : P → Type 0) → ys ≡ xs ++ x ∷ [] → AllTasks ys kept N → AllTasks xs kept N
+tasks_before xs ys x kept N are a = all_rest (λ t. IsKept kept t × N (note_of t)) xs ys x are a
+
 -- what a start leaves
 pub starts_none : (old : List LinkState) (f n t s : ℕ) (r : Result Unit Stop) → s ≡ t → Starts old old f f n n t s r
 starts_none old f n t s r e = record { turned = 0; away = turned_none old f (f + lacking r) (omega arith); count = omega arith }
@@ -115,6 +128,19 @@ module _ {R S Cl G L : Type 0} {H : Ghosts S Mark} where
             (subst (λ (k : ℕ). IsDrawn (option_map (λ before. before ++ x ∷ []) draws) k x) (sym e ∙ number) (drawn_now draws g x h));
       }
 
+  -- one task more, with the draw that was just made
+  pub started_more : {P D : Type 0} → (job : P → ServeJob R S Cl G L Mark H) (kept : P → D → Type 0) (board : CachePadded (HistoryLock S Mark)) (agents : ℕ) (draws draws' : Option (List Draw)) (state : L → LinkState) (x : Draw) (g n : ℕ)
+      (items items' items'' : List (Task P D)) (o : Option (Task P D)) (task : Task P D) → AllTasks items kept (λ p. IsStarted board agents draws state (job p)) → o ≡ Some task → IfSome o (IsKept kept)
+      → IfSome o (λ t. IsStartedAs n x board agents state (job (note_of t))) → HasDrawn draws g → n ≡ g + 1 → draws' ≡ option_map (λ before. before ++ x ∷ []) draws → items' ≡ items → items'' ≡ items' ++ task ∷ []
+      → AllTasks items'' kept (λ p. IsStarted board agents draws' state (job p))
+  started_more {P} {D} job kept board agents draws draws' state x g n items items' items'' o task all is keeps started drawn number drawn' same are =
+      let more = option_map (λ before. before ++ x ∷ []) draws in
+      let Each : Task P D → Type 0 = λ t. IsKept kept t × IsStarted board agents more state (job (note_of t)) in
+      let before = all_noted items kept (λ p. IsStarted board agents draws state (job p)) (λ p. IsStarted board agents more state (job p)) (λ p i. started_later board agents draws state x (job p) i) all in
+      let one : Each task = (if_some o task (IsKept kept) is keeps, started_now board agents draws state x g n (job (note_of task)) drawn number (if_some o task (λ t. IsStartedAs n x board agents state (job (note_of t))) is started)) in
+      subst (λ (d : Option (List Draw)). AllTasks items'' kept (λ p. IsStarted board agents d state (job p))) (sym drawn')
+      (subst (All Each) (sym (are ∙ ap (λ (l : List (Task P D)). l ++ task ∷ []) same)) (all_one_more Each items task before one))
+
 -- a link that was served, by what its job promised
 later_number : (c : Connection) (shows : ℕ → Ask → Reply → List Mark → Type 0) (takes : Asked → Type 0) (why : Cause) (link : LinkState) (v : Knowledge Mark) (n : ℕ) → EndsBy shows takes c why link v n → link.number ≡ c.first.number
 later_number c shows takes cause.Closed link v n x = x.came.passed.later.number
@@ -123,39 +149,123 @@ later_number c shows takes cause.ReadFault link v n x = x.came.passed.later.numb
 later_number c shows takes cause.WriteFault link v n x = x.0.came.passed.later.number
 later_number c shows takes cause.Memory link v n x = x.came.passed.later.number
 
+-- what a pass knows that others were put into
+pub told_before : (old theirs new : List (List Mark)) (own : List Mark) → new ≡ own ∷ (old ++ theirs) → (seen : List Mark) → IsAmong seen old → IsAmong seen new
+told_before old theirs new own e seen a = subst (IsAmong seen) (sym e) (inr (in_left seen old theirs a))
+
+pub told_now : (rest new : List (List Mark)) (own : List Mark) → new ≡ own ∷ rest → IsAmong own new
+told_now rest new own e = subst (IsAmong own) (sym e) (inl refl)
+
+pub told_fronts : (told : List (List Mark)) (marks : List Mark) → AreFronts told marks → (seen : List Mark) → IsAmong seen told → IsFront seen marks
+told_fronts [] marks f seen a = absurd a
+told_fronts (xs ∷ told) marks f seen (inl e) = subst (λ (l : List Mark). IsFront l marks) (sym e) f.0
+told_fronts (xs ∷ told) marks f seen (inr a) = told_fronts told marks f.1 seen a
+
+or_false : (b : Bool) → (b || false) ≡ b
+or_false true = refl
+or_false false = refl
+
 module _ (shows : ℕ → Ask → Reply → List Mark → Type 0) (takes : Asked → Type 0) (agents : ℕ) (draws : Option (List Draw)) where
-  pub is_served : (c : Connection) (link : LinkState) (known : Knowledge Mark) (why : Cause) (requests : ℕ) → IsNew c.first.number c.first → c.agent ≡ agent_of agents c.first.number → IsDrawn draws c.first.number c.draw
-      → EndsBy shows takes c why link known requests → link.shut ≡ true → IsServed shows takes agents draws link
-  is_served c link known why requests new agent drawn ends shut =
-      let number : c.first.number ≡ link.number = sym (later_number c shows takes why link known requests ends) in record {
-        first = c.first;
-        draw = c.draw;
-        begun = c.begun;
-        known = known;
-        cause = why;
-        requests = requests;
-        new = subst (λ (n : ℕ). IsNew n c.first) number new;
-        drawn = subst (λ (n : ℕ). IsDrawn draws n c.draw) number drawn;
-        ends = subst (λ (a : ℕ). EndsBy shows takes (record { agent = a; draw = c.draw; first = c.first; begun = c.begun }) why link known requests) (agent ∙ ap (agent_of agents) number) ends;
-        shut = shut;
-      }
+  module _ (Knows : List Mark → Type 0) where
+    pub is_served : (c : Connection) (link : LinkState) (known : Knowledge Mark) (why : Cause) (requests : ℕ) → Knows known.seen → IsNew c.first.number c.first → c.agent ≡ agent_of agents c.first.number → IsDrawn draws c.first.number c.draw
+        → EndsBy shows takes c why link known requests → link.shut ≡ true → IsServed shows takes agents draws Knows link why
+    is_served c link known why requests seen new agent drawn ends shut =
+        let number : c.first.number ≡ link.number = sym (later_number c shows takes why link known requests ends) in record {
+          first = c.first;
+          draw = c.draw;
+          begun = c.begun;
+          known = known;
+          requests = requests;
+          seen = seen;
+          new = subst (λ (n : ℕ). IsNew n c.first) number new;
+          drawn = subst (λ (n : ℕ). IsDrawn draws n c.draw) number drawn;
+          ends = subst (λ (a : ℕ). EndsBy shows takes (record { agent = a; draw = c.draw; first = c.first; begun = c.begun }) why link known requests) (agent ∙ ap (agent_of agents) number) ends;
+          shut = shut;
+        }
 
-  pub served_none : (old : List LinkState) → AllServed shows takes agents draws old old 0
-  served_none old = record { links = []; are = sym (append-nil old); each = tt; count_is = refl }
+    pub served_none : (old : List LinkState) (n : ℕ) → AllServed shows takes agents draws Knows old old (n - n) false
+    served_none old n = record { links = []; are = sym (append-nil old); each = tt; count_is = let e : 0 ≡ n - n = omega arith in e; short_is = refl }
 
-  pub served_more : (a b c : List LinkState) (k : ℕ) (link : LinkState) → AllServed shows takes agents draws a b k → IsServed shows takes agents draws link → c ≡ b ++ link ∷ [] → AllServed shows takes agents draws a c (k + 1)
-  served_more a b c k link x is are = record {
-    links = x.links ++ link ∷ [];
-    are = are ∙ (ap (λ (l : List LinkState). l ++ link ∷ []) x.are ∙ append_assoc a x.links (link ∷ []));
-    each = each_more (IsServed shows takes agents draws) x.links (link ∷ []) x.each (is, tt);
-    count_is = length-append x.links (link ∷ []) ∙ ap (λ z. z + 1) x.count_is;
-  }
+    served_more : (a b c : List LinkState) (k : ℕ) (short one : Bool) → AllServed shows takes agents draws Knows a b k short → ServesOne shows takes agents draws Knows b c one
+        → AllServed shows takes agents draws Knows a c (k + 1) (short || one)
+    served_more a b c k short one x y =
+        let last : List (LinkState × Cause) = (y.link, y.why) ∷ [] in
+        let test : LinkState × Cause → Bool = λ l. is_short l.1 in record {
+          links = x.links ++ last;
+          are = y.are ∙ (ap (λ (l : List LinkState). l ++ y.link ∷ []) x.are ∙ (append_assoc a (map (λ l. l.0) x.links) (y.link ∷ []) ∙ ap (λ (l : List LinkState). a ++ l) (sym (map-append (λ l. l.0) x.links last))));
+          each = each_more (λ l. IsServed shows takes agents draws Knows l.0 l.1) x.links last x.each (y.is, tt);
+          count_is = length-append x.links last ∙ ap (λ z. z + 1) x.count_is;
+          short_is = ap (λ b. b || one) x.short_is ∙ (ap (λ b. list_any test x.links || b) (y.short_is ∙ sym (or_false (is_short y.why))) ∙ sym (list_any-append test x.links last));
+        }
 
-  pub served_pop : {T : Type 0} → (a b c : List LinkState) (n : ℕ) (xs ys : List T) (x : T) → ys ≡ xs ++ x ∷ [] → length ys ≤ n → AllServed shows takes agents draws a b (n - length ys) → ServesOne shows takes agents draws b c
-      → AllServed shows takes agents draws a c (n - length xs)
-  served_pop a b c n xs ys x e l all one =
+  -- what was seen may be known in another way
+  each_known : (Knows Knows' : List Mark → Type 0) → ((seen : List Mark) → Knows seen → Knows' seen) → (links : List (LinkState × Cause))
+      → AllByRecursion (λ l. IsServed shows takes agents draws Knows l.0 l.1) links → AllByRecursion (λ l. IsServed shows takes agents draws Knows' l.0 l.1) links
+  each_known Knows Knows' f [] a = a
+  each_known Knows Knows' f (l ∷ ls) a = let i = a.0 in (
+    record { first = i.first; draw = i.draw; begun = i.begun; known = i.known; requests = i.requests; seen = f i.known.seen i.seen; new = i.new; drawn = i.drawn; ends = i.ends; shut = i.shut },
+    each_known Knows Knows' f ls a.1,
+  )
+
+  pub served_known : (Knows Knows' : List Mark → Type 0) → ((seen : List Mark) → Knows seen → Knows' seen) → (a b : List LinkState) (n : ℕ) (short : Bool)
+      → AllServed shows takes agents draws Knows a b n short → AllServed shows takes agents draws Knows' a b n short
+  served_known Knows Knows' f a b n short x = record { links = x.links; are = x.are; each = each_known Knows Knows' f x.links x.each; count_is = x.count_is; short_is = x.short_is }
+
+  -- the last of the tasks is gone
+  pub served_pop : (Knows Knows' : List Mark → Type 0) → ((seen : List Mark) → Knows seen → Knows' seen) → {T : Type 0} → (a b c : List LinkState) (n : ℕ) (short one now : Bool) (xs ys : List T) (x : T) → ys ≡ xs ++ x ∷ [] → length ys ≤ n
+      → AllServed shows takes agents draws Knows a b (n - length ys) short → ServesOne shows takes agents draws Knows' b c one → now ≡ (short || one) → AllServed shows takes agents draws Knows' a c (n - length xs) now
+  served_pop Knows Knows' f a b c n short one now xs ys x e l all last is =
       let d = ap length e ∙ length-append xs (x ∷ []) in
-      subst (λ (k : ℕ). AllServed shows takes agents draws a c k) (let q : (n - length ys) + 1 ≡ n - length xs = omega (arith, d) in q) (served_more a b c (n - length ys) one.link all one.is one.are)
+      let more = served_more Knows' a b c (n - length ys) short one (served_known Knows Knows' f a b (n - length ys) short all) last in
+      subst (λ (k : ℕ). AllServed shows takes agents draws Knows' a c k now) (let q : (n - length ys) + 1 ≡ n - length xs = omega (arith, d) in q)
+      (subst (λ (o : Bool). AllServed shows takes agents draws Knows' a c ((n - length ys) + 1) o) (sym is) more)
 
-  pub hands_back : (a b c : List LinkState) (f g n m t s : ℕ) (r : Result Unit Stop) → Starts a b f g n m t s r → AllServed shows takes agents draws b c s → n ≡ 0 → t ≡ 0 → HandsBack shows takes agents draws a c f g m r
-  hands_back a b c f g n m t s r x y e d = record { turned = x.turned; served = s; between = b; away = x.away; all = y; count = let k = x.count in omega arith }
+  pub hands_back : (Knows : List Mark → Type 0) (a b c : List LinkState) (f g n m m' t s : ℕ) (r r' : Result Unit Stop) (short : Bool) → Starts a b f g n m t s r → AllServed shows takes agents draws Knows b c s short → n ≡ 0 → t ≡ 0 → m' ≡ m
+      → r' ≡ outcome_of r short → HandsBack shows takes agents draws Knows a c f g m' r'
+  hands_back Knows a b c f g n m m' t s r r' short x y e d same is = subst (λ (z : Result Unit Stop). HandsBack shows takes agents draws Knows a c f g m' z) (sym is) (record {
+    turned = x.turned;
+    served = s;
+    lacked = lacking r;
+    short = short;
+    between = b;
+    away = x.away;
+    all = y;
+    count = let k = x.count in omega arith;
+    most = lacks_one r;
+    well = is_well r short;
+    lack = is_lack r short;
+  })
+    where
+      lacks_one : (r : Result Unit Stop) → lacking r ≤ 1
+      lacks_one (Ok u) = omega arith
+      lacks_one (Err stops.Memory) = omega arith
+      lacks_one (Err stops.Listener) = omega arith
+
+      is_well : (r : Result Unit Stop) (short : Bool) → OnOk (outcome_of r short) ((lacking r ≡ 0) × (short ≡ false))
+      is_well (Ok u) false = (refl, refl)
+      is_well (Ok u) true = tt
+      is_well (Err why) short = tt
+
+      is_lack : (r : Result Unit Stop) (short : Bool) → outcome_of r short ≡ Err stops.Memory → (lacking r ≡ 1) ⊎ (short ≡ true)
+      is_lack (Ok u) false e = absurd (cc e)
+      is_lack (Ok u) true e = inr refl
+      is_lack (Err stops.Memory) short e = inl refl
+      is_lack (Err stops.Listener) short e = absurd (cc e)
+
+-- what a run's outcome tells of its start
+pub given_all : (given given' count : ℕ) (r r' : Result Unit Stop) (short : Bool) → given' ≡ given → r' ≡ outcome_of r short → OnOk r (given ≡ count) → OnOk r' (given' ≡ count)
+given_all given given' count r r' short same is g = subst (λ (z : Result Unit Stop). OnOk z (given' ≡ count)) (sym is) (of r short g)
+  where
+    of : (r : Result Unit Stop) (short : Bool) → OnOk r (given ≡ count) → OnOk (outcome_of r short) (given' ≡ count)
+    of (Ok u) true g = tt
+    of (Ok u) false g = same ∙ g
+    of (Err why) short g = tt
+
+pub has_cause : (before after after' : ℕ) (r r' : Result Unit Stop) (short : Bool) → after' ≡ after → r' ≡ outcome_of r short → IfErr r (λ why. why ≡ stops.Listener → Rose before after)
+    → IfErr r' (λ why. why ≡ stops.Listener → Rose before after')
+has_cause before after after' r r' short same is i = subst (λ (z : Result Unit Stop). IfErr z (λ why. why ≡ stops.Listener → Rose before after')) (sym is) (of r short i)
+  where
+    of : (r : Result Unit Stop) (short : Bool) → IfErr r (λ why. why ≡ stops.Listener → Rose before after) → IfErr (outcome_of r short) (λ why. why ≡ stops.Listener → Rose before after')
+    of (Ok u) true i = λ e. absurd (cc e)
+    of (Ok u) false i = tt
+    of (Err why) short i = λ e. subst (Rose before) (sym same) (i e)

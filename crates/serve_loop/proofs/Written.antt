@@ -2,7 +2,6 @@
 use Rattle.std.proofs.Common.{◌≡◌, ℕ, ◌≤◌, List, [], ◌++◌, length, take, drop, Option, None, Some, Result, Ok, Err, refl, sym, ap, ◌∙◌, append_assoc, append-nil, take-append-drop, arith}
 use Rattle.std.specs.Io.KnownBytes.{append_known}
 use Rattle.std.proofs.Math.Seq.{drop-length}
-use Rattle.std.proofs.lemmas.List.{take_rest}
 use Rattle.cat_outside.specs.Causes.{Rose}
 use Rattle.cat_outside.specs.declared.faults.KeepFail.{KeepFail}
 use Rattle.serve_outside.specs.Links.{LinkState, Writes}

@@ -1,5 +1,5 @@
 -- Passes of a board of turns.
-use Rattle.std.specs.Prelude.{◌≡◌, ℕ, Option}
+use Rattle.std.specs.Prelude.{◌≡◌}
 use Rattle.cat_model.specs.declared.reply.Mark.{Mark}
 use Rattle.turn_lock.specs.declared.knowledge.Knowledge.{Knowledge}
 use Rattle.turn_lock.specs.declared.history.History.{Ghosts}

@@ -8,7 +8,7 @@ use Rattle.turn_lock.specs.Lists.{Among, numbers}
 use Rattle.serve_loop.specs.declared.cluster.Ask.{Ask}
 use Rattle.serve_loop.specs.declared.cluster.Collected.{Collected}
 use Rattle.serve_loop.specs.declared.cluster.Collected.TheVariants as collected
-use Rattle.serve_loop.specs.Marks.{answered_mark, asked_mark, opens, restarts, takes}
+use Rattle.serve_loop.specs.Marks.{answered_mark, asked_mark, opens, takes}
 
 module _ (shows : ℕ → Ask → Reply → List Mark → Type 0) where
   -- the reply is that of the answer's mark, and shows what the request asks for
@@ -17,9 +17,8 @@ module _ (shows : ℕ → Ask → Reply → List Mark → Type 0) where
     pub answered : IsAmong (answered_mark reply) marks
     pub shown : (a : Ask) → IsAmong (asked_mark number a) marks → shows number a reply marks
 
-  -- what there is was taken; what waits or is gone was left
+  -- a reply was taken; what waits or is gone was left
   abbrev pub Collects : ℕ → Collected → List Mark → List Mark → Type 0
   Collects number (collected.Ready reply) old new = (new ≡ old ++ mark.Taken number ∷ []) × IsGiven number reply old
-  Collects number collected.Closed old new = (new ≡ old ++ mark.Taken number ∷ []) × (numbers restarts old ≡ [] → ⊥)
   Collects number collected.NotYet old new = new ≡ old
   Collects number collected.Gone old new = (new ≡ old) × ((Among number (numbers opens old) → ⊥) ⊎ Among number (numbers takes old))

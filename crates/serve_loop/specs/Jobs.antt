@@ -1,10 +1,9 @@
 -- The jobs of connections.
-use Rattle.std.specs.Prelude.{◌≡◌, ℕ, ◌+◌, ◌-◌, ◌%◌, ◌<◌, ◌≤◌, true, false, List, [], None, All}
+use Rattle.std.specs.Prelude.{◌≡◌, ℕ, ◌+◌, ◌-◌, ◌%◌, true, List, All}
 use Rattle.cat_model.specs.declared.request.Asked.{Asked}
 use Rattle.cat_model.specs.declared.reply.Mark.{Mark}
 use Rattle.cluster_rules.specs.Replies.{Reply}
-use Rattle.http_wire.specs.State.{Told}
-use Rattle.serve_outside.specs.Links.{LinkState, IsNew}
+use Rattle.serve_outside.specs.Links.{LinkState}
 use Rattle.serve_outside.specs.Tasks.{IsKept, note_of}
 use Rattle.serve_outside.specs.declared.job.Task.{Task}
 use Rattle.turn_lock.specs.declared.history.History.{Ghosts}

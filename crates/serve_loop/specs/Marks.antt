@@ -1,5 +1,6 @@
 -- What marks ask, take and answer, and what calls put behind them. Marks stand the first one first.
 use Rattle.std.specs.Prelude.{◌≡◌, ℕ, ◌<◌, ◌≤◌, List, [], ◌∷◌, ◌++◌, Option, Some, None}
+use Rattle.std.specs.List.{AllByRecursion}
 use Rattle.cat_model.specs.declared.request.Event.TheVariants as event
 use Rattle.cat_model.specs.declared.reply.Mark.{Mark}
 use Rattle.cat_model.specs.declared.reply.Mark.TheVariants as mark
@@ -13,7 +14,7 @@ abbrev pub opens : Mark → Option ℕ
 opens (mark.Asked number agent asked draw) = Some number
 opens other = None
 
--- the request whose reply or closing a mark takes
+-- the request whose reply a mark takes
 abbrev pub takes : Mark → Option ℕ
 takes (mark.Taken number) = Some number
 takes other = None
@@ -23,10 +24,15 @@ abbrev pub answers : Mark → Option ℕ
 answers (mark.Answered number kind known contact) = Some number
 answers other = None
 
--- the server that restarted
-abbrev pub restarts : Mark → Option ℕ
-restarts (mark.Made (event.Restart server)) = Some server
-restarts other = None
+-- the server whose clock went on
+abbrev pub ticks : Mark → Option ℕ
+ticks (mark.Made (event.Tick server ms)) = Some server
+ticks other = None
+
+-- the milliseconds by which it went on
+abbrev pub ticks_by : Mark → Option ℕ
+ticks_by (mark.Made (event.Tick server ms)) = Some ms
+ticks_by other = None
 
 abbrev pub asked_mark : ℕ → Ask → Mark
 asked_mark number a = mark.Asked number a.agent a.asked a.draw
@@ -38,13 +44,12 @@ answered_mark r = mark.Answered r.number r.kind r.known r.contact
 abbrev pub Fits : ℕ → Ask → Type 0
 Fits agents a = (0 < a.agent) × (a.agent ≤ agents)
 
--- nothing was asked or taken, and no server restarted
+-- nothing was asked or taken
 pub record AddsQuiet (old new : List Mark) : Type 0 where
   pub rest : List Mark
   pub are : new ≡ old ++ rest
   pub opens_none : numbers opens rest ≡ []
   pub takes_none : numbers takes rest ≡ []
-  pub restarts_none : numbers restarts rest ≡ []
 
 -- the request was asked, once, and nothing was taken
 pub record AddsAsked (number : ℕ) (ask : Ask) (old new : List Mark) : Type 0 where
@@ -52,7 +57,6 @@ pub record AddsAsked (number : ℕ) (ask : Ask) (old new : List Mark) : Type 0 w
   pub are : new ≡ old ++ rest
   pub opens_it : numbers opens rest ≡ number ∷ []
   pub takes_none : numbers takes rest ≡ []
-  pub restarts_none : numbers restarts rest ≡ []
   pub asked : IsAmong (asked_mark number ask) rest
 
 -- nothing was taken; an ask without memory may have put its mark
@@ -60,7 +64,19 @@ pub record AddsCut (old new : List Mark) : Type 0 where
   pub rest : List Mark
   pub are : new ≡ old ++ rest
   pub takes_none : numbers takes rest ≡ []
-  pub restarts_none : numbers restarts rest ≡ []
+
+-- each clock that went on did so once, and by so many milliseconds
+pub record TicksBy (ms : ℕ) (old new : List Mark) : Type 0 where
+  pub rest : List Mark
+  pub are : new ≡ old ++ rest
+  pub once : EachOnce (numbers ticks rest)
+  pub by_ms : AllByRecursion (λ n. n ≡ ms) (numbers ticks_by rest)
+
+-- no clock went on
+pub record TicksNone (old new : List Mark) : Type 0 where
+  pub rest : List Mark
+  pub are : new ≡ old ++ rest
+  pub none : numbers ticks rest ≡ []
 
 -- each number is asked at most once and answered at most once, and only what was asked is taken
 pub record AreKept (marks : List Mark) : Type 0 where

@@ -1,6 +1,6 @@
 -- The connections of a run.
-use Rattle.std.specs.Prelude.{◌≡◌, ℕ, ◌+◌, ◌-◌, ◌^◌, ◌≤◌, true, List, [], ◌∷◌, ◌++◌, length, min, ⊤, Option, Some, None, Result, Ok, Err}
-use Rattle.std.specs.List.{AllByRecursion}
+use Rattle.std.specs.Prelude.{◌≡◌, ℕ, ◌+◌, ◌-◌, ◌^◌, ◌≤◌, ◌⊎◌, Bool, true, false, List, [], ◌∷◌, ◌++◌, length, map, min, ⊤, Option, Some, None, Result, Ok, Err, OnOk}
+use Rattle.std.specs.List.{AllByRecursion, list_any}
 use Rattle.cat_model.specs.declared.request.Asked.{Asked}
 use Rattle.cat_model.specs.declared.request.Draw.{Draw}
 use Rattle.cat_model.specs.declared.reply.Mark.{Mark}
@@ -13,6 +13,7 @@ use Rattle.turn_lock.specs.declared.history.History.{Ghosts}
 use Rattle.turn_lock.specs.declared.knowledge.Knowledge.{Knowledge}
 use Rattle.turn_lock.specs.declared.lock.HistoryLock.{HistoryLock}
 use Rattle.serve_loop.specs.declared.cause.Cause.{Cause}
+use Rattle.serve_loop.specs.declared.cause.Cause.TheVariants as cause
 use Rattle.serve_loop.specs.declared.cluster.Ask.{Ask}
 use Rattle.serve_loop.specs.declared.job.ServeJob.{ServeJob}
 use Rattle.serve_loop.specs.declared.run.Stop.{Stop}
@@ -84,38 +85,61 @@ module _ {R S Cl G L : Type 0} {H : Ghosts S Mark} where
     pub agent : job.agent ≡ agent_of agents (state job.link).number
     pub drawn : IsDrawn draws (state job.link).number job.draw
 
-module _ (shows : ℕ → Ask → Reply → List Mark → Type 0) (takes : Asked → Type 0) (agents : ℕ) (draws : Option (List Draw)) where
-  -- The link came new, was served to its end, and was shut. Its number says whose agent was asked and which draw it had.
-  pub record IsServed (link : LinkState) : Type 0 where
+-- the connection ended for want of memory
+abbrev pub is_short : Cause → Bool
+is_short cause.Memory = true
+is_short other = false
+
+-- What stopped a run: whatever stopped the accepting, or else a connection's want of memory.
+abbrev pub outcome_of : Result Unit Stop → Bool → Result Unit Stop
+outcome_of (Ok u) true = Err stops.Memory
+outcome_of (Ok u) false = Ok u
+outcome_of (Err why) short = Err why
+
+-- `Knows` tells which beginnings of the marks were seen
+module _ (shows : ℕ → Ask → Reply → List Mark → Type 0) (takes : Asked → Type 0) (agents : ℕ) (draws : Option (List Draw)) (Knows : List Mark → Type 0) where
+  -- The link came new, was served to its end, which had this cause, and was shut. Its number says whose agent was asked
+  -- and which draw it had.
+  pub record IsServed (link : LinkState) (why : Cause) : Type 0 where
     pub first : LinkState
     pub draw : Draw
     pub begun : Knowledge Mark
     pub known : Knowledge Mark
-    pub cause : Cause
     pub requests : ℕ
+    pub seen : Knows known.seen
     pub new : IsNew link.number first
     pub drawn : IsDrawn draws link.number draw
-    pub ends : EndsBy shows takes (record { agent = agent_of agents link.number; draw = draw; first = first; begun = begun }) cause link known requests
+    pub ends : EndsBy shows takes (record { agent = agent_of agents link.number; draw = draw; first = first; begun = begun }) why link known requests
     pub shut : link.shut ≡ true
 
-  -- so many links were served and handed back
-  pub record AllServed (old new : List LinkState) (count : ℕ) : Type 0 where
-    pub links : List LinkState
-    pub are : new ≡ old ++ links
-    pub each : AllByRecursion IsServed links
+  -- so many links were served and handed back; `short` tells whether one of them ended for want of memory
+  pub record AllServed (old new : List LinkState) (count : ℕ) (short : Bool) : Type 0 where
+    pub links : List (LinkState × Cause)
+    pub are : new ≡ old ++ map (λ l. l.0) links
+    pub each : AllByRecursion (λ l. IsServed l.0 l.1) links
     pub count_is : length links ≡ count
+    pub short_is : short ≡ list_any (λ l. is_short l.1) links
 
   -- one link more
-  pub record ServesOne (old new : List LinkState) : Type 0 where
+  pub record ServesOne (old new : List LinkState) (short : Bool) : Type 0 where
     pub link : LinkState
-    pub is : IsServed link
+    pub why : Cause
+    pub is : IsServed link why
     pub are : new ≡ old ++ link ∷ []
+    pub short_is : short ≡ is_short why
 
   -- Each link that came was handed back: first those that were turned away, and then all others, which were served.
+  -- `lacked` counts one more that was turned away for want of memory than the spawner's faults tell. Where all is well
+  -- there is none, and none of the others ended for want of memory.
   pub record HandsBack (old new : List LinkState) (faults faults' given : ℕ) (result : Result Unit Stop) : Type 0 where
     pub turned : ℕ
     pub served : ℕ
+    pub lacked : ℕ
+    pub short : Bool
     pub between : List LinkState
-    pub away : TurnedAway old between faults (faults' + lacking result) turned
-    pub all : AllServed between new served
+    pub away : TurnedAway old between faults (faults' + lacked) turned
+    pub all : AllServed between new served short
     pub count : turned + served ≡ given
+    pub most : lacked ≤ 1
+    pub well : OnOk result ((lacked ≡ 0) × (short ≡ false))
+    pub lack : result ≡ Err stops.Memory → (lacked ≡ 1) ⊎ (short ≡ true)

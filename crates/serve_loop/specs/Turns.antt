@@ -1,16 +1,29 @@
 -- What a turn does.
-use Rattle.std.specs.Prelude.{◌≡◌, ℕ, List, Option, Some, None}
+use Rattle.std.specs.Prelude.{◌≡◌, ℕ, ◌+◌, ◌-◌, min, List, Option, Some, None}
 use Rattle.cat_model.specs.declared.reply.Mark.{Mark}
 use Rattle.cat_model.specs.declared.request.Asked.{Asked}
 use Rattle.cluster_rules.specs.Replies.{Reply}
 use Rattle.serve_loop.specs.declared.cluster.Ask.{Ask}
 use Rattle.serve_loop.specs.declared.served.Turned.{Turned}
-use Rattle.serve_loop.specs.Marks.{AddsAsked, AddsQuiet, Fits}
+use Rattle.serve_loop.specs.Marks.{AddsAsked, AddsQuiet, Fits, TicksBy, TicksNone}
 use Rattle.serve_loop.specs.Collects.{Collects}
 
 -- the agent is one of the cluster's, and the cluster takes what is asked
 abbrev pub MayAsk : ℕ → (Asked → Type 0) → Ask → Type 0
 MayAsk agents takes a = Fits agents a × takes a.asked
+
+-- How many milliseconds a turn makes up for, whose last one made up for all up to `last`: a day at most, and none where
+-- the outside clock has fallen.
+abbrev pub passed : ℕ → ℕ → ℕ
+passed last now = min (now - last) 86400000
+
+-- the clocks went on by as much, once
+abbrev pub GoesOn : ℕ → ℕ → ℕ → List Mark → List Mark → Type 0
+GoesOn last last' now old new = (last' ≡ last + passed last now) × TicksBy (passed last now) old new
+
+-- the clocks stood still
+abbrev pub StandsStill : ℕ → ℕ → List Mark → List Mark → Type 0
+StandsStill last last' old new = (last' ≡ last) × TicksNone old new
 
 -- the request was asked, if there is one; the one of this number is waited for
 abbrev pub Makes : Option Ask → ℕ → ℕ → List Mark → List Mark → Type 0

@@ -39,7 +39,6 @@ pub record IsAnswered (shows : ℕ → Ask → Reply → List Mark → Type 0) (
 -- after a turn there is the reply, or the request still waits
 abbrev pub Stands : (ℕ → Ask → Reply → List Mark → Type 0) → ℕ → Ask → Collected → Knowledge Mark → Type 0
 Stands shows n ask (collected.Ready reply) k = IsAnswered shows ask reply k.seen k.mine
-Stands shows n ask collected.Closed k = ⊥
 Stands shows n ask collected.NotYet k = Waits n ask k.seen k.mine
 Stands shows n ask collected.Gone k = ⊥
 

@@ -6,7 +6,7 @@ ghost use Rattle.cat_model.specs.declared.reply.Mark.{Mark as SpecMark};
 ghost use Rattle.cluster_rules.specs.Replies.{Reply as SpecReply};
 ghost use Rattle.serve_loop.specs.declared.cluster.Ask.{Ask as SpecAsk};
 ghost use Rattle.serve_loop.specs.Collects.{Collects};
-ghost use Rattle.serve_loop.specs.Marks.{AddsAsked, AddsCut, AddsQuiet, AreKept};
+ghost use Rattle.serve_loop.specs.Marks.{AddsAsked, AddsCut, AddsQuiet, AreKept, TicksBy, TicksNone};
 ghost use Rattle.serve_loop.specs.Turns.{MayAsk};
 
 use cat_model::{Asked, Draw, Memory};
@@ -25,8 +25,6 @@ pub struct Ask {
 #[derive(Drop)]
 pub enum Collected {
     Ready(Reply),
-    /// The server that held it restarted.
-    Closed,
     NotYet,
     /// It was taken before or never asked.
     Gone,
@@ -60,21 +58,24 @@ pub trait SharedCluster: Drop {
     /// All clocks go on by so many milliseconds, but for those that are at their end, and what is due by then happens. No
     /// request is asked or taken.
     fn advance(&mut self, alloc: Global, ms: u64) -> Result<(), Memory>
-        ensures { AddsQuiet (marks self.old) (marks self.new) };
+        ensures quiet { AddsQuiet (marks self.old) (marks self.new) }
+        ensures ticks { TicksBy ms (marks self.old) (marks self.new) };
 
     /// Asks an agent, and gives the request's number, which was never given before. The reply comes later. An ask that
     /// finds no memory may have put its mark.
     fn ask(&mut self, alloc: Global, ask: Ask) -> Result<u64, Memory>
         requires { MayAsk agents takes ask }
         ensures asked { IfOk result (λ n. AddsAsked n ask (marks self.old) (marks self.new)) }
-        ensures cut { OnErr result (AddsCut (marks self.old) (marks self.new)) };
+        ensures cut { OnErr result (AddsCut (marks self.old) (marks self.new)) }
+        ensures unticked { TicksNone (marks self.old) (marks self.new) };
 
     /// Delivers the messages between servers, those that were sent first before others, at most so many, and says how
     /// many. Requests are answered on the way; none is asked or taken.
     fn settle(&mut self, alloc: Global, most: u32) -> Result<u32, Memory>
-        ensures { AddsQuiet (marks self.old) (marks self.new) };
+        ensures quiet { AddsQuiet (marks self.old) (marks self.new) }
+        ensures unticked { TicksNone (marks self.old) (marks self.new) };
 
-    /// Takes the reply to the request with this number, or its closing, where there is one. Else nothing happens.
+    /// Takes the reply to the request with this number, where there is one. Else nothing happens.
     fn collect(&mut self, number: u64) -> Collected
         ensures { Collects shows number result (marks self.old) (marks self.new) };
 }

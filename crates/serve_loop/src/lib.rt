@@ -14,8 +14,6 @@ mod writing;
 pub use cause::Cause;
 pub use cluster::{Ask, Collected, SharedCluster};
 pub use job::{Finished, ServeJob, serve_connection};
-pub use run::{
-    Server, Stop, TaskOf, finish_task, finish_tasks, last_turn, serve_all, start_one, start_tasks,
-};
+pub use run::{Server, Stop, serve_all};
 pub use served::{Served, Turned};
 pub use serving::Board;

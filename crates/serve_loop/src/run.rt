@@ -1,8 +1,10 @@
 //! The connections of a run: they are accepted, each is served by a job of its own, and all jobs are waited for.
 
-ghost use Rattle.std.specs.Prelude.{◌≡◌, ◌+◌, ◌<◌, ◌≤◌, ◌++◌, ◌∷◌, [], false, true, IfErr, IfOk, IfSome, MatchOption, MatchResult, None, Err, OnErr, OnOk, length};
+ghost use Rattle.std.specs.Prelude.{◌≡◌, ◌+◌, ◌<◌, ◌≤◌, ◌++◌, ◌∷◌, ◌||◌, [], List, false, true, IfErr, IfOk, IfSome, MatchOption, MatchResult, None, Err, OnErr, OnOk, length};
 ghost use Rattle.std.specs.Arc.{arc_value};
+ghost use Rattle.cat_model.specs.declared.reply.Mark.{Mark as SpecMark};
 ghost use Rattle.cat_outside.specs.Causes.{Rose};
+ghost use Rattle.cluster_rules.specs.Sound.{IsAmong};
 ghost use Rattle.http_wire.specs.State.{Told};
 ghost use Rattle.serve_outside.specs.Links.{IsNew, LinkState};
 ghost use Rattle.serve_outside.specs.Tasks.{IsKept, note_of};
@@ -10,9 +12,10 @@ ghost use Rattle.serve_loop.specs.declared.run.Stop.TheVariants as stops;
 ghost use Rattle.serve_loop.specs.Boards.{IsOurs, known};
 ghost use Rattle.serve_loop.specs.Jobs.{AllTasks, HasEnded, agent_of};
 ghost use Rattle.serve_loop.specs.Marks.{AreKept};
-ghost use Rattle.serve_loop.specs.Runs.{AllServed, HandsBack, HasDrawn, IsStarted, IsStartedAs, ServesOne, Starts, TurnedAway, TurnsAway, lacking};
-ghost use Rattle.serve_loop.specs.Waiting.{Grows};
+ghost use Rattle.serve_loop.specs.Runs.{AllServed, HandsBack, HasDrawn, IsStarted, IsStartedAs, ServesOne, Starts, TurnedAway, TurnsAway, is_short, lacking, outcome_of};
+ghost use Rattle.turn_lock.specs.Lists.{AreFronts, IsFront};
 
+use crate::cause::Cause;
 use crate::cluster::SharedCluster;
 use crate::job::{Finished, ServeJob};
 use crate::served::Served;
@@ -28,17 +31,17 @@ use std::sync::{Arc, Wait};
 use std::thread::{Promise, Threads};
 use turn_lock::{History, NoShare, Pass};
 
-/// Why no more connections were accepted.
+/// Why no more connections were accepted, or not all of them were served to their end.
 #[derive(Clone, Copy, Debug, PartialEq, Eq)]
 pub enum Stop {
     /// The listener failed. It has counted the fault.
     Listener,
-    /// There was no memory for one more connection, or no share of the pass.
+    /// There was no memory for one more connection, or no share of the pass, or a connection ended for want of memory.
     Memory,
 }
 
-/// A connection's task.
-pub type TaskOf<R, C, Cl, G, L> = Task<
+// A connection's task.
+type TaskOf<R, C, Cl, G, L> = Task<
     NoteOf<ServeJob<R, Served<C>, Cl, G, L>>,
     Finished<L, Served<C>>,
 >;
@@ -132,6 +135,7 @@ fn give_back<R, C: SharedCluster, Cl, G>(
     requires ours { IsOurs (arc_value server.now.board) pass.old }
     requires theirs { IsOurs (arc_value server.now.board) other }
     ensures ours { IsOurs (arc_value server.now.board) pass.new }
+    ensures told { (known pass.new).told ≡ (known other).seen ∷ ((known pass.old).told ++ (known other).told) }
 {
     let lock = &**server.board;
     lock.join(pass, other);
@@ -192,8 +196,8 @@ where
     }
 }
 
-/// Waits for a connection's job, and tells how the connection ended.
-pub fn finish_task<
+// Waits for a connection's job, and tells how the connection ended.
+fn finish_task<
     R: Threads + Wait + Drop,
     C: SharedCluster,
     Cl: Clock + Drop,
@@ -206,25 +210,45 @@ pub fn finish_task<
     finish(&server.rt, task)
 }
 
-/// Takes a last turn, in which nothing is done: the pass has then seen all marks.
-pub fn last_turn<R: Wait, C: SharedCluster, Cl, G>(
+// Takes a last turn, and keeps it: the cluster as it stands then. Its marks begin with all that passes had seen that were
+// put into this one.
+fn last_turn<R: Wait, C: SharedCluster, Cl, G>(
     server: &Server<R, Served<C>, Cl, G>,
-    pass: &mut Pass<Served<C>>,
-)
-    requires ours { IsOurs (arc_value server.now.board) pass.old }
-    ensures ours { IsOurs (arc_value server.now.board) pass.new }
-    ensures grown { Grows (known pass.old) (known pass.new) }
-    ensures kept { AreKept (known pass.new).seen }
+    mut pass: Pass<Served<C>>,
+) -> C
+    requires ours { IsOurs (arc_value server.now.board) pass }
+    ensures kept { AreKept (C.marks result) }
+    ensures told { AreFronts (known pass).told (C.marks result) }
 {
     let lock = &**server.board;
-    let mut turn = lock.take(&server.rt, pass);
-    turn.state().kept();
-    lock.give(turn, pass);
+    let turn = lock.take(&server.rt, &mut pass);
+    let served = turn.into_state();
+    served.kept();
+    served.cluster
 }
 
-/// Accepts the n-th connection and starts its job. A link whose job cannot be started is turned away and handed back.
-#[tactic(auto, using(crate::proofs::Runs::turned_none, crate::proofs::Runs::turned_lacking))]
-pub fn start_one<
+// Whether the connection ended for want of memory.
+fn lacked_memory(cause: Cause) -> bool
+    ensures { result ≡ is_short cause }
+{
+    match cause {
+        Cause::Memory => true,
+        Cause::Closed | Cause::Refused(_) | Cause::ReadFault | Cause::WriteFault => false,
+    }
+}
+
+// What a run says of its end: what stopped the accepting, and else whether memory lacked later.
+fn outcome(started: Result<(), Stop>, short: bool) -> Result<(), Stop>
+    ensures { result ≡ outcome_of started short }
+{
+    match started {
+        Ok(()) => { if short { Err(Stop::Memory) } else { Ok(()) } }
+        Err(why) => Err(why),
+    }
+}
+
+// Accepts the n-th connection and starts its job. A link whose job cannot be started is turned away and handed back.
+fn start_one<
     R: Threads + Wait + Copy + Send + Drop + 'static,
     C: SharedCluster + Send + 'static,
     Cl: Clock + Copy + Send + Drop + 'static,
@@ -318,8 +342,8 @@ where
     }
 }
 
-/// Accepts so many connections and starts their jobs.
-pub fn start_tasks<
+// Accepts so many connections and starts their jobs.
+fn start_tasks<
     R: Threads + Wait + Copy + Send + Drop + 'static,
     C: SharedCluster + Send + 'static,
     Cl: Clock + Copy + Send + Drop + 'static,
@@ -359,7 +383,7 @@ where
     Ok(())
 }
 
-// Waits for a task, and takes its pass and its link back.
+// Waits for a task, and takes its pass and its link back. Says whether the connection ended for want of memory.
 fn finish_one<
     R: Threads + Wait + Copy + Send + Drop + 'static,
     C: SharedCluster + Send + 'static,
@@ -373,29 +397,32 @@ fn finish_one<
     listener: &mut L,
     words: &W,
     task: TaskOf<R, C, Cl, G, L::Link>,
-)
+) -> bool
 where
     L::Link: Send + 'static,
     requires ours { IsOurs (arc_value server.now.board) pass.old }
     requires kept { IsKept ⟦<NoteOf<ServeJob<R, Served<C>, Cl, G, L::Link>> as Promise<Finished<L::Link, Served<C>>>>⟧.kept_by task }
     requires started { IsStarted (arc_value server.now.board) C.agents (W.draws words.now) L.Link.state (note_of task).0.value }
     ensures ours { IsOurs (arc_value server.now.board) pass.new }
+    ensures told { (seen : List SpecMark) → IsAmong seen (known pass.old).told → IsAmong seen (known pass.new).told }
     ensures given { L.given listener.new ≡ L.given listener.old }
     ensures faults { L.faults listener.new ≡ L.faults listener.old }
-    ensures served { ServesOne C.shows C.takes C.agents (W.draws words.now) (L.closed listener.old) (L.closed listener.new) }
+    ensures served { ServesOne C.shows C.takes C.agents (W.draws words.now) (λ seen. IsAmong seen (known pass.new).told) (L.closed listener.old) (L.closed listener.new) result }
 {
     let Finished {
         link,
         pass: own,
+        cause,
         ..
     } = finish_task(server, task);
     give_back(server, pass, own);
     listener.close(link);
+    lacked_memory(cause)
 }
 
-/// Waits for all tasks, and takes their passes and links back. The words are those from which the connections had their
-/// draws.
-pub fn finish_tasks<
+// Waits for all tasks, and takes their passes and links back. The words are those from which the connections had their
+// draws. Says whether a connection ended for want of memory.
+fn finish_tasks<
     R: Threads + Wait + Copy + Send + Drop + 'static,
     C: SharedCluster + Send + 'static,
     Cl: Clock + Copy + Send + Drop + 'static,
@@ -408,7 +435,7 @@ pub fn finish_tasks<
     listener: &mut L,
     words: &W,
     tasks: &mut Vec<TaskOf<R, C, Cl, G, L::Link>>,
-)
+) -> bool
 where
     L::Link: Send + 'static,
     requires ours { IsOurs (arc_value server.now.board) pass.old }
@@ -416,15 +443,26 @@ where
     ensures ours { IsOurs (arc_value server.now.board) pass.new }
     ensures given { L.given listener.new ≡ L.given listener.old }
     ensures faults { L.faults listener.new ≡ L.faults listener.old }
-    ensures served { AllServed C.shows C.takes C.agents (W.draws words.now) (L.closed listener.old) (L.closed listener.new) (length tasks.old.items) }
+    ensures served { AllServed C.shows C.takes C.agents (W.draws words.now) (λ seen. IsAmong seen (known pass.new).told) (L.closed listener.old) (L.closed listener.new) (length tasks.old.items) result }
 {
+    let mut short = false;
     while let Some(task) = tasks.pop() {
-        finish_one(server, pass, listener, words, task);
+        let one = finish_one(server, pass, listener, words, task);
+        short = either(short, one);
     }
+    short
 }
 
-/// Accepts so many connections, serves each by a job of its own, waits for all of them, and takes a last turn. Says what
-/// stopped it, if anything did.
+// One of two.
+fn either(one: bool, other: bool) -> bool
+    ensures { result ≡ (one || other) }
+{
+    one || other
+}
+
+/// Accepts so many connections, serves each by a job of its own, waits for all of them, and takes a last turn for good.
+/// Gives the cluster as it leaves it, and says what stopped it, if anything did: a connection that ended for want of
+/// memory counts as want of memory.
 pub fn serve_all<
     R: Threads + Wait + Copy + Send + Drop + 'static,
     C: SharedCluster + Send + 'static,
@@ -435,26 +473,27 @@ pub fn serve_all<
     Sp: Spawner,
 >(
     server: &Server<R, Served<C>, Cl, G>,
-    pass: &mut Pass<Served<C>>,
+    mut pass: Pass<Served<C>>,
     listener: &mut L,
     words: &mut W,
     spawner: &mut Sp,
     count: u32,
-) -> Result<(), Stop>
+) -> (C, Result<(), Stop>)
 where
     L::Link: Send + 'static,
-    requires ours { IsOurs (arc_value server.now.board) pass.old }
+    requires ours { IsOurs (arc_value server.now.board) pass }
     requires agents { (0 < server.now.agents) × (server.now.agents ≡ C.agents) }
     requires fresh { (L.given listener.old ≡ 0) × HasDrawn (W.draws words.old) 0 }
-    ensures ours { IsOurs (arc_value server.now.board) pass.new }
-    ensures given { OnOk result (L.given listener.new ≡ count) }
-    ensures links { HandsBack C.shows C.takes C.agents (W.draws words.new) (L.closed listener.old) (L.closed listener.new) (Sp.faults spawner.old) (Sp.faults spawner.new) (L.given listener.new) result }
-    ensures kept { AreKept (known pass.new).seen }
-    ensures cause { IfErr result (λ why. why ≡ stops.Listener → Rose (L.faults listener.old) (L.faults listener.new)) }
+    ensures given { OnOk result.1 (L.given listener.new ≡ count) }
+    ensures links { HandsBack C.shows C.takes C.agents (W.draws words.new) (λ seen. IsFront seen (C.marks result.0)) (L.closed listener.old) (L.closed listener.new) (Sp.faults spawner.old) (Sp.faults spawner.new) (L.given listener.new) result.1 }
+    ensures kept { AreKept (C.marks result.0) }
+    ensures cause { IfErr result.1 (λ why. why ≡ stops.Listener → Rose (L.faults listener.old) (L.faults listener.new)) }
 {
     let mut tasks: Vec<TaskOf<R, C, Cl, G, L::Link>> = Vec::new(server.alloc);
-    let started = start_tasks(server, pass, listener, words, spawner, &mut tasks, count);
-    finish_tasks(server, pass, listener, words, &mut tasks);
-    last_turn(server, pass);
-    started
+    let started = start_tasks(
+        server, &mut pass, listener, words, spawner, &mut tasks, count,
+    );
+    let short = finish_tasks(server, &mut pass, listener, words, &mut tasks);
+    let cluster = last_turn(server, pass);
+    (cluster, outcome(started, short))
 }

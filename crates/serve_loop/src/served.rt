@@ -1,12 +1,10 @@
 //! What the turns lend: a cluster, and the time up to which its clocks have gone on.
 
-ghost use Rattle.std.specs.Prelude.{◌≡◌, [], IfOk, IfSome, MatchResult};
+ghost use Rattle.std.specs.Prelude.{◌≡◌, MatchOption, MatchResult};
 ghost use Rattle.std.specs.Option.{ForSome};
-ghost use Rattle.turn_lock.specs.Lists.{numbers};
-ghost use Rattle.serve_loop.specs.declared.cluster.Collected.TheVariants as collected;
 ghost use Rattle.serve_loop.specs.Collects.{Collects};
-ghost use Rattle.serve_loop.specs.Marks.{AddsCut, AddsQuiet, AreKept, Fits, opens, restarts, takes};
-ghost use Rattle.serve_loop.specs.Turns.{Asks, Makes, MayAsk, Turns};
+ghost use Rattle.serve_loop.specs.Marks.{AddsCut, AddsQuiet, AreKept, Fits, opens, takes};
+ghost use Rattle.serve_loop.specs.Turns.{Asks, GoesOn, Makes, MayAsk, StandsStill, Turns};
 
 use crate::cluster::{Ask, Collected, SharedCluster};
 use cat_model::{Mark, Memory};
@@ -19,13 +17,12 @@ const MOST: u32 = 4096;
 /// The most milliseconds that a turn makes up for: a day.
 const MOST_MS: u64 = 86_400_000;
 
-/// A cluster of which no server restarts, and the time of its clocks.
+/// A cluster, and the time of its clocks.
 #[derive(Drop)]
 pub struct Served<C: SharedCluster> {
     pub cluster: C,
     /// The outside clock's time up to which the cluster's clocks have gone on.
     pub last_ms: u64,
-    ghost calm: { numbers restarts (C.marks cluster) ≡ [] },
 }
 
 impl<C: SharedCluster> History for Served<C> {
@@ -45,13 +42,12 @@ pub struct Turned {
     pub got: Collected,
 }
 
-fn discard(_: Ask) {}
-
 impl<C: SharedCluster> Served<C> {
     // Lets the clocks go on to this time. What is more than a day is made up for later, and a time before the last one
     // changes nothing.
     fn advance(&mut self, alloc: Global, now: u64) -> Result<(), Memory>
-        ensures { AddsQuiet (C.marks self.old.cluster) (C.marks self.new.cluster) }
+        ensures quiet { AddsQuiet (C.marks self.old.cluster) (C.marks self.new.cluster) }
+        ensures time { GoesOn self.old.last_ms self.new.last_ms now (C.marks self.old.cluster) (C.marks self.new.cluster) }
     {
         let ms = now.saturating_sub(self.last_ms).min(MOST_MS);
         if ms == 0 {
@@ -64,9 +60,10 @@ impl<C: SharedCluster> Served<C> {
     // Makes the ask, if there is one, and gives the number of the request that is waited for.
     fn make(&mut self, alloc: Global, ask: Option<Ask>, number: u64) -> Result<u64, Memory>
         requires { ForSome ask (MayAsk C.agents C.takes) }
-        ensures { MatchResult result
+        ensures made { MatchResult result
             (λ n. Makes ask number n (C.marks self.old.cluster) (C.marks self.new.cluster))
             (λ _. AddsCut (C.marks self.old.cluster) (C.marks self.new.cluster)) }
+        ensures still { StandsStill self.old.last_ms self.new.last_ms (C.marks self.old.cluster) (C.marks self.new.cluster) }
     {
         match ask {
             Some(ask) => self.cluster.ask(alloc, ask),
@@ -75,14 +72,15 @@ impl<C: SharedCluster> Served<C> {
     }
 
     fn settle(&mut self, alloc: Global) -> Result<u32, Memory>
-        ensures { AddsQuiet (C.marks self.old.cluster) (C.marks self.new.cluster) }
+        ensures quiet { AddsQuiet (C.marks self.old.cluster) (C.marks self.new.cluster) }
+        ensures still { StandsStill self.old.last_ms self.new.last_ms (C.marks self.old.cluster) (C.marks self.new.cluster) }
     {
         self.cluster.settle(alloc, MOST)
     }
 
     fn collect(&mut self, number: u64) -> Collected
         ensures got { Collects C.shows number result (C.marks self.old.cluster) (C.marks self.new.cluster) }
-        ensures unclosed { result ≡ collected.Closed → ⊥ }
+        ensures still { StandsStill self.old.last_ms self.new.last_ms (C.marks self.old.cluster) (C.marks self.new.cluster) }
     {
         self.cluster.collect(number)
     }
@@ -90,9 +88,10 @@ impl<C: SharedCluster> Served<C> {
     // Makes the ask and settles the messages.
     fn go_on(&mut self, alloc: Global, ask: Option<Ask>, number: u64) -> Result<u64, Memory>
         requires { ForSome ask (MayAsk C.agents C.takes) }
-        ensures { MatchResult result
+        ensures made { MatchResult result
             (λ n. Makes ask number n (C.marks self.old.cluster) (C.marks self.new.cluster))
             (λ _. AddsCut (C.marks self.old.cluster) (C.marks self.new.cluster)) }
+        ensures still { StandsStill self.old.last_ms self.new.last_ms (C.marks self.old.cluster) (C.marks self.new.cluster) }
     {
         match self.make(alloc, ask, number) {
             Ok(number) => match self.settle(alloc) {
@@ -112,13 +111,17 @@ impl<C: SharedCluster> Served<C> {
         number: u64,
     ) -> Result<u64, Memory>
         requires { ForSome ask (MayAsk C.agents C.takes) }
-        ensures { MatchResult result
+        ensures made { MatchResult result
             (λ n. Makes ask number n (C.marks self.old.cluster) (C.marks self.new.cluster))
             (λ _. AddsCut (C.marks self.old.cluster) (C.marks self.new.cluster)) }
+        ensures time { GoesOn self.old.last_ms self.new.last_ms now (C.marks self.old.cluster) (C.marks self.new.cluster) }
     {
         match self.advance(alloc, now) {
             Ok(()) => self.go_on(alloc, ask, number),
-            Err(Memory) => Err(Memory),
+            Err(Memory) => {
+                drop(ask);
+                Err(Memory)
+            }
         }
     }
 
@@ -134,7 +137,7 @@ impl<C: SharedCluster> Served<C> {
         ensures turned { MatchResult result
             (λ t. Turns C.shows ask number t (C.marks self.old.cluster) (C.marks self.new.cluster))
             (λ _. AddsCut (C.marks self.old.cluster) (C.marks self.new.cluster)) }
-        ensures unclosed { IfOk result (λ t. t.got ≡ collected.Closed → ⊥) }
+        ensures time { GoesOn self.old.last_ms self.new.last_ms now (C.marks self.old.cluster) (C.marks self.new.cluster) }
     {
         match self.work(alloc, now, ask, number) {
             Ok(number) => {
@@ -158,7 +161,7 @@ impl<C: SharedCluster> Served<C> {
         ensures turned { MatchResult result
             (λ t. Turns C.shows ask number t (C.marks self.old.cluster) (C.marks self.new.cluster))
             (λ _. AddsCut (C.marks self.old.cluster) (C.marks self.new.cluster)) }
-        ensures unclosed { IfOk result (λ t. t.got ≡ collected.Closed → ⊥) }
+        ensures time { GoesOn self.old.last_ms self.new.last_ms now (C.marks self.old.cluster) (C.marks self.new.cluster) }
         ensures before { AreKept (C.marks self.old.cluster) }
         ensures after { AreKept (C.marks self.new.cluster) }
     {
@@ -179,10 +182,14 @@ impl<C: SharedCluster> Served<C> {
         ensures turned { MatchResult result
             (λ o. Asks C.shows C.takes ask o (C.marks self.old.cluster) (C.marks self.new.cluster))
             (λ _. AddsCut (C.marks self.old.cluster) (C.marks self.new.cluster)) }
-        ensures unclosed { IfOk result (λ o. IfSome o (λ t. t.got ≡ collected.Closed → ⊥)) }
+        ensures time { MatchResult result
+            (λ o. MatchOption o
+            (self.new ≡ self.old)
+            (λ _. GoesOn self.old.last_ms self.new.last_ms now (C.marks self.old.cluster) (C.marks self.new.cluster)))
+            (λ _. GoesOn self.old.last_ms self.new.last_ms now (C.marks self.old.cluster) (C.marks self.new.cluster)) }
     {
         if !self.cluster.takes(&ask.asked) {
-            discard(ask);
+            drop(ask);
             return Ok(None);
         }
         match self.try_turn(alloc, now, Some(ask), 0) {
@@ -202,7 +209,11 @@ impl<C: SharedCluster> Served<C> {
         ensures turned { MatchResult result
             (λ o. Asks C.shows C.takes ask o (C.marks self.old.cluster) (C.marks self.new.cluster))
             (λ _. AddsCut (C.marks self.old.cluster) (C.marks self.new.cluster)) }
-        ensures unclosed { IfOk result (λ o. IfSome o (λ t. t.got ≡ collected.Closed → ⊥)) }
+        ensures time { MatchResult result
+            (λ o. MatchOption o
+            (self.new ≡ self.old)
+            (λ _. GoesOn self.old.last_ms self.new.last_ms now (C.marks self.old.cluster) (C.marks self.new.cluster)))
+            (λ _. GoesOn self.old.last_ms self.new.last_ms now (C.marks self.old.cluster) (C.marks self.new.cluster)) }
         ensures before { AreKept (C.marks self.old.cluster) }
         ensures after { AreKept (C.marks self.new.cluster) }
     {

@@ -78,10 +78,6 @@ fn ends_here(close: bool) -> Result<(), Cause>
     if close { Err(Cause::Closed) } else { Ok(()) }
 }
 
-fn discard_request(_: RawRequest) {}
-
-fn discard_reply(_: Reply) {}
-
 // The reply to the n-th request, which asks for this.
 fn ask<R: Wait, C: SharedCluster, Cl: Clock, G: Gate, L: Link>(
     service: &Service<R, Served<C>, Cl, G, L>,
@@ -235,7 +231,7 @@ impl<L: Link, C: SharedCluster> Serving<L, Served<C>> {
         match reply_to(service, &mut self.pass, message, n) {
             Ok(reply) => {
                 let given = self.give(service, message, &reply, n);
-                discard_reply(reply);
+                drop(reply);
                 given
             }
             Err(Memory) => Err(Cause::Memory),
@@ -260,7 +256,7 @@ impl<L: Link, C: SharedCluster> Serving<L, Served<C>> {
             Got::Continue => self.go_on(service),
             Got::Message(message) => {
                 let answered = self.answer(service, &message);
-                discard_request(message);
+                drop(message);
                 answered
             }
             Got::Refused(why) => Err(self.refuse(service, why)),

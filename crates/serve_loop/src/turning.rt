@@ -119,7 +119,7 @@ fn wait_for<R: Wait, C: SharedCluster, Cl: Clock, G: Gate>(
         match got {
             Collected::Ready(reply) => return Ok(reply),
             Collected::NotYet => {}
-            Collected::Closed | Collected::Gone => unreachable!(),
+            Collected::Gone => unreachable!(),
         }
         gate.idle(number);
         match next_turn(rt, alloc, lock, pass, clock.now_ms(), number) {

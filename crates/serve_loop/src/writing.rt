@@ -89,8 +89,6 @@ fn continue_text(alloc: Global) -> Result<Bytes, Memory>
     Ok(text)
 }
 
-fn discard(_: Reply) {}
-
 /// Writes a refusal, behind which the connection ends.
 #[tactic(auto, using(crate::proofs::Written::wrote_none))]
 pub(crate) fn send_refusing<L: Link>(link: &mut L, alloc: Global, why: Refusal) -> Result<(), Cause>
@@ -100,7 +98,7 @@ pub(crate) fn send_refusing<L: Link>(link: &mut L, alloc: Global, why: Refusal) 
     match refusing(why) {
         Ok(reply) => {
             let sent = send(link, alloc, &reply, true);
-            discard(reply);
+            drop(reply);
             sent
         }
         Err(Memory) => Err(Cause::Memory),

@@ -1,4 +1,4 @@
-use Rattle.std.proofs.Common.{◌≡◌, [], None, Option, ap, ◌∙◌, sym, subst}
+use Rattle.std.proofs.Common.{[], Option, ap, ◌∙◌, subst}
 use Rattle.http_wire.specs.declared.reader.Stop.{Stop}
 use Rattle.http_wire.specs.State.{Told}
 use Rattle.serve_loop.specs.Boards.{known}

@@ -1,4 +1,4 @@
-use Rattle.std.proofs.Common.{◌≡◌, ℕ, List, ◌++◌, length, drop, sym, ap, ◌∙◌, subst}
+use Rattle.std.proofs.Common.{◌≡◌, List, ◌++◌, length, drop, sym, ap, ◌∙◌, subst}
 use Rattle.cat_model.specs.declared.reply.Mark.{Mark}
 use Rattle.turn_lock.specs.Lists.{Extends, numbers}
 use Rattle.turn_lock.specs.Passes.{MayEnd}
@@ -22,7 +22,7 @@ returns-clause-stands g c =
     let mine = c.take-turn.new.pass.seat.me.0.mine in
     let same : c.take-turn.new.pass.seat.me.0.seen ≡ old = c.take-turn.ensures.seen ∙ ap (λ (s : _). g.C.SharedCluster.marks s.cluster) (sym c.state.ensures.value) in
     let now_mine = subst (λ (l : List Mark). c.give.new.pass.seat.me.0.mine ≡ mine ++ numbers opens (drop (length l) new)) same c.give.ensures.mine in
-    turned_first g.C.SharedCluster.shows g.C.SharedCluster.takes c.args.ask c.asking_turn-turned.result old new mine c.give.new.pass.seat.me.0 c.asking_turn-turned.ensures.turned c.asking_turn-turned.ensures.unclosed c.asking_turn-turned.ensures.before c.asking_turn-turned.ensures.after c.give.ensures.seen now_mine
+    turned_first g.C.SharedCluster.shows g.C.SharedCluster.takes c.args.ask c.asking_turn-turned.result old new mine c.give.new.pass.seat.me.0 c.asking_turn-turned.ensures.turned c.asking_turn-turned.ensures.before c.asking_turn-turned.ensures.after c.give.ensures.seen now_mine
 
 pub returns-clause-behind : goal.returns-clause-behind
 returns-clause-behind g c =

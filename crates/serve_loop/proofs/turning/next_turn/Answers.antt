@@ -12,7 +12,7 @@ give-requires-clause-may g c =
     let new = g.C.SharedCluster.marks c.turn-turned.new.self.cluster in
     let mine = c.take-turn.new.pass.seat.me.0.mine in
     let same : c.take-turn.new.pass.seat.me.0.seen ≡ old = c.take-turn.ensures.seen ∙ ap (λ (s : _). g.C.SharedCluster.marks s.cluster) (sym c.state.ensures.value) in
-    let own = subst (Among c.args.number) (sym c.take-turn.ensures.mine) c.requires.mine in
+    let own = subst (Among c.args.number) (sym c.take-turn.ensures.mine.0) c.requires.mine in
     let rests = rests_next_or g.C.SharedCluster.shows mine c.args.number c.turn-turned.result old new own c.turn-turned.ensures.turned in
     subst (λ (l : List Mark). MayEnd opens takes l mine new) (sym same) (may_end mine old new rests c.turn-turned.ensures.after)
 
@@ -27,6 +27,6 @@ returns-clause-stands g c =
     let step : mine' ≡ c.take-turn.new.pass.seat.me.0.mine ++ numbers opens (drop (length old) new) =
     subst (λ (l : List Mark). mine' ≡ c.take-turn.new.pass.seat.me.0.mine ++ numbers opens (drop (length l) new)) same c.give.ensures.mine in
     let now_mine : mine' ≡ mine ++ numbers opens (drop (length old) new) =
-    subst (λ (l : List ℕ). mine' ≡ l ++ numbers opens (drop (length old) new)) c.take-turn.ensures.mine step in
+    subst (λ (l : List ℕ). mine' ≡ l ++ numbers opens (drop (length old) new)) c.take-turn.ensures.mine.0 step in
     let extends : Extends opens takes mine seen old = subst (λ (s : _). Extends opens takes mine seen (g.C.SharedCluster.marks s.cluster)) (sym c.state.ensures.value) c.take-turn.ensures.grown in
-    turned_next g.C.SharedCluster.shows c.args.number c.turn-turned.result seen old new mine c.give.new.pass.seat.me.0 extends c.turn-turned.ensures.turned c.turn-turned.ensures.unclosed c.turn-turned.ensures.after c.give.ensures.seen now_mine
+    turned_next g.C.SharedCluster.shows c.args.number c.turn-turned.result seen old new mine c.give.new.pass.seat.me.0 extends c.turn-turned.ensures.turned c.turn-turned.ensures.after c.give.ensures.seen now_mine

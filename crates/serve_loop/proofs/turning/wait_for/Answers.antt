@@ -1,5 +1,5 @@
 use Rattle.std.proofs.Common.{refl}
-use Rattle.serve_loop.proofs.OwnTurns.{looks_first, looks_next, looks_ready, never_closed, never_gone, waits_own}
+use Rattle.serve_loop.proofs.OwnTurns.{looks_first}
 use Rattle.serve_loop.proofs.turning.wait_for.Goals as goal
 
 pub loop-init : goal.loop-init
