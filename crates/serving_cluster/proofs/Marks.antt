@@ -1,6 +1,7 @@
 -- What the marks of a cluster's rules, the last one first, tell as marks of which the first one stands first.
 use Rattle.std.proofs.Common.{◌≡◌, ℕ, inl, inr, List, [], ◌∷◌, ◌++◌, reverse, refl, sym, ap, ◌∙◌, subst, append_assoc, Option}
 use Rattle.std.proofs.lemmas.List.{reverse-append}
+use Rattle.cat_model.specs.declared.request.Event.TheVariants as event
 use Rattle.cat_model.specs.declared.reply.Mark.{Mark}
 use Rattle.cat_model.specs.declared.reply.Mark.TheVariants as mark
 use Rattle.cluster_rules.specs.Past as past
@@ -8,26 +9,27 @@ use Rattle.cluster_rules.specs.Reached.{moves_of}
 use Rattle.cluster_rules.specs.Sound.{IsAmong}
 use Rattle.turn_lock.specs.Lists.{Among, EachOnce, ahead, numbers}
 use Rattle.serve_loop.specs.declared.cluster.Ask.{Ask}
-use Rattle.serve_loop.specs.Marks.{AddsAsked, AddsCut, AddsQuiet, AreKept, answers, asked_mark, opens, restarts, takes}
+use Rattle.serve_loop.specs.Marks.{AddsAsked, AddsCut, AddsQuiet, AreKept, TicksNone, answers, asked_mark, opens, takes, ticks, ticks_by}
+use Rattle.serve_loop.proofs.Clocks.{by_none}
 use Rattle.serve_loop.proofs.MarkLists.{none_append}
+use Rattle.serving_cluster.specs.Ticks.{TicksOne}
 use Rattle.serving_cluster.proofs.Reverses.{among_back, among_reverse, in_reverse, none_reverse, numbers_reverse, once_reverse}
 
--- Marks that name no move ask, take and restart nothing.
+-- Marks that name no move ask and take nothing.
 pub record Silent (marks : List Mark) : Type 0 where
   pub opens_none : numbers opens marks ≡ []
   pub takes_none : numbers takes marks ≡ []
-  pub restarts_none : numbers restarts marks ≡ []
 
 pub silent : (marks : List Mark) → moves_of marks ≡ [] → Silent marks
-silent [] e = record { opens_none = refl; takes_none = refl; restarts_none = refl }
+silent [] e = record { opens_none = refl; takes_none = refl }
 silent (mark.Asked number agent asked draw ∷ marks) e = absurd (cc e)
 silent (mark.Made made ∷ marks) e = absurd (cc e)
 silent (mark.Taken number ∷ marks) e = absurd (cc e)
 silent (mark.Settled pairs whole ∷ marks) e = absurd (cc e)
 silent (mark.Advanced ms made ∷ marks) e = absurd (cc e)
-silent (mark.Halted server ∷ marks) e = let s = silent marks e in record { opens_none = s.opens_none; takes_none = s.takes_none; restarts_none = s.restarts_none }
-silent (mark.Entry entry ∷ marks) e = let s = silent marks e in record { opens_none = s.opens_none; takes_none = s.takes_none; restarts_none = s.restarts_none }
-silent (mark.Answered number kind known contact ∷ marks) e = let s = silent marks e in record { opens_none = s.opens_none; takes_none = s.takes_none; restarts_none = s.restarts_none }
+silent (mark.Halted server ∷ marks) e = let s = silent marks e in record { opens_none = s.opens_none; takes_none = s.takes_none }
+silent (mark.Entry entry ∷ marks) e = let s = silent marks e in record { opens_none = s.opens_none; takes_none = s.takes_none }
+silent (mark.Answered number kind known contact ∷ marks) e = let s = silent marks e in record { opens_none = s.opens_none; takes_none = s.takes_none }
 
 -- marks that were put before others, the last one first, stand behind them, the first one first
 behind : (news old new : List Mark) → new ≡ news ++ old → reverse new ≡ reverse old ++ reverse news
@@ -39,7 +41,6 @@ quietly news old new e s = record {
   are = behind news old new e;
   opens_none = none_reverse opens news s.opens_none;
   takes_none = none_reverse takes news s.takes_none;
-  restarts_none = none_reverse restarts news s.restarts_none;
 }
 
 -- an own mark and then silent ones
@@ -55,7 +56,6 @@ quiet_event more m old new e q own =
     quietly (more ++ m ∷ []) old new (grown more m old new e) (record {
       opens_none = none_append opens more (m ∷ []) s.opens_none ∙ own.opens_none;
       takes_none = none_append takes more (m ∷ []) s.takes_none ∙ own.takes_none;
-      restarts_none = none_append restarts more (m ∷ []) s.restarts_none ∙ own.restarts_none;
     })
 
 -- a request's own mark
@@ -67,7 +67,6 @@ asked_event more number a old new e q =
       are = behind (more ++ asked_mark number a ∷ []) old new (grown more (asked_mark number a) old new e);
       opens_it = numbers_reverse opens (more ++ asked_mark number a ∷ []) ∙ ap (λ (l : List ℕ). reverse l) (of_own opens more (asked_mark number a) s.opens_none);
       takes_none = none_reverse takes (more ++ asked_mark number a ∷ []) (of_own takes more (asked_mark number a) s.takes_none);
-      restarts_none = none_reverse restarts (more ++ asked_mark number a ∷ []) (of_own restarts more (asked_mark number a) s.restarts_none);
       asked = in_reverse (asked_mark number a) (more ++ asked_mark number a ∷ []) (at_end more (asked_mark number a));
     }
   where
@@ -75,15 +74,46 @@ asked_event more number a old new e q =
     at_end [] m = inl refl
     at_end (x ∷ more) m = inr (at_end more m)
 
--- a mark that takes nothing and of no restart, and then silent ones
-pub cut_event : (more : List Mark) (m : Mark) (old new : List Mark) → new ≡ more ++ m ∷ old → moves_of more ≡ [] → numbers takes (m ∷ []) ≡ [] → numbers restarts (m ∷ []) ≡ [] → AddsCut (reverse old) (reverse new)
-cut_event more m old new e q t r =
+-- a mark that takes nothing, and then silent ones
+pub cut_event : (more : List Mark) (m : Mark) (old new : List Mark) → new ≡ more ++ m ∷ old → moves_of more ≡ [] → numbers takes (m ∷ []) ≡ [] → AddsCut (reverse old) (reverse new)
+cut_event more m old new e q t =
     let s = silent more q in
     record {
       rest = reverse (more ++ m ∷ []);
       are = behind (more ++ m ∷ []) old new (grown more m old new e);
       takes_none = none_reverse takes (more ++ m ∷ []) (none_append takes more (m ∷ []) s.takes_none ∙ t);
-      restarts_none = none_reverse restarts (more ++ m ∷ []) (none_append restarts more (m ∷ []) s.restarts_none ∙ r);
+    }
+
+-- no clock goes on by marks that name no move
+unticked : (marks : List Mark) → moves_of marks ≡ [] → numbers ticks marks ≡ []
+unticked [] e = refl
+unticked (mark.Asked number agent asked draw ∷ marks) e = absurd (cc e)
+unticked (mark.Made made ∷ marks) e = absurd (cc e)
+unticked (mark.Taken number ∷ marks) e = absurd (cc e)
+unticked (mark.Settled pairs whole ∷ marks) e = absurd (cc e)
+unticked (mark.Advanced ms made ∷ marks) e = absurd (cc e)
+unticked (mark.Halted server ∷ marks) e = unticked marks e
+unticked (mark.Entry entry ∷ marks) e = unticked marks e
+unticked (mark.Answered number kind known contact ∷ marks) e = unticked marks e
+
+-- a mark by which no clock goes on, and then silent ones
+pub unticked_event : (more : List Mark) (m : Mark) (old new : List Mark) → new ≡ more ++ m ∷ old → moves_of more ≡ [] → numbers ticks (m ∷ []) ≡ [] → TicksNone (reverse old) (reverse new)
+unticked_event more m old new e q own = record {
+  rest = reverse (more ++ m ∷ []);
+  are = behind (more ++ m ∷ []) old new (grown more m old new e);
+  none = none_reverse ticks (more ++ m ∷ []) (none_append ticks more (m ∷ []) (unticked more q) ∙ own);
+}
+
+-- the mark of a tick, and then silent ones
+pub ticked_event : (more : List Mark) (server ms : ℕ) (old new : List Mark) → new ≡ more ++ mark.Made (event.Tick server ms) ∷ old → moves_of more ≡ [] → TicksOne server ms (reverse old) (reverse new)
+ticked_event more server ms old new e q =
+    let m : Mark = mark.Made (event.Tick server ms) in record {
+      rest = reverse (more ++ m ∷ []);
+      are = behind (more ++ m ∷ []) old new (grown more m old new e);
+      ticked = inl (
+        numbers_reverse ticks (more ++ m ∷ []) ∙ ap (λ (l : List ℕ). reverse l) (of_own ticks more m (unticked more q)),
+        numbers_reverse ticks_by (more ++ m ∷ []) ∙ ap (λ (l : List ℕ). reverse l) (of_own ticks_by more m (by_none more (unticked more q))),
+      );
     }
 
 -- the numbers that marks ask, answer and take

@@ -31,7 +31,7 @@ among_reverse n (x ∷ xs) (inr a) = subst (Among n) (sym (reverse_cons x xs)) (
 pub among_back : (n : ℕ) (xs : List ℕ) → Among n (reverse xs) → Among n xs
 among_back n xs a = subst (Among n) (reverse-reverse xs) (among_reverse n (reverse xs) a)
 
-once_last : (xs : List ℕ) (x : ℕ) → EachOnce xs → (Among x xs → ⊥) → EachOnce (xs ++ x ∷ [])
+pub once_last : (xs : List ℕ) (x : ℕ) → EachOnce xs → (Among x xs → ⊥) → EachOnce (xs ++ x ∷ [])
 once_last [] x o new = (λ a. a, o)
 once_last (y ∷ xs) x o new = (λ a. apart (among_append y xs (x ∷ []) a), once_last xs x o.1 (λ a. new (inr a)))
   where

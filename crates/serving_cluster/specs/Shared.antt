@@ -8,8 +8,9 @@ abbrev pub IsOpen : cluster.Collected → Type 0
 IsOpen (cluster.TheVariants.Closed event) = ⊥
 IsOpen other = Unit {0}
 
+-- a request that is closed is none of these, so what is said of it does not matter
 abbrev pub shared_of : cluster.Collected → Collected
 shared_of (cluster.TheVariants.Ready reply) = collected.Ready reply
-shared_of (cluster.TheVariants.Closed event) = collected.Closed
+shared_of (cluster.TheVariants.Closed event) = collected.Gone
 shared_of (cluster.TheVariants.NotYet wanted) = collected.NotYet
 shared_of cluster.TheVariants.Gone = collected.Gone

@@ -3,21 +3,18 @@
 ghost use Rattle.std.specs.Prelude.{◌≡◌, IfOk, OnErr, reverse};
 ghost use Rattle.script_runs.specs.Taken.{IsTakenAsked};
 ghost use Rattle.serve_loop.specs.Collects.{Collects};
-ghost use Rattle.serve_loop.specs.Marks.{AddsAsked, AddsCut, AddsQuiet};
+ghost use Rattle.serve_loop.specs.Marks.{AddsAsked, AddsCut, AddsQuiet, TicksBy, TicksNone};
 ghost use Rattle.serve_loop.specs.Turns.{MayAsk};
 ghost use Rattle.serving_cluster.specs.Shown.{Shows};
 ghost use Rattle.serving_cluster.specs.Shared.{IsOpen, shared_of};
+ghost use Rattle.serving_cluster.specs.Ticks.{TicksOne};
 
-use crate::serving::{AgentCount, ServingCluster};
+use crate::serving::{ClusterSize, ServingCluster};
 use cat_model::{Asked, Event, Memory};
 use cluster_interface::ClusterInterface;
 use script_runs::is_taken;
 use serve_loop::{Ask, Collected, SharedCluster};
 use std::alloc::Global;
-
-fn discard(_: Ask) {}
-
-fn discard_event(_: Event) {}
 
 // A request's reply, or what else there is of a request that is not closed.
 fn shared(collected: open_requests::Collected) -> Collected
@@ -32,17 +29,18 @@ fn shared(collected: open_requests::Collected) -> Collected
     }
 }
 
-impl<J: AgentCount, S: ClusterInterface> ServingCluster<J, S> {
+impl<J: ClusterSize, S: ClusterInterface> ServingCluster<J, S> {
     // The clock of a server goes on. One that is at its end stays there.
     fn tick(&mut self, alloc: Global, server: u32, ms: u64) -> Result<(), Memory>
-        ensures { AddsQuiet (reverse self.old.past) (reverse self.new.past) }
+        ensures quiet { AddsQuiet (reverse self.old.past) (reverse self.new.past) }
+        ensures ticks { TicksOne server ms (reverse self.old.past) (reverse self.new.past) }
     {
         let tick = Event::Tick(server, ms);
         let fits = self.cluster.fits(&tick);
         match fits {
             Ok(()) => self.cluster.step(alloc, tick),
             Err(_) => {
-                discard_event(tick);
+                drop(tick);
                 Ok(())
             }
         }
@@ -50,7 +48,8 @@ impl<J: AgentCount, S: ClusterInterface> ServingCluster<J, S> {
 
     // The clocks of all servers go on, one after another.
     fn tick_all(&mut self, alloc: Global, ms: u64) -> Result<(), Memory>
-        ensures { AddsQuiet (reverse self.old.past) (reverse self.new.past) }
+        ensures quiet { AddsQuiet (reverse self.old.past) (reverse self.new.past) }
+        ensures ticks { TicksBy ms (reverse self.old.past) (reverse self.new.past) }
     {
         let last = self.cluster.servers();
         let mut server = 0;
@@ -66,9 +65,10 @@ impl<J: AgentCount, S: ClusterInterface> ServingCluster<J, S> {
 
     // Asks an agent that is there.
     fn ask_agent(&mut self, alloc: Global, ask: &Ask) -> Result<u64, Memory>
-        requires { MayAsk J.agents IsTakenAsked ask.now }
+        requires { MayAsk J.size.agents IsTakenAsked ask.now }
         ensures asked { IfOk result (λ number. AddsAsked number ask.now (reverse self.old.past) (reverse self.new.past)) }
         ensures cut { OnErr result (AddsCut (reverse self.old.past) (reverse self.new.past)) }
+        ensures unticked { TicksNone (reverse self.old.past) (reverse self.new.past) }
     {
         self.cluster.ask(alloc, ask.agent, &ask.asked, ask.draw)
     }
@@ -82,14 +82,14 @@ impl<J: AgentCount, S: ClusterInterface> ServingCluster<J, S> {
     }
 }
 
-impl<J: AgentCount, S: ClusterInterface> SharedCluster for ServingCluster<J, S> {
+impl<J: ClusterSize, S: ClusterInterface> SharedCluster for ServingCluster<J, S> {
     ghost use Rattle.std.specs.Prelude.{reverse};
     ghost use Rattle.script_runs.specs.Taken.{IsTakenAsked};
     ghost use Rattle.serving_cluster.specs.Shown.{Shows};
 
     ghost marks = { λ c. reverse c.past };
 
-    ghost agents = { J.agents };
+    ghost agents = { J.size.agents };
 
     ghost shows = { Shows };
 
@@ -103,6 +103,7 @@ impl<J: AgentCount, S: ClusterInterface> SharedCluster for ServingCluster<J, S> 
     }
 
     fn kept(&self) {
+        // What the type keeps is at hand once the cluster is read, whatever is read of it.
         self.cluster.asked();
     }
 
@@ -112,7 +113,7 @@ impl<J: AgentCount, S: ClusterInterface> SharedCluster for ServingCluster<J, S> 
 
     fn ask(&mut self, alloc: Global, ask: Ask) -> Result<u64, Memory> {
         let asked = self.ask_agent(alloc, &ask);
-        discard(ask);
+        drop(ask);
         asked
     }
 

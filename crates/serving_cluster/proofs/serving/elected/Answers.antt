@@ -6,6 +6,6 @@ step-requires-clause-fits g c = first_fits _ c.args.servers c.in_ok-cluster.ensu
 
 pub returns-in-Ok : goal.returns-in-Ok
 returns-in-Ok g c = record {
-  serves = first_serves c.args.agents _ _ c.in_ok-cluster.ensures.first c.in_ok-cluster.ensures.agents
+  serves = first_serves (record { servers = c.args.servers; agents = c.args.agents }) _ _ c.in_ok-cluster.ensures.first (c.in_ok-cluster.ensures.servers, c.in_ok-cluster.ensures.agents)
       (first_fits _ c.args.servers c.in_ok-cluster.ensures.servers c.requires.some) (rw c.in-Ok.is at c.step.ensures.whole);
 }

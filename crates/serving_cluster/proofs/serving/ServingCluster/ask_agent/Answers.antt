@@ -1,4 +1,4 @@
-use Rattle.serving_cluster.proofs.Steps.{ask_serves, asks, asks_cut, is_agent}
+use Rattle.serving_cluster.proofs.Steps.{ask_serves, asks, asks_cut, asks_still, is_agent}
 use Rattle.serving_cluster.proofs.serving.ServingCluster.ask_agent.Goals as goal
 
 pub invariant_of-self : goal.invariant_of-self
@@ -9,3 +9,6 @@ returns-clause-asked g c = rw (← c.self.view_is) (asks _ _ c.args.ask.now c.as
 
 pub returns-clause-cut : goal.returns-clause-cut
 returns-clause-cut g c = rw (← c.self.view_is) (asks_cut _ _ c.args.ask.now c.ask.result c.ask.ensures.cut)
+
+pub returns-clause-unticked : goal.returns-clause-unticked
+returns-clause-unticked g c = rw (← c.self.view_is) (asks_still _ _ c.args.ask.now c.ask.result c.ask.ensures.whole c.ask.ensures.cut)
