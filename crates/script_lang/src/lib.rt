@@ -11,4 +11,5 @@ mod words;
 
 pub use bad_line::BadLine;
 pub use line::{Line, opens_cluster, read_line};
+pub use numbers::{Bounds, number_in};
 pub use text::{print_end, print_out, print_refused};

@@ -13,5 +13,5 @@ mod text;
 
 pub use line::split_at_byte;
 pub use output::write_all;
-pub use playing::play_script;
+pub use playing::{play_script, write_report};
 pub use report::Report;

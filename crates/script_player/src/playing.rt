@@ -93,7 +93,7 @@ fn finish<S: ClusterInterface, Si: Sink>(
             Ok(()) => Ok(None),
             Err(fail) => Err(fail),
         },
-        None => match report(alloc, sink, servers, played.events) {
+        None => match write_report(alloc, sink, servers, played.events) {
             Ok(report) => Ok(Some(report)),
             Err(fail) => Err(fail),
         },
@@ -113,9 +113,9 @@ fn write_refused<Si: Sink>(alloc: Global, sink: &mut Si, why: Refused) -> Result
     }
 }
 
-// Writes the last line of a whole run, and reports the run.
+/// Writes the last line of a whole run, and reports the run, in which so many events were made.
 #[tactic(auto, using(crate::proofs::Written::part_none))]
-fn report<S: ClusterInterface, Si: Sink>(
+pub fn write_report<S: ClusterInterface, Si: Sink>(
     alloc: Global,
     sink: &mut Si,
     servers: S,
