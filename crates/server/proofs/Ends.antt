@@ -1,0 +1,70 @@
+-- How a server ends, from its parts.
+use Rattle.std.proofs.Common.{◌≡◌, ℕ, List, Option, Result, Ok, Err, reverse, refl, sym, ap, ◌∙◌, subst}
+use Rattle.std.specs.Prelude.{IfErr, IfOk, OnErr, OnOk}
+use Rattle.std.specs.Io.KnownBytes.{Appends}
+use Rattle.std.proofs.KnownBytes.{Appends-trans}
+use Rattle.cat_model.specs.declared.request.Draw.{Draw}
+use Rattle.cluster_rules.specs.Cluster.{Cluster}
+use Rattle.script_runs.specs.Plays.{Whole}
+use Rattle.script_runs.specs.Taken.{IsTakenAsked}
+use Rattle.script_player.specs.declared.report.Report.{Report}
+use Rattle.script_player.specs.Run.{IsReportOf, WritesPart}
+use Rattle.script_player.specs.Text.{last_text}
+use Rattle.serve_outside.specs.Links.{LinkState}
+use Rattle.turn_lock.specs.Lists.{IsFront}
+use Rattle.serve_loop.specs.declared.run.Stop as loop
+use Rattle.serve_loop.specs.Runs.{HandsBack}
+use Rattle.serving_rules.specs.Serving.{Size, Serves}
+use Rattle.serving_rules.proofs.Holding.{holds}
+use Rattle.serving_cluster.specs.Shown.{Shows}
+use Rattle.server.specs.declared.options.Options.{Options}
+use Rattle.server.specs.declared.running.Stop.{Stop}
+use Rattle.server.specs.declared.running.Stop.TheVariants as stops
+use Rattle.server.specs.Served.{GivesBack, Serve, Served, WritesFront, WritesWhole, all_back, events_in, none_given, of_first, size_of}
+use Rattle.server.specs.Text.{listening_text}
+use Rattle.server.proofs.Texts.{front_all, part_whole, whole_all}
+
+-- the links of a run, whose listener had given none before
+module _ (o : Options) (size : Size) (e : size ≡ size_of o) (draws : Option (List Draw)) (closed closed₁ closed' : List LinkState) (same : closed₁ ≡ closed) (faults faults' given : ℕ) (c : Cluster) (ended : Result Unit loop.Stop) where
+  links_of : HandsBack Shows IsTakenAsked size.agents draws (λ seen. IsFront seen (reverse c.past)) closed₁ closed' faults faults' given ended → Serve o draws c closed closed' faults faults' given ended
+  links_of links =
+      subst (λ (l : List LinkState). HandsBack Shows IsTakenAsked o.agents draws (λ seen. IsFront seen (reverse c.past)) l closed' faults faults' given ended) same
+      (subst (λ (z : Size). HandsBack Shows IsTakenAsked z.agents draws (λ seen. IsFront seen (reverse c.past)) closed₁ closed' faults faults' given ended) e links)
+
+  serves_of : Serves size c → Serves (size_of o) c
+  serves_of serves = subst (λ (z : Size). Serves z c) e serves
+
+  pub back_of : Serves size c → HandsBack Shows IsTakenAsked size.agents draws (λ seen. IsFront seen (reverse c.past)) closed₁ closed' faults faults' given ended → GivesBack o draws closed closed' faults faults' given
+  back_of serves links = all_back c ended (serves_of serves) (links_of links)
+
+  pub served_of : (held mid held' : Option (List ℕ)) (r : Result Report Stop) → Serves size c
+      → HandsBack Shows IsTakenAsked size.agents draws (λ seen. IsFront seen (reverse c.past)) closed₁ closed' faults faults' given ended
+      → OnOk ended (given ≡ o.connections) → Appends held mid (listening_text o.port) → OnOk r (Appends mid held' (last_text Whole c)) → IfOk r (IsReportOf c (events_in (reverse c.past))) → OnOk r (ended ≡ Ok tt)
+      → IfOk r (Served o draws closed closed' faults faults' given held held')
+  served_of held mid held' (Ok report) serves links count first text tells whole = record {
+    reached = c;
+    serves = serves_of serves;
+    holds = holds (size_of o) c (serves_of serves);
+    links = subst (λ (z : Result Unit loop.Stop). Serve o draws c closed closed' faults faults' given z) whole (links_of links);
+    count = subst (λ (z : Result Unit loop.Stop). OnOk z (given ≡ o.connections)) whole count;
+    written = Appends-trans held mid held' (listening_text o.port) (last_text Whole c) first text;
+    tells = tells;
+  }
+  served_of held mid held' (Err why) serves links count first text tells whole = tt
+
+  pub front_of : (held mid held' : Option (List ℕ)) (r : Result Report Stop) → Serves size c → Appends held mid (listening_text o.port) → OnErr r (WritesPart mid held' (last_text Whole c)) → OnErr r (WritesFront o held held')
+  front_of held mid held' (Ok report) serves first part = tt
+  front_of held mid held' (Err why) serves first part = front_all o held mid held' c (serves_of serves) first part
+
+  pub lined_of : (held mid held' : Option (List ℕ)) (r : Result Report Stop) → Serves size c → Appends held mid (listening_text o.port)
+      → IfErr r (λ why. why ≡ stops.Listener → Appends mid held' (last_text Whole c)) → IfErr r (λ why. why ≡ stops.Listener → WritesWhole o held held')
+  lined_of held mid held' (Ok report) serves first lined = tt
+  lined_of held mid held' (Err why) serves first lined = λ is. whole_all o held mid held' c (serves_of serves) first (lined is)
+
+-- no link was given
+pub back_none : (o : Options) (draws : Option (List Draw)) (closed closed' : List LinkState) (faults faults' given : ℕ) → given ≡ 0 → closed' ≡ closed → GivesBack o draws closed closed' faults faults' given
+back_none o draws closed closed' faults faults' given none same = none_given none same
+
+-- the first line alone
+pub front_first : (o : Options) (held held' : Option (List ℕ)) → WritesPart held held' (listening_text o.port) → WritesFront o held held'
+front_first o held held' part = of_first part

@@ -1,0 +1,6 @@
+pub mod Counts
+pub mod Numbers
+pub mod Texts
+pub mod Asking
+pub mod Events
+pub mod Ends

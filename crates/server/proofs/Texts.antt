@@ -1,0 +1,23 @@
+-- What a server has written so far.
+use Rattle.std.proofs.Common.{◌≡◌, ℕ, List, [], ◌++◌, Option, sym, append-nil}
+use Rattle.std.specs.Io.KnownBytes.{Appends}
+use Rattle.std.proofs.KnownBytes.{Appends-trans}
+use Rattle.cluster_rules.specs.Cluster.{Cluster}
+use Rattle.script_runs.specs.Plays.{Whole}
+use Rattle.script_player.specs.Run.{WritesPart}
+use Rattle.script_player.specs.Text.{last_text}
+use Rattle.script_player.proofs.Written.{part_after}
+use Rattle.serving_rules.specs.Serving.{Serves}
+use Rattle.server.specs.declared.options.Options.{Options}
+use Rattle.server.specs.Served.{WritesFront, WritesWhole, of_first, of_all, nothing, all, size_of}
+use Rattle.server.specs.Text.{listening_text, served_text}
+
+pub part_whole : (held held' : Option (List ℕ)) (text : List ℕ) → Appends held held' text → WritesPart held held' text
+part_whole held held' text written = record { front = text; rest = []; written = written; splits = sym (append-nil text) }
+
+-- the first line, and what was written of the last one
+pub front_all : (o : Options) (a b d : Option (List ℕ)) (c : Cluster) → Serves (size_of o) c → Appends a b (listening_text o.port) → WritesPart b d (last_text Whole c) → WritesFront o a d
+front_all o a b d c serves first part = of_all c serves (part_after a b d (listening_text o.port) (last_text Whole c) first part)
+
+pub whole_all : (o : Options) (a b d : Option (List ℕ)) (c : Cluster) → Serves (size_of o) c → Appends a b (listening_text o.port) → Appends b d (last_text Whole c) → WritesWhole o a d
+whole_all o a b d c serves first last = all c serves (Appends-trans a b d (listening_text o.port) (last_text Whole c) first last)

@@ -1,0 +1,89 @@
+-- What a server did.
+use Rattle.std.specs.Prelude.{◌≡◌, ℕ, ◌+◌, Bool, true, false, List, [], ◌∷◌, reverse, Option, Result, Ok, Err}
+use Rattle.std.specs.Io.KnownBytes.{Appends}
+use Rattle.cat_model.specs.declared.request.Draw.{Draw}
+use Rattle.cat_model.specs.declared.reply.Mark.{Mark}
+use Rattle.cat_model.specs.declared.reply.Mark.TheVariants as mark
+use Rattle.cat_outside.specs.Causes.{Rose}
+use Rattle.cat_outside.specs.declared.faults.KeepFail.{KeepFail}
+use Rattle.cat_outside.specs.declared.faults.KeepFail.TheVariants as keep_fail
+use Rattle.cluster_rules.specs.Cluster.{Cluster}
+use Rattle.script_runs.specs.Taken.{IsTakenAsked}
+use Rattle.script_player.specs.declared.report.Report.{Report}
+use Rattle.script_player.specs.Run.{IsReportOf, WritesPart}
+use Rattle.serve_outside.specs.Links.{LinkState}
+use Rattle.turn_lock.specs.Lists.{IsFront}
+use Rattle.serve_loop.specs.declared.run.Stop as loop
+use Rattle.serve_loop.specs.Runs.{HandsBack}
+use Rattle.serving_rules.specs.Serving.{Size, Serves}
+use Rattle.serving_rules.specs.Holding.{Holds}
+use Rattle.serving_cluster.specs.Shown.{Shows}
+use Rattle.server.specs.declared.options.Options.{Options}
+use Rattle.server.specs.declared.running.Stop.{Stop}
+use Rattle.server.specs.declared.running.Stop.TheVariants as stop
+use Rattle.server.specs.Text.{listening_text, served_text}
+
+abbrev pub size_of : Options → Size
+size_of options = record { servers = options.servers; agents = options.agents }
+
+-- the mark is that of an event
+abbrev pub is_event : Mark → Bool
+is_event (mark.Asked number agent asked draw) = true
+is_event (mark.Made made) = true
+is_event other = false
+
+abbrev pub one_if : Bool → ℕ
+one_if true = 1
+one_if false = 0
+
+-- how many of the marks are
+unfoldable pub events_in : List Mark → ℕ
+events_in [] = 0
+events_in (m ∷ marks) = one_if (is_event m) + events_in marks
+
+-- Each connection that was given came back: it was served over this cluster's one log, or turned away.
+abbrev pub Serve : Options → Option (List Draw) → Cluster → List LinkState → List LinkState → ℕ → ℕ → ℕ → Result Unit loop.Stop → Type 0
+Serve options draws c closed closed' faults faults' given result =
+    HandsBack Shows IsTakenAsked options.agents draws (λ seen. IsFront seen (reverse c.past)) closed closed' faults faults' given result
+
+-- Status 0: so many connections were served as asked, by a cluster of which all that must holds, and this is reported of
+-- it.
+pub record Served (options : Options) (draws : Option (List Draw)) (closed closed' : List LinkState) (faults faults' given : ℕ) (held held' : Option (List ℕ)) (report : Report) : Type 0 where
+  pub reached : Cluster
+  pub serves : Serves (size_of options) reached
+  pub holds : Holds reached
+  pub links : Serve options draws reached closed closed' faults faults' given (Ok tt)
+  pub count : given ≡ options.connections
+  pub written : Appends held held' (served_text options.port reached)
+  pub tells : IsReportOf reached (events_in (reverse reached.past)) report
+
+-- Nothing was given yet, or each connection that was given came back.
+pub data GivesBack (options : Options) (draws : Option (List Draw)) (closed closed' : List LinkState) (faults faults' given : ℕ) : Type 0 where
+  none_given : given ≡ 0 → closed' ≡ closed → GivesBack options draws closed closed' faults faults' given
+  all_back : (c : Cluster) (result : Result Unit loop.Stop) → Serves (size_of options) c → Serve options draws c closed closed' faults faults' given result → GivesBack options draws closed closed' faults faults' given
+
+-- all of it was written; or nothing, where it could not listen
+pub data WritesWhole (options : Options) (held held' : Option (List ℕ)) : Type 0 where
+  nothing : Appends held held' [] → WritesWhole options held held'
+  all : (c : Cluster) → Serves (size_of options) c → Appends held held' (served_text options.port c) → WritesWhole options held held'
+
+-- a first part was written of what a server writes
+pub data WritesFront (options : Options) (held held' : Option (List ℕ)) : Type 0 where
+  of_first : WritesPart held held' (listening_text options.port) → WritesFront options held held'
+  of_all : (c : Cluster) → Serves (size_of options) c → WritesPart held held' (served_text options.port c) → WritesFront options held held'
+
+abbrev pub stop_of_write : KeepFail → Stop
+stop_of_write keep_fail.Failed = stop.Sink
+stop_of_write keep_fail.Memory = stop.Memory
+
+-- the sink's count of faults rose where it failed, and nowhere else
+abbrev pub CountsSink : Stop → ℕ → ℕ → Type 0
+CountsSink stop.Listener writes writes' = writes' ≡ writes
+CountsSink stop.Sink writes writes' = Rose writes writes'
+CountsSink stop.Memory writes writes' = writes' ≡ writes
+
+-- Why a server broke off: its listener or its sink failed, which has counted the fault, or there was no memory.
+abbrev pub CountsStop : Stop → ℕ → ℕ → ℕ → ℕ → Type 0
+CountsStop stop.Listener listens listens' writes writes' = Rose listens listens' × (writes' ≡ writes)
+CountsStop stop.Sink listens listens' writes writes' = Rose writes writes'
+CountsStop stop.Memory listens listens' writes writes' = writes' ≡ writes

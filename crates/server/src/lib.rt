@@ -1,0 +1,10 @@
+//! A server of HTTP connections over one cluster: from the words that ask for it to the last line that it writes.
+#![tactic(auto)]
+
+mod machine;
+mod options;
+mod running;
+
+pub use machine::Machine;
+pub use options::{Options, options_of};
+pub use running::{Stop, serve};

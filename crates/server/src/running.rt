@@ -1,0 +1,340 @@
+//! A server, from its options to its last line.
+
+ghost use Rattle.std.specs.Prelude.{◌≡◌, ◌+◌, ◌-◌, ◌^◌, ◌<◌, [], Err, IfErr, IfOk, MatchResult, Ok, OnErr, OnOk, reverse};
+ghost use Rattle.std.specs.Arc.{arc_value};
+ghost use Rattle.std.specs.Io.KnownBytes.{Appends};
+ghost use Rattle.cat_outside.specs.Causes.{Rose};
+ghost use Rattle.script_player.specs.Run.{IsReportOf, WritesPart};
+ghost use Rattle.script_player.specs.Text.{last_text};
+ghost use Rattle.script_runs.specs.Plays.{Whole};
+ghost use Rattle.turn_lock.specs.Lists.{IsFront};
+ghost use Rattle.serve_loop.specs.declared.run.Stop.TheVariants as loop;
+ghost use Rattle.serve_loop.specs.Boards.{IsOurs, known};
+ghost use Rattle.serve_loop.specs.Runs.{HandsBack, HasDrawn};
+ghost use Rattle.serving_rules.specs.Serving.{Serves};
+ghost use Rattle.server.specs.Options.{IsWithin};
+ghost use Rattle.server.specs.Served as spec;
+ghost use Rattle.server.specs.Text.{listening_text as listening_text_of};
+
+use crate::machine::Machine;
+use crate::options::Options;
+use cat_model::{Mark, Memory};
+use cat_outside::{Failed, KeepFail, Sink};
+use cluster_interface::ClusterInterface;
+use crossbeam_utils::CachePadded;
+use script_player::{Report, write_all, write_report};
+use serve_loop::{Board, Served, Server, SharedCluster, serve_all};
+use serve_outside::{Clock, Gate, Listener, Spawner, Words};
+use serving_cluster::{ClusterSize, ServingCluster};
+use std::alloc::{AllocError, Global};
+use std::marker::Brand;
+use std::sync::{Arc, Wait};
+use std::thread::Threads;
+use thiserror::Error;
+use turn_lock::{HistoryLock, Pass};
+
+/// Why a server broke off.
+#[derive(Clone, Copy, Debug, PartialEq, Eq, Error)]
+pub enum Stop {
+    /// The listener failed. If it did so at a connection, the last line is written.
+    #[error("the listener failed")]
+    Listener,
+    #[error("the sink failed")]
+    Sink,
+    /// There was no memory, for the server or for one of its connections.
+    #[error("out of memory")]
+    Memory,
+}
+
+impl From<KeepFail> for Stop {
+    ghost use Rattle.std.specs.Prelude.{◌≡◌};
+    ghost use Rattle.server.specs.Served.{stop_of_write};
+
+    ghost from_gives = { λ fail stop. stop ≡ stop_of_write fail };
+
+    fn from(fail: KeepFail) -> Stop {
+        match fail {
+            KeepFail::Failed => Stop::Sink,
+            KeepFail::Memory => Stop::Memory,
+        }
+    }
+}
+
+/// The most messages that are settled before the first connection.
+const MOST: u32 = 4096;
+
+// The line that says where the server listens.
+fn listening_text(alloc: Global, port: u16) -> Result<Vec<u8>, AllocError>
+    ensures { IfOk result (λ text. text.items ≡ listening_text_of port) }
+{
+    Ok(format!(in alloc; "listening {port}\n")?.into_bytes())
+}
+
+// Says where the server listens.
+fn say_listening<Si: Sink>(alloc: Global, sink: &mut Si, port: u16) -> Result<(), Stop>
+    ensures text { OnOk result (Appends (Si.held sink.old) (Si.held sink.new) (listening_text_of port)) }
+    ensures part { OnErr result (WritesPart (Si.held sink.old) (Si.held sink.new) (listening_text_of port)) }
+    ensures other { IfErr result (λ why. why ≡ Stop.Listener → ⊥) }
+    ensures cause { MatchResult result (λ _. Si.faults sink.new ≡ Si.faults sink.old) (λ why. spec.CountsSink why (Si.faults sink.old) (Si.faults sink.new)) }
+{
+    let Ok(text) = listening_text(alloc, port) else {
+        return Err(Stop::Memory);
+    };
+    match write_all(sink, &text) {
+        Ok(()) => Ok(()),
+        Err(fail) => Err(Stop::from(fail)),
+    }
+}
+
+// Listens, and says so.
+fn listen<Si: Sink, L: Listener>(
+    alloc: Global,
+    sink: &mut Si,
+    listener: &mut L,
+    port: u16,
+) -> Result<(), Stop>
+    ensures text { OnOk result (Appends (Si.held sink.old) (Si.held sink.new) (listening_text_of port)) }
+    ensures part { OnErr result (WritesPart (Si.held sink.old) (Si.held sink.new) (listening_text_of port)) }
+    ensures unsaid { IfErr result (λ why. why ≡ Stop.Listener → Appends (Si.held sink.old) (Si.held sink.new) []) }
+    ensures cause { MatchResult result (λ _. Si.faults sink.new ≡ Si.faults sink.old)
+        (λ why. spec.CountsStop why (L.faults listener.old) (L.faults listener.new) (Si.faults sink.old) (Si.faults sink.new)) }
+    ensures given { L.given listener.new ≡ L.given listener.old }
+    ensures closed { L.closed listener.new ≡ L.closed listener.old }
+    ensures faults { OnOk result (L.faults listener.new ≡ L.faults listener.old) }
+{
+    match listener.listen(port) {
+        Ok(()) => say_listening(alloc, sink, port),
+        Err(Failed) => Err(Stop::Listener),
+    }
+}
+
+// A board over the cluster, whose clocks go on from this time, and the pass from which all others are split.
+fn board_over<C: SharedCluster>(
+    alloc: Global,
+    cluster: C,
+    now: u64,
+) -> Result<(Arc<Board<Served<C>>, Global>, Pass<Served<C>>), Memory>
+    ensures ours { IfOk result (λ r. IsOurs (arc_value r.0) r.1) }
+    ensures untold { IfOk result (λ r. (known r.1).told ≡ []) }
+{
+    let served = Served {
+        cluster,
+        last_ms: now,
+    };
+    let Ok((lock, pass)) = HistoryLock::new(alloc, served) else {
+        return Err(Memory);
+    };
+    match Arc::new(alloc, CachePadded::new(lock)) {
+        Ok(board) => Ok((board, pass)),
+        Err(_) => Err(Memory),
+    }
+}
+
+// Serves so many connections over the cluster. Gives it as they leave it, and says what stopped them.
+fn serve_over<
+    C: SharedCluster + Send + 'static,
+    R: Threads + Wait + Copy + Send + Drop + 'static,
+    Cl: Clock + Copy + Send + Drop + 'static,
+    G: Gate + Copy + Send + Drop + 'static,
+    L: Listener,
+    W: Words,
+    Sp: Spawner,
+>(
+    machine: Machine<R, Cl, G>,
+    cluster: C,
+    options: &Options,
+    listener: &mut L,
+    words: &mut W,
+    spawner: &mut Sp,
+) -> Result<(C, Result<(), serve_loop::Stop>), Memory>
+where
+    L::Link: Send + 'static,
+    requires agents { (0 < options.now.agents) × (options.now.agents ≡ C.agents) }
+    requires fresh { (L.given listener.old ≡ 0) × HasDrawn (W.draws words.old) 0 }
+    ensures links { IfOk result (λ r. HandsBack C.shows C.takes C.agents (W.draws words.new) (λ seen. IsFront seen (C.marks r.0)) (L.closed listener.old) (L.closed listener.new) (Sp.faults spawner.old) (Sp.faults spawner.new) (L.given listener.new) r.1) }
+    ensures count { IfOk result (λ r. OnOk r.1 (L.given listener.new ≡ options.now.connections)) }
+    ensures cause { IfOk result (λ r. IfErr r.1 (λ why. why ≡ loop.Listener → Rose (L.faults listener.old) (L.faults listener.new))) }
+    ensures none { OnErr result ((listener.new ≡ listener.old) × (words.new ≡ words.old) × (spawner.new ≡ spawner.old)) }
+{
+    let now = machine.clock.now_ms();
+    let (board, pass) = board_over(machine.alloc, cluster, now)?;
+    let server = Server {
+        rt: machine.rt,
+        alloc: machine.alloc,
+        board,
+        clock: machine.clock,
+        gate: machine.gate,
+        agents: options.agents,
+    };
+    Ok(serve_all(&server, pass, listener, words, spawner, options.connections))
+}
+
+// The report with the number of its events, which its marks tell.
+fn counted(report: Report) -> Report
+    ensures { result ≡ record report { events = spec.events_in report.marks } }
+{
+    let events = events_in(report.marks.as_slice());
+    Report { events, ..report }
+}
+
+// Writes the last line, and reports what the cluster was led to.
+fn report<J: ClusterSize, S: ClusterInterface, Si: Sink>(
+    alloc: Global,
+    sink: &mut Si,
+    cluster: ServingCluster<J, S>,
+) -> Result<Report, Stop>
+    ensures text { OnOk result (Appends (Si.held sink.old) (Si.held sink.new) (last_text Whole cluster)) }
+    ensures part { OnErr result (WritesPart (Si.held sink.old) (Si.held sink.new) (last_text Whole cluster)) }
+    ensures report { IfOk result (IsReportOf cluster (spec.events_in (reverse cluster.past))) }
+    ensures serves { Serves J.size cluster }
+    ensures other { IfErr result (λ why. why ≡ Stop.Listener → ⊥) }
+    ensures cause { MatchResult result (λ _. Si.faults sink.new ≡ Si.faults sink.old) (λ why. spec.CountsSink why (Si.faults sink.old) (Si.faults sink.new)) }
+{
+    let servers = cluster.into_cluster();
+    match write_report(alloc, sink, servers, 0) {
+        Ok(report) => Ok(counted(report)),
+        Err(fail) => Err(Stop::from(fail)),
+    }
+}
+
+// Whether the mark is that of an event.
+fn is_event(mark: &Mark) -> bool
+    ensures { result ≡ spec.is_event mark.now }
+{
+    matches!(mark, Mark::Asked { .. } | Mark::Made(_))
+}
+
+// How many events the marks tell.
+fn events_in(marks: &[Mark]) -> u64
+    ensures { result ≡ spec.events_in marks.now }
+{
+    let mut events = 0;
+    for mark in marks {
+        events = more(events, is_event(mark));
+    }
+    events
+}
+
+// One more, if it is one.
+fn more(events: u64, is: bool) -> u64
+    requires { events < 2 ^ 64 - 1 }
+    ensures { result ≡ events + spec.one_if is }
+{
+    if is { events + 1 } else { events }
+}
+
+fn discard(_: Report) {}
+
+// Ends a run of connections that ended so.
+fn end<J: ClusterSize, S: ClusterInterface, Si: Sink>(
+    alloc: Global,
+    sink: &mut Si,
+    cluster: ServingCluster<J, S>,
+    ended: Result<(), serve_loop::Stop>,
+) -> Result<Report, Stop>
+    ensures text { OnOk result (Appends (Si.held sink.old) (Si.held sink.new) (last_text Whole cluster)) }
+    ensures part { OnErr result (WritesPart (Si.held sink.old) (Si.held sink.new) (last_text Whole cluster)) }
+    ensures lined { IfErr result (λ why. why ≡ Stop.Listener → Appends (Si.held sink.old) (Si.held sink.new) (last_text Whole cluster)) }
+    ensures report { IfOk result (IsReportOf cluster (spec.events_in (reverse cluster.past))) }
+    ensures whole { OnOk result (ended ≡ Ok tt) }
+    ensures failed { IfErr result (λ why. why ≡ Stop.Listener → ended ≡ Err loop.Listener) }
+    ensures serves { Serves J.size cluster }
+    ensures cause { MatchResult result (λ _. Si.faults sink.new ≡ Si.faults sink.old) (λ why. spec.CountsSink why (Si.faults sink.old) (Si.faults sink.new)) }
+{
+    match ended {
+        Ok(()) => report(alloc, sink, cluster),
+        Err(serve_loop::Stop::Listener) => match report(alloc, sink, cluster) {
+            Ok(report) => {
+                discard(report);
+                Err(Stop::Listener)
+            }
+            Err(why) => Err(why),
+        },
+        Err(serve_loop::Stop::Memory) => Err(Stop::Memory),
+    }
+}
+
+// Serves by a cluster of the size that `J` tells.
+fn serve_sized<
+    J: ClusterSize + Send + 'static,
+    S: ClusterInterface + Send + 'static,
+    R: Threads + Wait + Copy + Send + Drop + 'static,
+    Cl: Clock + Copy + Send + Drop + 'static,
+    G: Gate + Copy + Send + Drop + 'static,
+    Si: Sink,
+    L: Listener,
+    W: Words,
+    Sp: Spawner,
+>(
+    machine: Machine<R, Cl, G>,
+    options: &Options,
+    sink: &mut Si,
+    listener: &mut L,
+    words: &mut W,
+    spawner: &mut Sp,
+) -> Result<Report, Stop>
+where
+    L::Link: Send + 'static,
+    requires size { J.size ≡ spec.size_of options.now }
+    requires bounds { IsWithin options.now }
+    requires fresh { (L.given listener.old ≡ 0) × HasDrawn (W.draws words.old) 0 }
+    ensures served { IfOk result (spec.Served options.now (W.draws words.new) (L.closed listener.old) (L.closed listener.new) (Sp.faults spawner.old) (Sp.faults spawner.new) (L.given listener.new) (Si.held sink.old) (Si.held sink.new)) }
+    ensures back { spec.GivesBack options.now (W.draws words.new) (L.closed listener.old) (L.closed listener.new) (Sp.faults spawner.old) (Sp.faults spawner.new) (L.given listener.new) }
+    ensures part { OnErr result (spec.WritesFront options.now (Si.held sink.old) (Si.held sink.new)) }
+    ensures lined { IfErr result (λ why. why ≡ Stop.Listener → spec.WritesWhole options.now (Si.held sink.old) (Si.held sink.new)) }
+    ensures cause { MatchResult result (λ _. Si.faults sink.new ≡ Si.faults sink.old)
+        (λ why. spec.CountsStop why (L.faults listener.old) (L.faults listener.new) (Si.faults sink.old) (Si.faults sink.new)) }
+{
+    let Ok(cluster) = ServingCluster::<J, S>::begin(
+        machine.alloc,
+        options.servers,
+        options.agents,
+        MOST,
+    ) else {
+        return Err(Stop::Memory);
+    };
+    match listen(machine.alloc, sink, listener, options.port) {
+        Ok(()) => match serve_over(machine, cluster, options, listener, words, spawner) {
+            Ok((cluster, ended)) => end(machine.alloc, sink, cluster, ended),
+            Err(Memory) => Err(Stop::Memory),
+        },
+        Err(why) => Err(why),
+    }
+}
+
+/// Serves as the options say, over servers of the type `S` with empty stores in memory: server 1 stands for election,
+/// the port is listened on, which a line says, and so many connections are served, each by a job of its own. Then comes
+/// the last line, which tells the length of the agreed log and the requests without a reply. The report is of the
+/// cluster that is left.
+pub fn serve<
+    S: ClusterInterface + Send + 'static,
+    R: Threads + Wait + Copy + Send + Drop + 'static,
+    Cl: Clock + Copy + Send + Drop + 'static,
+    G: Gate + Copy + Send + Drop + 'static,
+    Si: Sink,
+    L: Listener,
+    W: Words,
+    Sp: Spawner,
+>(
+    machine: Machine<R, Cl, G>,
+    options: &Options,
+    sink: &mut Si,
+    listener: &mut L,
+    words: &mut W,
+    spawner: &mut Sp,
+) -> Result<Report, Stop>
+where
+    L::Link: Send + 'static,
+    requires bounds { IsWithin options.now }
+    requires fresh { (L.given listener.old ≡ 0) × HasDrawn (W.draws words.old) 0 }
+    ensures served { IfOk result (spec.Served options.now (W.draws words.new) (L.closed listener.old) (L.closed listener.new) (Sp.faults spawner.old) (Sp.faults spawner.new) (L.given listener.new) (Si.held sink.old) (Si.held sink.new)) }
+    ensures back { spec.GivesBack options.now (W.draws words.new) (L.closed listener.old) (L.closed listener.new) (Sp.faults spawner.old) (Sp.faults spawner.new) (L.given listener.new) }
+    ensures part { OnErr result (spec.WritesFront options.now (Si.held sink.old) (Si.held sink.new)) }
+    ensures lined { IfErr result (λ why. why ≡ Stop.Listener → spec.WritesWhole options.now (Si.held sink.old) (Si.held sink.new)) }
+    ensures cause { MatchResult result (λ _. Si.faults sink.new ≡ Si.faults sink.old)
+        (λ why. spec.CountsStop why (L.faults listener.old) (L.faults listener.new) (Si.faults sink.old) (Si.faults sink.new)) }
+{
+    serve_sized::<Brand, S, R, Cl, G, Si, L, W, Sp>(
+        machine, options, sink, listener, words, spawner,
+    )
+}
