@@ -9,4 +9,5 @@ mod reach;
 mod registry;
 mod waiting;
 
+pub use reach::on;
 pub use registry::WatchRegistry;

@@ -1,0 +1,3 @@
+pub mod Waits
+pub mod Starts
+pub mod Polls
