@@ -9,9 +9,9 @@
 //! An empty text, list or session is `-`; the items of a list are parted by commas.
 
 use crate::words::{
-    Words, next_bytes, next_id, next_number, next_option, next_text, next_texts, text,
+    Words, next_bytes, next_id, next_number, next_option, next_text, next_texts, status, text,
 };
-use cat_model::{Behavior, Bytes, Command, List, NewCheck, NewService, Status, Text, TxnOp, Verb};
+use cat_model::{Behavior, Bytes, Command, List, NewCheck, NewService, Text, TxnOp, Verb};
 use std::alloc::Global;
 
 /// The command that the words say, if they say one.
@@ -108,15 +108,6 @@ fn unlock(key: Text, value: Bytes, words: &mut Words) -> Option<Command> {
     })
 }
 
-fn status(word: &str) -> Option<Status> {
-    match word {
-        "passing" => Some(Status::Passing),
-        "warning" => Some(Status::Warning),
-        "critical" => Some(Status::Critical),
-        _ => None,
-    }
-}
-
 fn service(alloc: Global, words: &mut Words) -> Option<NewService> {
     Some(NewService {
         id: next_text(alloc, words)?,
@@ -144,28 +135,52 @@ fn check(alloc: Global, words: &mut Words) -> Option<NewCheck> {
 fn register(alloc: Global, words: &mut Words) -> Option<Command> {
     let node = next_text(alloc, words)?;
     let address = next_text(alloc, words)?;
-    let (service, checks) = parts(alloc, words)?;
+    let parts = parts(alloc, words)?;
     Some(Command::Register {
         node,
         address,
-        service,
-        checks,
+        service: parts.service,
+        checks: parts.checks,
     })
 }
 
 // The service and the checks of a registration.
-fn parts(alloc: Global, words: &mut Words) -> Option<(Option<NewService>, List<NewCheck>)> {
-    let mut given = None;
-    let mut checks = List::new(alloc);
+#[derive(Drop)]
+struct RegisterParts {
+    service: Option<NewService>,
+    checks: List<NewCheck>,
+}
+
+fn parts(alloc: Global, words: &mut Words) -> Option<RegisterParts> {
+    let mut parts = RegisterParts {
+        service: None,
+        checks: List::new(alloc),
+    };
     for _ in 0..u64::MAX {
-        match words.next() {
-            None => break,
-            Some("service") => given = Some(service(alloc, words)?),
-            Some("check") => checks.push(check(alloc, words)?).ok()?,
-            Some(_) => return None,
-        }
+        let Some(kind) = words.next() else {
+            break;
+        };
+        put_part(alloc, &mut parts, kind, words)?;
     }
-    Some((given, checks))
+    Some(parts)
+}
+
+fn put_part(alloc: Global, parts: &mut RegisterParts, kind: &str, words: &mut Words) -> Option<()> {
+    match kind {
+        "service" => put_service(alloc, &mut parts.service, words),
+        "check" => put_check(alloc, &mut parts.checks, words),
+        _ => None,
+    }
+}
+
+fn put_service(alloc: Global, given: &mut Option<NewService>, words: &mut Words) -> Option<()> {
+    *given = Some(service(alloc, words)?);
+    Some(())
+}
+
+fn put_check(alloc: Global, checks: &mut List<NewCheck>, words: &mut Words) -> Option<()> {
+    let check = check(alloc, words)?;
+    checks.push(check).ok()
 }
 
 fn deregister(alloc: Global, words: &mut Words) -> Option<Command> {

@@ -13,7 +13,7 @@ mod queries;
 mod shown;
 mod words;
 
-use crate::playing::play;
+use crate::playing::{Difference, play};
 use anyhow::{Context, Result};
 use std::fs;
 use std::process::ExitCode;
@@ -35,19 +35,27 @@ fn main(rt: HostRuntime) -> Result<ExitCode> {
 
 // Plays the case of this name, prints its line, and says whether it is as written.
 fn is_as_written(rt: &HostRuntime, name: &str) -> Result<bool> {
-    let alloc = rt.alloc();
-    let path = format!(in alloc; "{name}.case")?;
-    let text = fs::read_to_string(rt, &path).context(path)?;
-    match play(alloc, text.as_str())? {
+    let text = text_of(rt, name)?;
+    match play(rt.alloc(), text.as_str())? {
         None => {
             println!(rt; "{name} as written")?;
             Ok(true)
         }
         Some(difference) => {
-            let line = difference.line;
-            let is = difference.is.as_str();
-            println!(rt; "{name} differs at line {line}, which gives {is}")?;
+            print_difference(rt, name, &difference)?;
             Ok(false)
         }
     }
+}
+
+fn text_of(rt: &HostRuntime, name: &str) -> Result<String> {
+    let path = format!(in rt.alloc(); "{name}.case")?;
+    fs::read_to_string(rt, &path).context(path)
+}
+
+fn print_difference(rt: &HostRuntime, name: &str, difference: &Difference) -> Result<()> {
+    let line = difference.line;
+    let is = difference.is.as_str();
+    println!(rt; "{name} differs at line {line}, which gives {is}")?;
+    Ok(())
 }

@@ -2,7 +2,7 @@ ghost use Rattle.std.specs.Prelude.{◌≡◌, ◌<◌};
 
 use crate::words::Words;
 use crate::{commands, queries, shown};
-use cat_model::{Answer, Memory, Query, Steps};
+use cat_model::{Answer, Command, Memory, Query, Steps};
 use catalog_query::{View, chans, evaluate};
 use catalog_store::{Store, is_taken};
 use std::alloc::Global;
@@ -19,17 +19,38 @@ pub struct Difference {
 /// Plays the lines of a case over a new store, and gives the first that differs.
 pub fn play(alloc: Global, text: &str) -> Result<Option<Difference>, Memory> {
     let mut store = Store::new(alloc)?;
+    first_difference(alloc, &mut store, text)
+}
+
+fn first_difference(
+    alloc: Global,
+    store: &mut Store,
+    text: &str,
+) -> Result<Option<Difference>, Memory> {
     let mut line = 0u64;
     for words in text.lines() {
         line = line.saturating_add(1);
-        if let Some((said, wanted)) = words.split_once(" => ") {
-            let is = given(alloc, &mut store, said)?;
-            if is.as_str() != wanted {
-                return Ok(Some(Difference { line, is }));
-            }
+        if let Some(is) = differing(alloc, store, words)? {
+            return Ok(Some(Difference { line, is }));
         }
     }
     Ok(None)
+}
+
+// What a line gives, where something else is written behind it.
+fn differing(alloc: Global, store: &mut Store, line: &str) -> Result<Option<String>, Memory> {
+    match line.split_once(" => ") {
+        None => Ok(None),
+        Some((said, wanted)) => Ok(other_than(wanted, given(alloc, store, said)?)),
+    }
+}
+
+fn other_than(wanted: &str, is: String) -> Option<String> {
+    if is.as_str() == wanted {
+        None
+    } else {
+        Some(is)
+    }
 }
 
 // What a line gives: a query after `?` its answer, a query after `^` its channels, and a command what it does.
@@ -52,14 +73,18 @@ fn unread(alloc: Global) -> Result<String, Memory> {
 
 // Applies a command at the next position.
 fn apply(alloc: Global, store: &mut Store, words: &mut Words) -> Result<String, Memory> {
-    let Some(command) = commands::read(alloc, words) else {
-        return unread(alloc);
-    };
+    match commands::read(alloc, words) {
+        None => unread(alloc),
+        Some(command) => applied(alloc, store, &command),
+    }
+}
+
+fn applied(alloc: Global, store: &mut Store, command: &Command) -> Result<String, Memory> {
     let position = store.length().saturating_add(1);
-    if position > 262_144 || !is_taken(&command) {
+    if position > 262_144 || !is_taken(command) {
         return unread(alloc);
     }
-    let (answer, fired) = store.apply(alloc, position, &command)?;
+    let (answer, fired) = store.apply(alloc, position, command)?;
     Ok(shown::applied(alloc, &answer, &fired)?)
 }
 
@@ -74,10 +99,14 @@ fn view_of(store: &Store) -> View<'_> {
 }
 
 fn answer(alloc: Global, store: &Store, words: &mut Words) -> Result<String, Memory> {
-    let Some(query) = queries::read(alloc, words) else {
-        return unread(alloc);
-    };
-    let (answer, index) = evaluated(alloc, store, &query)?;
+    match queries::read(alloc, words) {
+        None => unread(alloc),
+        Some(query) => answered(alloc, store, &query),
+    }
+}
+
+fn answered(alloc: Global, store: &Store, query: &Query) -> Result<String, Memory> {
+    let (answer, index) = evaluated(alloc, store, query)?;
     Ok(shown::found(alloc, index, &answer)?)
 }
 
@@ -101,9 +130,13 @@ fn counted<L: Ledger>(
 }
 
 fn channels(alloc: Global, store: &Store, words: &mut Words) -> Result<String, Memory> {
-    let Some(query) = queries::read(alloc, words) else {
-        return unread(alloc);
-    };
-    let chans = chans(alloc, &view_of(store), &query)?;
+    match queries::read(alloc, words) {
+        None => unread(alloc),
+        Some(query) => hung(alloc, store, &query),
+    }
+}
+
+fn hung(alloc: Global, store: &Store, query: &Query) -> Result<String, Memory> {
+    let chans = chans(alloc, &view_of(store), query)?;
     Ok(shown::hangs(alloc, chans.as_slice())?)
 }

@@ -4,8 +4,8 @@
 //! `health-checks NAME`, `health-node NODE`, `health-state STATUS|any`; `key KEY`, `prefix PREFIX`,
 //! `keys PREFIX SEPARATOR`; `session ID`, `sessions-of NODE`, `query ID`.
 
-use crate::words::{Words, next_id, next_text, next_texts};
-use cat_model::{Query, Status, Text};
+use crate::words::{Words, next_id, next_text, next_texts, status};
+use cat_model::{Query, Text};
 use std::alloc::Global;
 
 /// The query that the words say, if they say one.
@@ -33,14 +33,13 @@ fn prepared(words: &mut Words) -> Option<Query> {
 }
 
 fn health_state(word: &str) -> Option<Query> {
-    let state = match word {
-        "any" => None,
-        "passing" => Some(Status::Passing),
-        "warning" => Some(Status::Warning),
-        "critical" => Some(Status::Critical),
-        _ => return None,
-    };
-    Some(Query::HealthState { state })
+    if word == "any" {
+        return Some(Query::HealthState { state: None });
+    }
+    let status = status(word)?;
+    Some(Query::HealthState {
+        state: Some(status),
+    })
 }
 
 // A query of one name.
