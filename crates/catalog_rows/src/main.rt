@@ -1,32 +1,66 @@
-//! Plays the worked scripts of the folder where it runs, and says of each whether it writes what it should and ends as
-//! it should. They lie in `data/`.
+//! Plays the worked scripts of the folder where it runs and serves its worked connections, and says of each whether it
+//! writes what it should and ends as it should. They lie in `data/`.
 //!
-//! `rows.txt` has the name of a row in each line. Of the row `NAME`, `NAME.script` is the script, `NAME.out` the text
+//! `rows.txt` has the name of a script in each line. Of the script `NAME`, `NAME.script` is its text, `NAME.out` the text
 //! that it should write, and `NAME.status` the status with which it should end.
+//!
+//! Each line of `connections.txt` has the name of a server's run and how its connections are served: `once`, the bytes
+//! of each in one piece; `cut`, in pieces of each size from 1 byte on, which all are answered alike; or `faults`, where
+//! each read and write of a connection fails once, after which a first part of the answers is written. Of the run `NAME`,
+//! `NAME.words` has the words of the command line and, in its second line, the number of the job that is refused, or 0;
+//! `NAME.in1` has the bytes of the first connection and `NAME.said1` those that should be written to it, and so on;
+//! `NAME.out` and `NAME.status` are as those of a script.
 #![tactic(auto)]
 
 mod difference;
 mod playing;
 mod row;
+mod served_row;
+mod serving;
+mod ways;
 
 use crate::difference::first_difference;
 use crate::playing::play;
 use crate::row::{Row, read_row};
+use crate::ways::is_served_as_written;
 use anyhow::{Context, Result};
-use std::fs;
 use std::process::ExitCode;
+use std::sync::Wait;
+use std::thread::Threads;
+use std::{fs, time};
 
-fn main(rt: HostRuntime) -> Result<ExitCode> {
-    let names = fs::read_to_string(&rt, "rows.txt").context("rows.txt")?;
-    let mut as_written = 0u64;
-    let mut differing = 0u64;
-    for name in names.as_str().lines() {
-        if is_as_written(&rt, name)? {
-            as_written = as_written.saturating_add(1);
+/// How many rows were as written, and how many were not.
+#[derive(Clone, Copy)]
+struct Counts {
+    as_written: u64,
+    differing: u64,
+}
+
+impl Counts {
+    fn count(&mut self, is_as_written: bool) {
+        if is_as_written {
+            self.as_written = self.as_written.saturating_add(1);
         } else {
-            differing = differing.saturating_add(1);
+            self.differing = self.differing.saturating_add(1);
         }
     }
+}
+
+fn main(rt: HostRuntime) -> Result<ExitCode> {
+    let mut counts = Counts {
+        as_written: 0,
+        differing: 0,
+    };
+    for name in read_list(&rt, "rows.txt")?.as_str().lines() {
+        counts.count(is_as_written(&rt, rt, name)?);
+    }
+    for line in read_list(&rt, "connections.txt")?.as_str().lines() {
+        counts.count(is_served_right(&rt, rt, line)?);
+    }
+    let Counts {
+        as_written,
+        differing,
+    } = counts;
     println!(rt; "{as_written} as written, {differing} differ")?;
     Ok(if differing == 0 {
         ExitCode::SUCCESS
@@ -35,22 +69,41 @@ fn main(rt: HostRuntime) -> Result<ExitCode> {
     })
 }
 
+fn read_list(files: &HostRuntime, path: &'static str) -> Result<String> {
+    fs::read_to_string(files, path).context(path)
+}
+
+// Serves the connections that a line names, prints its line, and says whether all is as written.
+fn is_served_right<R: Threads + Wait + time::Clock + Copy + Send + Drop + 'static>(
+    files: &HostRuntime,
+    rt: R,
+    line: &str,
+) -> Result<bool> {
+    let right = is_served_as_written(files, rt, line)?;
+    let verdict = if right { "as written" } else { "differs" };
+    println!(files; "{line} {verdict}")?;
+    Ok(right)
+}
+
 // Plays the row of this name, prints its line, and says whether it is as written.
-fn is_as_written(rt: &HostRuntime, name: &str) -> Result<bool> {
-    let alloc = rt.alloc();
+fn is_as_written<R: Threads + Wait + time::Clock + Copy + Send + Drop + 'static>(
+    files: &HostRuntime,
+    rt: R,
+    name: &str,
+) -> Result<bool> {
     let Row {
         script,
         text,
         status,
-    } = read_row(rt, name)?;
-    let played = play(alloc, script);
+    } = read_row(files, name)?;
+    let played = play(rt, files.alloc(), script)?;
     match first_difference(&played, status, &text) {
         None => {
-            println!(rt; "{name} as written")?;
+            println!(files; "{name} as written")?;
             Ok(true)
         }
         Some(difference) => {
-            println!(rt; "{name} differs: {difference}")?;
+            println!(files; "{name} differs: {difference}")?;
             Ok(false)
         }
     }

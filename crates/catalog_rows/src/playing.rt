@@ -1,7 +1,12 @@
-use cat_model::Bytes;
+use anyhow::Result;
+use cat_model::{Bytes, List};
 use cat_outside::{SureSink, SureSource};
-use catalog_top::run;
+use catalog_top::{Machine, run};
+use serve_outside::{CountWords, MemListener, MemSpawner, SetClock, SleepGate};
 use std::alloc::Global;
+use std::sync::Wait;
+use std::thread::Threads;
+use std::time;
 
 /// How a script ended, and what it wrote.
 #[derive(Drop)]
@@ -18,12 +23,33 @@ impl Played {
 }
 
 /// Plays the script from a source and into a sink in memory.
-pub fn play(alloc: Global, script: Vec<u8>) -> Played {
-    let mut source = SureSource::new(Bytes::from(script));
+pub fn play<R: Threads + Wait + time::Clock + Copy + Send + Drop + 'static>(
+    rt: R,
+    alloc: Global,
+    script: Vec<u8>,
+) -> Result<Played> {
     let mut sink = SureSink::new(alloc);
-    let outcome = run(alloc, &["script"], &mut source, &mut sink);
-    Played {
+    let outcome = run(
+        machine(rt, alloc),
+        &["script"],
+        &mut SureSource::new(Bytes::from(script)),
+        &mut sink,
+        &mut MemListener::new(alloc, Vec::new(alloc), List::new(alloc))?,
+        &mut CountWords::new(),
+        &mut MemSpawner::new(List::new(alloc)),
+    );
+    Ok(Played {
         status: outcome.status,
         sink,
+    })
+}
+
+/// The machine, with a clock that stands still.
+pub fn machine<R: time::Clock + Copy>(rt: R, alloc: Global) -> Machine<R, SetClock, SleepGate<R>> {
+    Machine {
+        rt,
+        alloc,
+        clock: SetClock { ms: 0 },
+        gate: SleepGate::new(rt),
     }
 }

@@ -4,7 +4,10 @@ use crate::playing::{Failing, NONE_FAILS, play};
 use cat_model::Bytes;
 use std::alloc::Global;
 use std::process::Abort;
+use std::sync::Wait;
 use std::test::Fail;
+use std::thread::Threads;
+use std::time;
 
 /// The words of a run, the calls that fail, and the status and the text that are wanted.
 #[derive(Clone, Copy)]
@@ -66,13 +69,13 @@ static PAST_A_LIMIT: Ending = Ending {
 };
 
 // Runs over this script, and expects this ending, which has a report only at status 0.
-fn expect_ending(
-    rt: &impl Abort,
+fn expect_ending<R: Abort + Threads + Wait + time::Clock + Copy + Send + Drop + 'static>(
+    rt: R,
     alloc: Global,
     script: Bytes,
     ending: &Ending,
 ) -> Result<(), Fail> {
-    let played = play(alloc, ending.words, script, ending.failing)?;
+    let played = play(rt, alloc, ending.words, script, ending.failing)?;
     assert_eq!(rt;
         played.outcome.status,
         ending.status,
@@ -88,7 +91,7 @@ fn expect_ending(
 fn wrong_words_and_faults(rt: HostRuntime) -> Result<(), Fail> {
     for ending in &ENDINGS {
         let script = Bytes::new(rt.alloc(), PUT_AND_GET.as_bytes())?;
-        expect_ending(&rt, rt.alloc(), script, ending)?;
+        expect_ending(rt, rt.alloc(), script, ending)?;
     }
     Ok(())
 }
@@ -98,7 +101,7 @@ fn wrong_words_and_faults(rt: HostRuntime) -> Result<(), Fail> {
 fn scripts_past_a_limit(rt: HostRuntime) -> Result<(), Fail> {
     for (byte, count) in [(b';', 16_777_217), (b'\n', 1_048_577)] {
         let script = Bytes::from(vec![in rt.alloc(); byte; count]?);
-        expect_ending(&rt, rt.alloc(), script, &PAST_A_LIMIT)?;
+        expect_ending(rt, rt.alloc(), script, &PAST_A_LIMIT)?;
     }
     Ok(())
 }

@@ -2,8 +2,12 @@
 
 use cat_model::{Bytes, List, Memory};
 use cat_outside::{MemSink, MemSource};
-use catalog_top::{Outcome, run};
+use catalog_top::{Machine, Outcome, run};
+use serve_outside::{CountWords, MemListener, MemSpawner, SetClock, SleepGate};
 use std::alloc::{AllocError, Global};
+use std::sync::Wait;
+use std::thread::Threads;
+use std::time;
 
 /// The calls of the source and of the sink that fail.
 #[derive(Clone, Copy)]
@@ -44,15 +48,30 @@ fn words_of(alloc: Global, words: &str) -> Result<Vec<&str>, AllocError> {
 }
 
 /// Runs these words over a script.
-pub(crate) fn play(
+pub(crate) fn play<R: Threads + Wait + time::Clock + Copy + Send + Drop + 'static>(
+    rt: R,
     alloc: Global,
     words: &str,
     script: Bytes,
     failing: Failing,
 ) -> Result<Played, Memory> {
+    let machine = Machine {
+        rt,
+        alloc,
+        clock: SetClock { ms: 0 },
+        gate: SleepGate::new(rt),
+    };
     let mut source = MemSource::new(script, listed(alloc, failing.read)?);
     let mut sink = MemSink::new(alloc, listed(alloc, failing.write)?);
     let words = words_of(alloc, words)?;
-    let outcome = run(alloc, &words, &mut source, &mut sink);
+    let outcome = run(
+        machine,
+        &words,
+        &mut source,
+        &mut sink,
+        &mut MemListener::new(alloc, Vec::new(alloc), List::new(alloc))?,
+        &mut CountWords::new(),
+        &mut MemSpawner::new(List::new(alloc)),
+    );
     Ok(Played { outcome, sink })
 }

@@ -5,7 +5,10 @@ use cat_model::Bytes;
 use catalog_top::Report;
 use std::alloc::Global;
 use std::process::Abort;
+use std::sync::Wait;
 use std::test::Fail;
+use std::thread::Threads;
+use std::time;
 
 /// A script, and the numbers of its report: of its events, of its requests, of the entries of the agreed log and of
 /// those that each server has applied, and the requests without a reply.
@@ -95,12 +98,16 @@ fn expect_numbers(rt: &impl Abort, report: &Report, wanted: &Reported) {
     assert!(rt; !report.marks.as_slice().is_empty());
 }
 
-fn expect_report(rt: &impl Abort, alloc: Global, wanted: &Reported) -> Result<(), Fail> {
+fn expect_report<R: Abort + Threads + Wait + time::Clock + Copy + Send + Drop + 'static>(
+    rt: R,
+    alloc: Global,
+    wanted: &Reported,
+) -> Result<(), Fail> {
     let script = Bytes::new(alloc, wanted.script.as_bytes())?;
-    let played = play(alloc, "script", script, NONE_FAILS)?;
+    let played = play(rt, alloc, "script", script, NONE_FAILS)?;
     assert_eq!(rt; played.outcome.status, 0, "of {:?}", wanted.script);
     match &played.outcome.report {
-        Some(report) => expect_numbers(rt, report, wanted),
+        Some(report) => expect_numbers(&rt, report, wanted),
         None => assert!(rt; false),
     }
     Ok(())
@@ -109,7 +116,7 @@ fn expect_report(rt: &impl Abort, alloc: Global, wanted: &Reported) -> Result<()
 #[test]
 fn reports_have_their_numbers(rt: HostRuntime) -> Result<(), Fail> {
     for wanted in &REPORTED {
-        expect_report(&rt, rt.alloc(), wanted)?;
+        expect_report(rt, rt.alloc(), wanted)?;
     }
     Ok(())
 }

@@ -1,0 +1,130 @@
+//! That a cluster over stores in memory may go to another thread, as the turns of a server ask. Each part of it has a
+//! function of its own, since a search over the whole at once gives up.
+#![tactic(auto)]
+
+ghost use denote.Param.Send.{IsSend};
+ghost use Rattle.kv_table.specs.contracts.table.KvTable as kv;
+ghost use Rattle.catalog_table.specs.contracts.table.CatalogTable as catalog;
+ghost use Rattle.session_table.specs.contracts.table.SessionTable as sessions;
+ghost use Rattle.query_table.specs.contracts.table.QueryTable as queries;
+ghost use Rattle.table_index.specs.contracts.index.TableIndex as indexes;
+ghost use Rattle.cat_model.specs.contracts.command.Command as command;
+ghost use Rattle.catalog_store.specs.contracts.store.Store as store;
+ghost use Rattle.cat_model.specs.contracts.applied.Applied as applied;
+ghost use Rattle.replica.specs.contracts.replica.Replica as replica;
+ghost use Rattle.open_requests.specs.contracts.requests.Requests as requests;
+ghost use Rattle.cat_outside.specs.contracts.mem_keeper.MemKeeper as mem_keeper;
+ghost use Rattle.cat_outside.specs.contracts.mem_keeper.MemKeeperKeeper.TheImpl.{ghosts};
+ghost use Rattle.raft_world.specs.contracts.world.World as world;
+ghost use Rattle.cluster_servers.specs.contracts.servers.Servers as servers;
+ghost use Rattle.cluster.specs.contracts.cluster.Cluster as cluster;
+
+use cat_model::{Applied, Command};
+use cat_outside::MemKeeper;
+use catalog_store::Store;
+use catalog_table::CatalogTable;
+use cluster::Cluster;
+use cluster_servers::Servers;
+use kv_table::KvTable;
+use open_requests::Requests;
+use query_table::QueryTable;
+use raft_world::World;
+use replica::Replica;
+use session_table::SessionTable;
+use table_index::TableIndex;
+
+// What may go to another thread, as clauses name it.
+fn sends<T: Send + 'static>()
+    ensures { IsSend T.row }
+{}
+
+fn kv_sends()
+    ensures { IsSend kv.the_row }
+{
+    sends::<KvTable>();
+}
+
+fn catalog_sends()
+    ensures { IsSend catalog.the_row }
+{
+    sends::<CatalogTable>();
+}
+
+fn sessions_send()
+    ensures { IsSend sessions.the_row }
+{
+    sends::<SessionTable>();
+}
+
+fn queries_send()
+    ensures { IsSend queries.the_row }
+{
+    sends::<QueryTable>();
+}
+
+fn indexes_send()
+    ensures { IsSend indexes.the_row }
+{
+    sends::<TableIndex>();
+}
+
+fn commands_send()
+    ensures { IsSend command.the_row }
+{
+    sends::<Command>();
+}
+
+fn stores_send()
+    ensures { IsSend store.the_row }
+{
+    kv_sends();
+    catalog_sends();
+    sessions_send();
+    queries_send();
+    indexes_send();
+    commands_send();
+    sends::<Store>();
+}
+
+fn applieds_send()
+    ensures { IsSend applied.the_row }
+{
+    sends::<Applied>();
+}
+
+fn replicas_send()
+    ensures { IsSend replica.the_row }
+{
+    stores_send();
+    applieds_send();
+    sends::<Replica>();
+}
+
+fn requests_send()
+    ensures { IsSend requests.the_row }
+{
+    sends::<Requests>();
+}
+
+fn worlds_send()
+    ensures { IsSend (world.the_row mem_keeper.the_row ghosts) }
+{
+    sends::<World<MemKeeper>>();
+}
+
+fn servers_send()
+    ensures { IsSend (servers.the_row mem_keeper.the_row ghosts) }
+{
+    replicas_send();
+    worlds_send();
+    sends::<Servers<MemKeeper>>();
+}
+
+/// A law, which does nothing: a cluster over stores in memory may go to another thread.
+pub fn clusters_send()
+    ensures { IsSend (cluster.the_row mem_keeper.the_row ghosts) }
+{
+    servers_send();
+    requests_send();
+    sends::<Cluster<MemKeeper>>();
+}
