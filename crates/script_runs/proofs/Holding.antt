@@ -19,6 +19,8 @@ use Rattle.cluster_rules.proofs.Waiting.{all_wait}
 use Rattle.cluster_rules.proofs.Whole.{run_whole}
 use Rattle.script_runs.specs.Lines.{Said}
 use Rattle.script_runs.specs.Plays.{Ending, Plays, over, breaks, skips, makes, settles, refuses, misfits, emptied, settled}
+use Rattle.read_rules.proofs.Fresh.{reads_fresh}
+use Rattle.read_rules.proofs.Waiting.{run_waits}
 use Rattle.script_runs.specs.Holds.{Holds, IsFirstStart}
 use Rattle.script_runs.proofs.Indexes.{opened_tells}
 use Rattle.script_runs.proofs.Onward.{Onward, on_same, on_then, step_on, emptied_on, settled_on}
@@ -133,4 +135,6 @@ run_holds says number lines start c outs end s p = by (plays_run says number lin
           none_behind = λ server. run_whole start i true moves c r refl server;
           waits = λ server up. all_wait c sound server (run_whole start i true moves c r refl server) up;
           taken = none_left;
+          reads_wait = run_waits start i moves c r;
+          reads_fresh = reads_fresh c sound;
         }

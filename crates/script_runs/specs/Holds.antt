@@ -21,6 +21,7 @@ use Rattle.cluster_rules.specs.Due.{due}
 use Rattle.cluster_rules.specs.Legal.{StillWaits}
 use Rattle.cluster_rules.specs.Reached.{Move, Reached, AreUnarmed, moves_of}
 use Rattle.cluster_rules.specs.Sound.{IsAmong, NeverEnters, OutIsSound, held_times, one_if, out_times}
+use Rattle.read_rules.specs.Reads.{ReadsAreFresh, ReadsWait}
 
 -- A start of 1 to 7 servers and up to 64 agents, from empty stores of which none is to fail.
 pub record IsFirstStart (c : Cluster) : Type 0 where
@@ -63,3 +64,6 @@ pub record Holds (start : Cluster) (outs : List Out) (c : Cluster) : Type 0 wher
   pub none_behind : (server : ℕ) → due server c ≡ None
   pub waits : (server : ℕ) → (node_of c.world server).halted ≡ false → Each (λ (h : Pending). h.server ≡ server → StillWaits c server h h.stand) c.held
   pub taken : c.tray ≡ []
+  -- a read was answered with an index above the one given, or after its full wait, and as fresh as its mode asks
+  pub reads_wait : ReadsWait c.past
+  pub reads_fresh : ReadsAreFresh c

@@ -5,6 +5,8 @@ use Rattle.raft_model.proofs.Theorems.{well_formed, first_run}
 use Rattle.cluster_rules.specs.Cluster.{Cluster}
 use Rattle.cluster_rules.specs.Reached.{Move, Reached, at_start, by_event, by_taking, by_handing, by_settling, by_advancing}
 use Rattle.cluster_rules.proofs.Reached.{run_sound}
+use Rattle.read_rules.proofs.Fresh.{reads_fresh}
+use Rattle.read_rules.proofs.Waiting.{run_waits}
 use Rattle.script_runs.specs.Holds.{IsFirstStart}
 use Rattle.script_runs.proofs.Holding.{a_start}
 use Rattle.script_runs.proofs.Indexes.{opened_tells}
@@ -49,4 +51,6 @@ holds size c s =
       formed = formed;
       once = first_run c.world (of_first_run s.start c s.begins (run_goes s.start s.whole s.moves c s.reached first.parts.world));
       indexes = opened_tells c.world.agreed formed.opens;
+      reads_fresh = reads_fresh c sound;
+      reads_wait = λ start moves begins reached. run_waits start (a_start start begins) moves c reached;
     }
