@@ -1,4 +1,5 @@
-//! Tests of the outside of a server, in memory and over the machine. There is no code beside them.
+//! Tests of the outside of a server, in memory and over the machine, and of the lock that gives turns. There is no code
+//! beside them.
 #![tactic(auto)]
 
 #[cfg(test)]
@@ -9,3 +10,5 @@ mod links;
 mod machine;
 #[cfg(test)]
 mod starting;
+#[cfg(test)]
+mod turns;

@@ -7,6 +7,7 @@ mod knowledge;
 mod lock;
 mod plays;
 mod turn;
+mod waiting;
 
 pub use history::History;
 pub use knowledge::Knowledge;

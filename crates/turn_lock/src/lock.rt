@@ -3,11 +3,12 @@ ghost use Rattle.std.specs.Prelude.{◌≡◌, ℕ, ◌<◌, ◌≤◌, ◌-◌,
 use crate::history::History;
 use crate::knowledge::Knowledge;
 use crate::plays::{AwaitTurn, DrawTicket, JoinPasses, Leave, SplitPass, Turns};
+use crate::waiting::WaitingRooms;
 use atomic_table::{Refused, Seat, Table};
 use std::alloc::{AllocError, AllocFailed, Global};
+use std::hint::spin_loop;
 use std::snapshot::Snapshot;
 use std::sync::Wait;
-use std::thread;
 
 /// The pass has a single share, and none to give.
 #[derive(Debug, Clone, Copy, PartialEq, Eq)]
@@ -21,6 +22,9 @@ const SERVED: usize = 1;
 /// The slot of the lock's table in which the state lies while nobody has the turn.
 const STATE: usize = 0;
 
+/// How often a waiter whose call is the next one looks before he sleeps. All looks together take some microseconds.
+const LOOKS: u32 = 200;
+
 /// The most shares that one pass gives to another.
 const MOST_GIVEN: u64 = 1 << 32;
 
@@ -28,6 +32,7 @@ const MOST_GIVEN: u64 = 1 << 32;
 #[derive(Drop)]
 pub struct HistoryLock<S: History> {
     pub table: Table<Option<S>, Knowledge<S::Item>, (), Turns, Global>,
+    rooms: WaitingRooms,
     ghost sized: { (table.shared.table_id.words ≡ 2) × (table.shared.table_id.slots ≡ 1) },
 }
 
@@ -68,6 +73,9 @@ impl<S: History> HistoryLock<S> {
         ensures shares { IfOk result (λ r. r.1.shares ≡ all_shares) }
         ensures no_memory { IfErr result (λ r. r.0 ≡ state) }
     {
+        let Ok(rooms) = WaitingRooms::new(alloc) else {
+            return Err((state, AllocError));
+        };
         let mut slots = Vec::new(alloc);
         if let Err(failed) = slots.push(Some(state)) {
             let AllocFailed { value } = failed;
@@ -76,7 +84,7 @@ impl<S: History> HistoryLock<S> {
         }
         match Table::new(alloc, &[0, 0], slots, &()) {
             Ok((table, seat)) => Ok((
-                HistoryLock { table },
+                HistoryLock { table, rooms },
                 Pass {
                     seat,
                     shares: 1 << 63,
@@ -86,7 +94,7 @@ impl<S: History> HistoryLock<S> {
         }
     }
 
-    // Draws a ticket, waits until it is served, and takes the state out of its slot.
+    // Draws a ticket, waits until it is served, and takes the state out of its slot. Of the waiting no pass learns anything.
     fn wait_turn<R: Wait>(&self, rt: &R, seat: &mut Seat<Option<S>, Knowledge<S::Item>>) -> S
         requires own { seat.old.table_id ≡ self.now.table.shared.table_id }
         requires free { IsFree seat.old × (0 < seat.old.me.0.shares) }
@@ -104,9 +112,48 @@ impl<S: History> HistoryLock<S> {
                     None => unreachable!(),
                 }
             }
-            thread::yield_now();
+            self.wait_for_call(rt, ticket);
         }
         unreachable!()
+    }
+
+    // Waits until the ticket may be called: asleep in its room, and, where its call is the next, awake for a while. It may
+    // return before the call, so whoever calls it looks again.
+    //
+    // Nobody sleeps through his call. `give` first calls a ticket, by adding to the word, and then looks whether anybody
+    // is in the ticket's room. Whoever waits first enters the room, and then looks at the word. All these steps come in
+    // one order. So his look finds the call, and he does not sleep, or his entering comes before the call, and `give`
+    // finds that he is in the room and wakes it: a wake also ends a sleep that was announced and has not begun. The call
+    // does not pass him by: the word stays at his ticket until he gives the turn back. No ticket is given up, since
+    // `take` returns with the turn or not at all; behind a turn that is never given back all wait for ever.
+    //
+    // A call wakes its own room and the next ticket's, so that whoever comes next is awake when his turn comes. In a room
+    // are those alone whose tickets leave the same rest, so of 64 that wait in a row a call wakes at most two.
+    fn wait_for_call<R: Wait>(&self, rt: &R, ticket: u64) {
+        for _ in 0..LOOKS {
+            match ticket.wrapping_sub(self.served()) {
+                0 => return,
+                1 => spin_loop(),
+                _ => break,
+            }
+        }
+        let key = self.rooms.enter(ticket);
+        if self.served() == ticket {
+            drop(key);
+        } else {
+            key.wait(rt);
+        }
+    }
+
+    // The ticket that is served. No pass learns anything by it.
+    fn served(&self) -> u64 {
+        self.table.shared.peek(SERVED)
+    }
+
+    // Wakes whoever has this ticket, which was called before, and whoever has the next one.
+    fn wake(&self, ticket: u64) {
+        self.rooms.wake(ticket);
+        self.rooms.wake(ticket.wrapping_add(1));
     }
 
     /// Waits for the turn. The state's list goes on from all that the pass has seen, and what was added since neither
@@ -129,7 +176,8 @@ impl<S: History> HistoryLock<S> {
         }
     }
 
-    /// Gives the turn back. The numbers that were opened in it are then the pass's own.
+    /// Gives the turn back, and wakes whoever waits for it. The numbers that were opened in it are then the
+    /// pass's own.
     pub fn give(&self, turn: Turn<S>, pass: &mut Pass<S>)
         requires own { pass.old.seat.table_id ≡ self.now.table.shared.table_id }
         requires taken { HasTurn pass.old.seat × (turn.taken.value ≡ pass.old.seat) }
@@ -144,7 +192,8 @@ impl<S: History> HistoryLock<S> {
         let shared = &self.table.shared;
         let before = shared.exchange(&mut pass.seat, STATE, Some(state));
         let None = before else { unreachable!() };
-        shared.fetch_add::<Leave>(&mut pass.seat, SERVED, 1);
+        let served = shared.fetch_add::<Leave>(&mut pass.seat, SERVED, 1);
+        self.wake(served.wrapping_add(1));
     }
 
     /// A new pass, which has seen as much as this one and opened no number. Half of the shares are given to it, though

@@ -4,8 +4,8 @@ use Rattle.turn_lock.specs.declared.knowledge.Knowledge.{Knowledge}
 use Rattle.turn_lock.proofs.Keeps.{leaves, MayAdd}
 use Rattle.turn_lock.proofs.lock.HistoryLock.give.Goals as goal
 
-pub fetch_add-requires : goal.fetch_add-requires
-fetch_add-requires g c =
+pub fetch_add-served-requires : goal.fetch_add-served-requires
+fetch_add-served-requires g c =
     let e = c.exchange-before.ensures.3 in let taken = c.requires.taken in let may = c.requires.may in
     let state = c.args.turn.state in
     let holds = ap (λ m. m.1) e ∙ ap (λ (l : List (ℕ × Option g.row.S.Denot)). (0, Some state) ∷ rest l) taken.0.0 in
