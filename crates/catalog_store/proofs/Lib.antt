@@ -9,3 +9,4 @@ mod Loops
 mod KeySteps
 mod Makings
 mod Settings
+pub mod Unbroken

@@ -148,7 +148,7 @@ fn apply_rows(
 {
     tables.catalog.in_order();
     let (answer, chans) = change_rows(alloc, tables, position, command, node)?;
-    let gone = sessions::broken_of(alloc, &tables.sessions, &tables.catalog, node)?;
+    let gone = sessions::broken_by(alloc, &tables.sessions, &tables.catalog, node, command)?;
     let ended = end(alloc, tables, position, gone.as_slice())?;
     let chans = joined(chans, ended.chans)?;
     Ok((

@@ -23,9 +23,9 @@ use Rattle.catalog_table.specs.Steps.{put_rows, take_service, take_check, take_n
 use Rattle.catalog_table.proofs.Parts.{others_put, filter_weaker}
 
 -- the new list is in order, and has the other part of the old one
-record Keeps {K R : Type 0} (cmp : K → K → Ordering) (key : R → K) (on : K → Bool) (old new : List R) : Type 0 where
-  order : Ascends cmp key new
-  others : filter (λ r. not (on (key r))) new ≡ filter (λ r. not (on (key r))) old
+pub record Keeps {K R : Type 0} (cmp : K → K → Ordering) (key : R → K) (on : K → Bool) (old new : List R) : Type 0 where
+  pub order : Ascends cmp key new
+  pub others : filter (λ r. not (on (key r))) new ≡ filter (λ r. not (on (key r))) old
 
 module _ {K R : Type 0} (cmp : K → K → Ordering) (key : R → K) (total : IsTotalOrder cmp) (exact : CmpEqualImpliesEq cmp) (on : K → Bool) where
   keeps_put : (new : R) → on (key new) ≡ true → (rows : List R) → Ascends cmp key rows → Keeps cmp key on rows (put cmp key new rows)
@@ -89,7 +89,7 @@ module _ (i : ℕ) (node : List ℕ) where
   given_kept None rows h = keeps_same pair_cmp service_key pair_cmp_total exact_pair on_pair rows h
   given_kept (Some s) rows h = service_kept s rows h
 
-  check_kept : (c : NewCheck) (rows : List CheckRow) → Ascends pair_cmp check_key rows → Keeps pair_cmp check_key on_pair rows (put_check i node c rows)
+  pub check_kept : (c : NewCheck) (rows : List CheckRow) → Ascends pair_cmp check_key rows → Keeps pair_cmp check_key on_pair rows (put_check i node c rows)
   check_kept c rows h = go (check_at (node, c.id) rows)
     where
       fresh : ℕ → CheckRow

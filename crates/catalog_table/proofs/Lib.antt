@@ -1,9 +1,12 @@
 pub mod Counting
 pub mod Parts
 pub mod ServiceReads
-pub mod NamesOnce
+pub mod Naming
+pub mod Edits
+pub mod Reading
 pub mod Telling
 pub mod Keeping
+pub mod Touching
 pub mod Registering
 pub mod OtherLists
 pub mod Taking

@@ -54,7 +54,7 @@ module _ {K R : Type 0} (cmp : K → K → Ordering) (key : R → K) (exact : Cm
   none_above [] all = refl
   none_above (s ∷ rows) all = ap (λ o. cond (is_eq o) (s ∷ filter (λ q. is_eq (cmp k (key q))) rows) (filter (λ q. is_eq (cmp k (key q))) rows)) all.0 ∙ none_above rows all.1
 
-  one_row : (rows : List R) → Ascends cmp key rows → filter (λ s. is_eq (cmp k (key s))) rows ≡ cons_option (row_at cmp key k rows) []
+  pub one_row : (rows : List R) → Ascends cmp key rows → filter (λ s. is_eq (cmp k (key s))) rows ≡ cons_option (row_at cmp key k rows) []
   one_row [] asc = refl
   one_row (r ∷ rows) asc = go (is_eq (cmp k (key r))) refl (one_row rows asc.1)
     where

@@ -1,5 +1,5 @@
 -- What a change of the rows changes: which tables, and which service names' reads.
-use Rattle.std.specs.Prelude.{◌≡◌, ℕ, Bool, not, List, ◌&&◌, ◌||◌, filter}
+use Rattle.std.specs.Prelude.{◌≡◌, ℕ, Bool, not, List, ◌&&◌}
 use Rattle.std.specs.List.{IsDistinct}
 use Rattle.std.specs.Cmp.Lexicographic.{pointwise}
 use Rattle.cat_model.specs.Keys.{same_text}
@@ -32,13 +32,3 @@ pub record Tells (old new : Rows) (c : Changed) : Type 0 where
   pub names_once : IsDistinct same_text c.names
   pub vanished : (name : List ℕ) → is_among c.vanished name ≡ vanishes old new name
   pub vanished_once : IsDistinct same_text c.vanished
-
--- the same, told from the node's rows before and after and the names of their services
-pub record ByParts (before after new : Rows) (among : List (List ℕ)) (c : Changed) : Type 0 where
-  pub nodes : c.nodes ≡ not (pointwise same_node before.nodes after.nodes)
-  pub services : c.services ≡ not (pointwise same_service before.services after.services)
-  pub checks : c.checks ≡ not (pointwise same_check before.checks after.checks)
-  pub covers : (name : List ℕ) → is_among among name ≡ (is_named name before || is_named name after)
-  pub once : IsDistinct same_text among
-  pub names : c.names ≡ filter (reads_differ before after) among
-  pub vanished : c.vanished ≡ filter (λ name. not (is_named name new)) among

@@ -5,3 +5,5 @@ pub mod Steps
 pub mod Puts
 pub mod Filings
 pub mod Takes
+pub mod Edits
+pub mod Touching

@@ -1,6 +1,6 @@
 //! The rows of checks together with the index of those of each status.
 
-ghost use Rattle.std.specs.Prelude.{◌≡◌, ◌++◌, [], Some, IfOk, OnErr, OnOk, false, filter};
+ghost use Rattle.std.specs.Prelude.{◌≡◌, ◌&&◌, ◌++◌, [], Some, IfOk, OnErr, OnOk, false, filter};
 ghost use Rattle.std.specs.List.{cons_option};
 ghost use Rattle.std.specs.Option.{option_copied};
 ghost use Rattle.std.specs.Ordering.{is_eq, nat_cmp};
@@ -12,9 +12,10 @@ ghost use Rattle.row_table.specs.Filing.{is_place, place_of, unfiled};
 ghost use Rattle.catalog_table.specs.Filings.{rank, rank_of, ranked, FilesStatuses};
 
 use crate::copies::{all, checks_on, copy_of};
-use crate::same::is_same_status;
+use crate::same::{is_same_status, is_text};
 use crate::stated::{ByStatus, Stated, file, unfile};
 use cat_model::{CheckRow, List, Memory, Status, Text};
+use lists::kept;
 use row_table::{ByPair, Row, RowTable};
 use std::alloc::Global;
 use std::marker::Model;
@@ -191,6 +192,26 @@ fn filed_under(
     Ok(found)
 }
 
+// Those of the checks that are of the service.
+fn those_of(alloc: Global, checks: &[CheckRow], service: &str) -> Result<List<CheckRow>, Memory>
+    ensures { IfOk result (λ l. l ≡ filter (λ r. same_text r.service service.now) checks.now) }
+{
+    kept(alloc, checks, |r| is_text(&r.service, service))
+}
+
+// Copies of the checks of a service of the node.
+fn of_service(
+    alloc: Global,
+    rows: &RowTable<CheckRow>,
+    node: &str,
+    service: &str,
+) -> Result<List<CheckRow>, Memory>
+    ensures { IfOk result (λ l. l ≡ filter (λ r. same_text r.node node.now && same_text r.service service.now) rows.now.now) }
+{
+    let all = checks_on(alloc, rows, node)?;
+    those_of(alloc, all.as_slice(), service)
+}
+
 impl CheckTable {
     pub(crate) fn new(alloc: Global) -> CheckTable
         ensures { result ≡ record { now = []; before = [] } }
@@ -240,6 +261,18 @@ impl CheckTable {
     {
         let found = checks_on(alloc, &self.rows, node)?;
         Ok(List::from(found))
+    }
+
+    /// Copies of the checks of a service of the node.
+    pub(crate) fn of_service(
+        &self,
+        alloc: Global,
+        node: &str,
+        service: &str,
+    ) -> Result<List<CheckRow>, Memory>
+        ensures { IfOk result (λ l. l ≡ filter (λ r. same_text r.node node.now && same_text r.service service.now) self.now.now) }
+    {
+        of_service(alloc, &self.rows, node, service)
     }
 
     pub(crate) fn all(&self, alloc: Global) -> Result<List<CheckRow>, Memory>

@@ -4,9 +4,8 @@ ghost use Rattle.std.specs.Prelude.{◌≡◌, IfOk, filter, true};
 ghost use Rattle.cat_model.specs.Keys.{same_text};
 
 use crate::same::is_text;
-use cat_model::{CheckRow, List, Memory, NodeRow, ServiceRow, Text};
-use lists::one;
-use row_table::{ByNode, ByPair, Row, RowTable};
+use cat_model::{CheckRow, List, Memory, ServiceRow, Text};
+use row_table::{ByPair, Row, RowTable};
 use std::alloc::Global;
 
 pub(crate) fn copy_of(text: &Text) -> Result<Text, Memory>
@@ -26,21 +25,6 @@ pub(crate) fn all<R: Row>(alloc: Global, rows: &RowTable<R>) -> Result<List<R>, 
     ensures { IfOk result (λ l. l ≡ rows.now.now) }
 {
     Ok(List::from(each(alloc, rows)?))
-}
-
-/// A copy of the row of the node.
-pub(crate) fn node_named(
-    alloc: Global,
-    rows: &RowTable<NodeRow>,
-    node: &str,
-) -> Result<List<NodeRow>, Memory>
-    ensures { IfOk result (λ l. l ≡ filter (λ r. same_text r.node node.now) rows.now.now) }
-{
-    rows.in_order();
-    match rows.get(&ByNode(node)) {
-        Some(row) => one(alloc, row.copy()?),
-        None => Ok(List::new(alloc)),
-    }
 }
 
 /// Copies of the rows of the node's services, which stand one after another.

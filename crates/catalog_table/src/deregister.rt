@@ -1,20 +1,24 @@
 //! The undoing of a registration.
 
-ghost use Rattle.std.specs.Prelude.{◌≡◌, IfOk, OnErr, OnOk, filter};
-ghost use Rattle.cat_model.specs.Catalog.{check_key, service_key};
-ghost use Rattle.cat_model.specs.Keys.{is_empty, pair_cmp, same_text};
+ghost use Rattle.std.specs.Prelude.{◌≡◌, [], IfOk, OnErr, OnOk};
+ghost use Rattle.std.specs.List.{cons_option};
+ghost use Rattle.cat_model.specs.Catalog.{check_at, check_key, service_at, service_key};
+ghost use Rattle.cat_model.specs.Keys.{is_empty, pair_cmp};
 ghost use Rattle.cat_model.specs.Machine.{deregister as the_deregister};
-ghost use Rattle.catalog_table.specs.Rows.{rows_of, catalog_of, on_node};
+ghost use Rattle.catalog_table.specs.Rows.{rows_of, catalog_of};
 ghost use Rattle.catalog_table.specs.Changes.{Tells};
 ghost use Rattle.catalog_table.specs.Steps.{IsUndone, step_of, take_service as the_take_service, take_check as the_take_check, take_node as the_take_node};
 ghost use Rattle.catalog_table.specs.Takes.{without_each};
+ghost use Rattle.catalog_table.specs.Touching.{check_services, check_touches, name_in, node_touches, service_touches, take_touches};
 
 use crate::checks::CheckTable;
-use crate::part::Part;
-use crate::same::is_text;
+use crate::copies::copy_of;
+use crate::names::{names_of, services_of};
 use crate::services::ServiceTable;
+use crate::touched::Touched;
 use crate::{CatalogTable, Changed};
-use cat_model::{Applied, CheckRow, Command, Memory, ServiceRow};
+use cat_model::{Applied, CheckRow, Command, List, Memory, ServiceRow, Texts};
+use lists::one;
 use row_table::ByNode;
 use std::alloc::Global;
 
@@ -48,62 +52,98 @@ fn take_checks(checks: &mut CheckTable, gone: &[CheckRow])
     }
 }
 
-// Removes the rows of those of the checks that are of the service.
-fn take_checks_of(checks: &mut CheckTable, gone: &[CheckRow], service: &str)
-    ensures now { checks.new.now ≡ without_each pair_cmp check_key (filter (λ r. same_text r.service service.now) gone.now) checks.old.now }
-    ensures before { checks.new.before ≡ checks.old.before }
+// The name of the service, if it is there.
+fn name_at(alloc: Global, services: &ServiceTable, node: &str, id: &str) -> Result<Texts, Memory>
+    ensures { IfOk result (λ l. l ≡ cons_option (name_in (service_at (node.now, id.now) services.now.now)) []) }
 {
-    let mut left = gone;
-    while let Some((row, rest)) = left.split_first() {
-        if is_text(&row.service, service) {
-            checks.remove(row.node.as_str(), row.id.as_str());
-        }
-        left = rest;
+    match services.get(node, id) {
+        Some(row) => one(alloc, copy_of(&row.name)?),
+        None => Ok(List::new(alloc)),
+    }
+}
+
+// The service of the check, if that is there.
+fn service_of(alloc: Global, checks: &CheckTable, node: &str, id: &str) -> Result<Texts, Memory>
+    ensures { IfOk result (λ l. l ≡ check_services (cons_option (check_at (node.now, id.now) checks.now.now) [])) }
+{
+    match checks.get(node, id) {
+        Some(row) => one(alloc, copy_of(&row.service)?),
+        None => Ok(List::new(alloc)),
     }
 }
 
 impl CatalogTable {
-    fn take_service(&mut self, node: &str, id: &str, part: &Part)
-        requires { part.now ≡ on_node node.now self.old.now }
-        ensures now { self.new.now ≡ the_take_service node.now id.now self.old.now }
+    fn take_service(&mut self, alloc: Global, node: &str, id: &str) -> Result<Touched, Memory>
+        ensures now { OnOk result (self.new.now ≡ the_take_service node.now id.now self.old.now) }
+        ensures told { IfOk result (λ t. t ≡ service_touches node.now id.now self.old.now) }
         ensures before { self.new.before ≡ self.old.before }
     {
         self.in_order();
+        let names = name_at(alloc, &self.services, node, id)?;
+        let gone = self.checks.of_service(alloc, node, id)?;
+        let served = services_of(alloc, gone.as_slice())?;
         self.services.remove(node, id);
-        take_checks_of(&mut self.checks, part.checks.as_slice(), id);
+        take_checks(&mut self.checks, gone.as_slice());
+        Ok(Touched {
+            nodes: false,
+            names,
+            served,
+        })
     }
 
-    fn take_check(&mut self, node: &str, id: &str)
-        ensures now { self.new.now ≡ the_take_check node.now id.now self.old.now }
+    fn take_check(&mut self, alloc: Global, node: &str, id: &str) -> Result<Touched, Memory>
+        ensures now { OnOk result (self.new.now ≡ the_take_check node.now id.now self.old.now) }
+        ensures told { IfOk result (λ t. t ≡ check_touches node.now id.now self.old.now) }
         ensures before { self.new.before ≡ self.old.before }
     {
+        let served = service_of(alloc, &self.checks, node, id)?;
         self.checks.remove(node, id);
+        Ok(Touched {
+            nodes: false,
+            names: List::new(alloc),
+            served,
+        })
     }
 
-    fn take_node(&mut self, node: &str, part: &Part)
-        requires { part.now ≡ on_node node.now self.old.now }
-        ensures now { self.new.now ≡ the_take_node node.now self.old.now }
+    fn take_node(&mut self, alloc: Global, node: &str) -> Result<Touched, Memory>
+        ensures now { OnOk result (self.new.now ≡ the_take_node node.now self.old.now) }
+        ensures told { IfOk result (λ t. t ≡ node_touches node.now self.old.now) }
         ensures before { self.new.before ≡ self.old.before }
     {
         self.in_order();
-        self.nodes.remove(&ByNode(node));
-        take_services(&mut self.services, part.services.as_slice());
-        take_checks(&mut self.checks, part.checks.as_slice());
+        let services = self.services.of_node(alloc, node)?;
+        let checks = self.checks.of_node(alloc, node)?;
+        let names = names_of(alloc, services.as_slice())?;
+        let served = services_of(alloc, checks.as_slice())?;
+        let nodes = self.nodes.remove(&ByNode(node));
+        take_services(&mut self.services, services.as_slice());
+        take_checks(&mut self.checks, checks.as_slice());
+        Ok(Touched {
+            nodes,
+            names,
+            served,
+        })
     }
 
-    // Removes the service, or where that is empty the check, or where both are empty the node, of which these are the rows.
+    // Removes the service, or where that is empty the check, or where both are empty the node.
     #[tactic(auto, unfolding(cat_model::specs::Machine::deregister))]
-    fn take(&mut self, node: &str, service: &str, check: &str, part: &Part)
-        requires { part.now ≡ on_node node.now self.old.now }
-        ensures now { self.new.now ≡ rows_of (the_deregister node.now service.now check.now (catalog_of self.old.now)) }
+    fn take(
+        &mut self,
+        alloc: Global,
+        node: &str,
+        service: &str,
+        check: &str,
+    ) -> Result<Touched, Memory>
+        ensures now { OnOk result (self.new.now ≡ rows_of (the_deregister node.now service.now check.now (catalog_of self.old.now))) }
+        ensures told { IfOk result (λ t. t ≡ take_touches node.now service.now check.now self.old.now) }
         ensures before { self.new.before ≡ self.old.before }
     {
         if !is_blank(service) {
-            self.take_service(node, service, part);
+            self.take_service(alloc, node, service)
         } else if !is_blank(check) {
-            self.take_check(node, check);
+            self.take_check(alloc, node, check)
         } else {
-            self.take_node(node, part);
+            self.take_node(alloc, node)
         }
     }
 
@@ -118,10 +158,9 @@ impl CatalogTable {
         ensures tells { IfOk result (Tells self.old.now self.new.now) }
         ensures before { self.new.before ≡ self.old.before }
     {
-        let before = self.part_of(alloc, node)?;
         self.in_order();
-        self.take(node, service, check, &before);
-        self.change_since(alloc, node, &before)
+        let touched = self.take(alloc, node, service, check)?;
+        self.changed_by(alloc, node, touched)
     }
 
     /// Removes the service with its checks, or where `service` is empty the check, or where both are empty the node with

@@ -1,7 +1,7 @@
 //! The nodes, services and checks of the catalog, and what a registration or its undoing changes of them.
 //!
-//! A registration changes rows of one node alone. So what it changed is told from copies of that node's few rows, before
-//! and after.
+//! A registration changes rows of one node alone, and mostly few of them. So what it changed is told from the rows that went
+//! and came, and the node's other services are looked at only where its own row or a check of it alone did.
 #![tactic(auto)]
 
 mod changed;
@@ -12,13 +12,14 @@ mod fault;
 pub mod laws;
 mod named;
 mod names;
-mod part;
+mod once;
 mod register;
 mod same;
 mod services;
 mod set;
 mod stated;
 mod table;
+mod touched;
 
 pub use changed::Changed;
 pub use fault::RegisterFault;

@@ -1,59 +1,69 @@
-//! The names of services, each once.
+//! The names of services of which a read may take something else.
 
-ghost use Rattle.std.specs.Prelude.{◌≡◌, [], IfOk, OnOk, filter};
-ghost use Rattle.catalog_table.specs.Names.{is_among, with_names};
-ghost use Rattle.catalog_table.specs.Changes.{reads_differ};
+ghost use Rattle.std.specs.Prelude.{◌≡◌, ◌++◌, IfOk, not};
+ghost use Rattle.std.specs.List.{list_any};
+ghost use Rattle.cat_model.specs.Keys.{is_empty};
+ghost use Rattle.catalog_table.specs.Rows.{Rows};
+ghost use Rattle.catalog_table.specs.Touching.{check_services, is_whole, names_read, service_names};
 
-use crate::part::{Part, differs};
-use crate::same::is_same;
-use cat_model::{List, Memory, ServiceRow, Text, Texts};
+use crate::copies::copy_of;
+use crate::services::ServiceTable;
+use crate::touched::Touched;
+use cat_model::{CheckRow, List, Memory, ServiceRow, Text, Texts};
+use lists::made;
 use std::alloc::Global;
 
-// Whether the name is among these.
-fn has(names: &[Text], name: &Text) -> bool
-    ensures { result ≡ is_among names.now name.now }
+/// The names of these services.
+pub(crate) fn names_of(alloc: Global, services: &[ServiceRow]) -> Result<Texts, Memory>
+    ensures { IfOk result (λ l. l ≡ service_names services.now) }
 {
-    names.iter().any(|n| is_same(name, n))
+    made(alloc, services, |s| copy_of(&s.name))
 }
 
-// Adds the names of these services that are not there yet.
-fn add_names(names: &mut Texts, services: &[ServiceRow]) -> Result<(), Memory>
-    ensures { OnOk result (names.new ≡ with_names names.old services.now) }
+/// The services of these checks.
+pub(crate) fn services_of(alloc: Global, checks: &[CheckRow]) -> Result<Texts, Memory>
+    ensures { IfOk result (λ l. l ≡ check_services checks.now) }
 {
-    let mut left = services;
-    while let Some((service, rest)) = left.split_first() {
-        if !has(names.as_slice(), &service.name) {
-            names.push(service.name.clone()?)?;
-        }
-        left = rest;
-    }
-    Ok(())
+    made(alloc, checks, |c| copy_of(&c.service))
 }
 
-/// The names of the services of both.
-pub(crate) fn names_of(alloc: Global, before: &Part, after: &Part) -> Result<Texts, Memory>
-    ensures { IfOk result (λ l. l ≡ with_names (with_names [] before.now.services) after.now.services) }
+// Whether one of the texts is empty.
+fn has_blank(texts: &[Text]) -> bool
+    ensures { result ≡ list_any is_empty texts.now }
 {
-    let mut names = List::new(alloc);
-    add_names(&mut names, before.services.as_slice())?;
-    add_names(&mut names, after.services.as_slice())?;
-    Ok(names)
+    texts.iter().any(|t| t.len() == 0)
 }
 
-/// Those of the names whose reads of the rows differ.
-pub(crate) fn differing(
-    alloc: Global,
-    names: &[Text],
-    before: &Part,
-    after: &Part,
+/// Whether there is a text.
+pub(crate) fn is_some_of(texts: &[Text]) -> bool
+    ensures { result ≡ not (is_empty texts.now) }
+{
+    !texts.is_empty()
+}
+
+// Whether a read of each name of the node takes something else.
+fn is_whole(touched: &Touched) -> bool
+    ensures { result ≡ is_whole touched.now }
+{
+    touched.nodes || has_blank(touched.served.as_slice())
+}
+
+/// The names of which a read takes something else, some of them more than once. What is left of `touched` are the services
+/// of the checks.
+pub(crate) fn names_read(
+    services: &ServiceTable,
+    node: &str,
+    touched: Touched,
 ) -> Result<Texts, Memory>
-    ensures { IfOk result (λ l. l ≡ filter (reads_differ before.now after.now) names.now) }
+    ensures { IfOk result (λ l. (r : Rows) → r.services ≡ services.now.now → l ≡ names_read node.now r touched) }
 {
-    let mut found = Vec::new(alloc);
-    for name in names {
-        if differs(alloc, name, before, after)? {
-            found.push(Text::new(alloc, name.as_str())?)?;
-        }
+    let whole = is_whole(&touched);
+    let Touched { names, served, .. } = touched;
+    let mut names = names;
+    if whole {
+        services.add_names_on(&mut names, node)?;
+    } else {
+        services.add_names_of(&mut names, node, served.as_slice())?;
     }
-    Ok(List::from(found))
+    Ok(names)
 }

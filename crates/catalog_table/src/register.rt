@@ -6,11 +6,14 @@ ghost use Rattle.cat_model.specs.Keys.{same_text};
 ghost use Rattle.cat_model.specs.Machine.{last_of_each, register as the_register};
 ghost use Rattle.catalog_table.specs.Rows.{catalog_of};
 ghost use Rattle.catalog_table.specs.Changes.{Tells};
+ghost use Rattle.catalog_table.specs.Puts.{HaveIdsOnce};
 ghost use Rattle.catalog_table.specs.Steps.{IsNotDone, IsRegister, IsStopped, gives, is_served, put_rows, step_of};
+ghost use Rattle.catalog_table.specs.Touching.{put_touches};
 
 use crate::same::is_same;
 use crate::services::ServiceTable;
 use crate::set::{find_service, set_checks, set_given, set_node};
+use crate::touched::Touched;
 use crate::{CatalogTable, Changed, RegisterFault};
 use cat_model::{Applied, Command, List, Memory, NewCheck, NewService, Text};
 use std::alloc::Global;
@@ -78,18 +81,25 @@ pub(crate) fn lacks(
 impl CatalogTable {
     fn put_all(
         &mut self,
+        alloc: Global,
         position: u64,
         node: &Text,
         address: &Text,
         service: &Option<NewService>,
         checks: &[NewCheck],
-    ) -> Result<(), Memory>
+    ) -> Result<Touched, Memory>
         ensures ok { OnOk result (self.new.now ≡ put_rows position node.now address.now service.now checks.now self.old.now) }
+        ensures told { IfOk result (λ t. t ≡ put_touches position node.now address.now service.now checks.now self.old.now) }
         ensures before { self.new.before ≡ self.old.before }
     {
-        set_node(&mut self.nodes, position, node, address)?;
-        set_given(&mut self.services, position, node, service)?;
-        set_checks(&mut self.checks, position, node, checks)
+        let nodes = set_node(&mut self.nodes, position, node, address)?;
+        let names = set_given(alloc, &mut self.services, position, node, service)?;
+        let served = set_checks(alloc, &mut self.checks, position, node, checks)?;
+        Ok(Touched {
+            nodes,
+            names,
+            served,
+        })
     }
 
     fn put_and_tell(
@@ -101,14 +111,14 @@ impl CatalogTable {
         service: &Option<NewService>,
         checks: &[NewCheck],
     ) -> Result<Changed, Memory>
+        requires { HaveIdsOnce checks.now }
         ensures ok { OnOk result (self.new.now ≡ put_rows position node.now address.now service.now checks.now self.old.now) }
         ensures tells { IfOk result (Tells self.old.now self.new.now) }
         ensures before { self.new.before ≡ self.old.before }
     {
-        let before = self.part_of(alloc, node.as_str())?;
         self.in_order();
-        self.put_all(position, node, address, service, checks)?;
-        self.change_since(alloc, node.as_str(), &before)
+        let touched = self.put_all(alloc, position, node, address, service, checks)?;
+        self.changed_by(alloc, node.as_str(), touched)
     }
 
     fn try_register(

@@ -2,7 +2,7 @@
 
 ghost use Rattle.std.specs.Prelude.{◌≡◌};
 ghost use Rattle.cat_model.specs.Keys.{same_text, same_texts};
-ghost use Rattle.cat_model.specs.Same.{same_bool, same_status, alike_nodes, alike_services, alike_checks, same_node, same_service, same_check};
+ghost use Rattle.cat_model.specs.Same.{same_bool, same_status, alike_nodes, alike_services, alike_checks};
 
 use cat_model::{CheckRow, NodeRow, ServiceRow, Status, Text, Texts};
 use lists::all_same;
@@ -73,25 +73,4 @@ pub(crate) fn are_alike_checks(a: &CheckRow, b: &CheckRow) -> bool
         && is_same(&a.notes, &b.notes)
         && is_same(&a.output, &b.output)
         && is_same(&a.service, &b.service)
-}
-
-#[tactic(auto, unfolding(cat_model::specs::Same::same_node))]
-pub(crate) fn is_same_node(a: &NodeRow, b: &NodeRow) -> bool
-    ensures { result ≡ same_node a.now b.now }
-{
-    are_alike_nodes(a, b) && a.create == b.create && a.modify == b.modify
-}
-
-#[tactic(auto, unfolding(cat_model::specs::Same::same_service))]
-pub(crate) fn is_same_service(a: &ServiceRow, b: &ServiceRow) -> bool
-    ensures { result ≡ same_service a.now b.now }
-{
-    are_alike_services(a, b) && a.create == b.create && a.modify == b.modify
-}
-
-#[tactic(auto, unfolding(cat_model::specs::Same::same_check))]
-pub(crate) fn is_same_check(a: &CheckRow, b: &CheckRow) -> bool
-    ensures { result ≡ same_check a.now b.now }
-{
-    are_alike_checks(a, b) && a.create == b.create && a.modify == b.modify
 }

@@ -1,7 +1,7 @@
 //! The rows of services together with the index of those of each name.
 
 ghost use Rattle.std.specs.Prelude.{◌≡◌, ◌++◌, [], Some, IfOk, OnErr, OnOk, false, filter};
-ghost use Rattle.std.specs.List.{cons_option, list_any};
+ghost use Rattle.std.specs.List.{cons_option, filter_map, list_any};
 ghost use Rattle.std.specs.Option.{option_copied};
 ghost use Rattle.std.specs.Ordering.{is_eq};
 ghost use Rattle.cat_model.specs.Catalog.{service_at, service_key};
@@ -9,11 +9,12 @@ ghost use Rattle.cat_model.specs.Keys.{pair_cmp, same_text, text_cmp};
 ghost use Rattle.cat_model.specs.Tables.{put, without, Ascends};
 ghost use Rattle.row_table.specs.Filing.{is_place, place_of, unfiled};
 ghost use Rattle.catalog_table.specs.Filings.{name_of, FilesNames};
+ghost use Rattle.catalog_table.specs.Touching.{name_in, service_names};
 
 use crate::copies::{all, copy_of, services_on};
 use crate::named::{ByName, Named, file, unfile};
 use crate::same::{is_same, is_text};
-use cat_model::{List, Memory, ServiceRow, Text};
+use cat_model::{List, Memory, ServiceRow, Text, Texts};
 use row_table::{ByPair, Row, RowTable};
 use std::alloc::Global;
 use std::marker::Model;
@@ -208,6 +209,52 @@ fn filed_under(
     Ok(found)
 }
 
+// Adds the names of the node's services.
+fn add_names_on(names: &mut Texts, rows: &RowTable<ServiceRow>, node: &str) -> Result<(), Memory>
+    ensures { OnOk result (names.new ≡ names.old ++ service_names (filter (λ r. same_text r.node node.now) rows.now.now)) }
+{
+    rows.in_order();
+    for row in rows.rows_from(&ByPair { node, id: "" }) {
+        if !is_text(&row.node, node) {
+            break;
+        }
+        names.push(copy_of(&row.name)?)?;
+    }
+    Ok(())
+}
+
+// Adds the name of the service of a key, if it is there.
+fn add_name(
+    names: &mut Texts,
+    rows: &RowTable<ServiceRow>,
+    node: &str,
+    id: &str,
+) -> Result<(), Memory>
+    ensures { OnOk result (names.new ≡ names.old ++ cons_option (name_in (service_at (node.now, id.now) rows.now.now)) []) }
+{
+    if let Some(row) = rows.get(&ByPair { node, id }) {
+        names.push(copy_of(&row.name)?)?;
+    }
+    Ok(())
+}
+
+// Adds the names of these services of the node.
+fn add_names_of(
+    names: &mut Texts,
+    rows: &RowTable<ServiceRow>,
+    node: &str,
+    ids: &[Text],
+) -> Result<(), Memory>
+    ensures { OnOk result (names.new ≡ names.old ++ filter_map (λ id. name_in (service_at (node.now, id) rows.now.now)) ids.now) }
+{
+    let mut left = ids;
+    while let Some((id, rest)) = left.split_first() {
+        add_name(names, rows, node, id.as_str())?;
+        left = rest;
+    }
+    Ok(())
+}
+
 impl ServiceTable {
     pub(crate) fn new(alloc: Global) -> ServiceTable
         ensures { result ≡ record { now = []; before = [] } }
@@ -260,6 +307,25 @@ impl ServiceTable {
     {
         let found = services_on(alloc, &self.rows, node)?;
         Ok(List::from(found))
+    }
+
+    /// Adds the names of the node's services.
+    pub(crate) fn add_names_on(&self, names: &mut Texts, node: &str) -> Result<(), Memory>
+        ensures { OnOk result (names.new ≡ names.old ++ service_names (filter (λ r. same_text r.node node.now) self.now.now)) }
+    {
+        add_names_on(names, &self.rows, node)
+    }
+
+    /// Adds the names of these services of the node, each that is there.
+    pub(crate) fn add_names_of(
+        &self,
+        names: &mut Texts,
+        node: &str,
+        ids: &[Text],
+    ) -> Result<(), Memory>
+        ensures { OnOk result (names.new ≡ names.old ++ filter_map (λ id. name_in (service_at (node.now, id) self.now.now)) ids.now) }
+    {
+        add_names_of(names, &self.rows, node, ids)
     }
 
     pub(crate) fn all(&self, alloc: Global) -> Result<List<ServiceRow>, Memory>

@@ -1,18 +1,22 @@
-ghost use Rattle.std.specs.Prelude.{◌≡◌, IfErr, IfOk, OnErr, OnOk, filter, not};
+ghost use Rattle.std.specs.Prelude.{◌≡◌, ℕ, List as Items, IfErr, IfOk, OnErr, OnOk, filter, not};
+ghost use Rattle.std.specs.List.{IsDistinct};
 ghost use Rattle.std.specs.Option.{option_copied};
 ghost use Rattle.cat_model.specs.Keys.{text_cmp, pair_cmp, same_text};
 ghost use Rattle.cat_model.specs.Same.{same_status};
 ghost use Rattle.cat_model.specs.Tables.{Ascends};
 ghost use Rattle.cat_model.specs.Catalog.{node_at, service_at, check_at, node_key, service_key, check_key};
-ghost use Rattle.catalog_table.specs.Rows.{Rows, no_rows, catalog_of, InOrder, on_node, off_node};
+ghost use Rattle.catalog_table.specs.Rows.{Rows, no_rows, catalog_of, InOrder};
+ghost use Rattle.catalog_table.specs.Names.{is_among};
+ghost use Rattle.catalog_table.specs.Touching.{names_read, Touches};
 ghost use Rattle.catalog_table.specs.Changes.{is_named, Tells};
 ghost use Rattle.catalog_table.specs.Steps.{IsRegister, IsNotDone, IsUndone, step_of, put_rows, take_service, take_check, take_node};
 
 use crate::checks::CheckTable;
-use crate::copies::{all, node_named};
-use crate::names::{differing, names_of};
-use crate::part::{Part, are_same_checks, are_same_nodes, are_same_services};
+use crate::copies::all;
+use crate::names::{is_some_of, names_read};
+use crate::once::each_once;
 use crate::services::ServiceTable;
+use crate::touched::Touched;
 use crate::{Changed, RegisterFault};
 use cat_model::{CheckRow, List, Memory, NodeRow, ServiceRow, Status, Text, Texts};
 use lists::kept;
@@ -148,20 +152,6 @@ impl CatalogTable {
         self.checks.undo();
     }
 
-    // Copies of the node's rows.
-    pub(crate) fn part_of(&self, alloc: Global, node: &str) -> Result<Part, Memory>
-        ensures { IfOk result (λ p. p ≡ on_node node.now self.now.now) }
-    {
-        let nodes = node_named(alloc, &self.nodes, node)?;
-        let services = self.services.of_node(alloc, node)?;
-        let checks = self.checks.of_node(alloc, node)?;
-        Ok(Part {
-            nodes,
-            services,
-            checks,
-        })
-    }
-
     // Whether some service has this name.
     fn has_name(&self, name: &Text) -> bool
         ensures { result ≡ is_named name.now self.now.now }
@@ -176,25 +166,34 @@ impl CatalogTable {
         kept(alloc, names, |n| !self.has_name(n))
     }
 
-    // What changed since the node's rows were these, where other nodes' rows did not change.
-    pub(crate) fn change_since(
+    // The names of which a read takes something else, each once.
+    fn names_changed(&self, alloc: Global, node: &str, touched: Touched) -> Result<Texts, Memory>
+        ensures among { IfOk result (λ l. (name : Items ℕ) → is_among l name ≡ is_among (names_read node.now self.now.now touched) name) }
+        ensures once { IfOk result (IsDistinct same_text) }
+    {
+        let names = names_read(&self.services, node, touched)?;
+        each_once(alloc, names)
+    }
+
+    // What changed, where this is what was touched of the node.
+    pub(crate) fn changed_by(
         &self,
         alloc: Global,
         node: &str,
-        before: &Part,
+        touched: Touched,
     ) -> Result<Changed, Memory>
-        ensures { IfOk result (λ c. (old : Rows) → InOrder old → before.now ≡ on_node node.now old → off_node node.now old ≡ off_node node.now self.now.now → Tells old self.now.now c) }
+        ensures { IfOk result (λ c. (old : Rows) → Touches node.now old self.now.now touched → Tells old self.now.now c) }
     {
-        let after = self.part_of(alloc, node)?;
-        let names = names_of(alloc, before, &after)?;
-        let changed = differing(alloc, names.as_slice(), before, &after)?;
+        let nodes = touched.nodes;
+        let services = is_some_of(touched.names.as_slice());
+        let checks = is_some_of(touched.served.as_slice());
+        let names = self.names_changed(alloc, node, touched)?;
         let vanished = self.unnamed(alloc, names.as_slice())?;
-        self.in_order();
         Ok(Changed {
-            nodes: !are_same_nodes(before, &after),
-            services: !are_same_services(before, &after),
-            checks: !are_same_checks(before, &after),
-            names: changed,
+            nodes,
+            services,
+            checks,
+            names,
             vanished,
         })
     }

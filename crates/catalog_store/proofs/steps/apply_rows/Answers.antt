@@ -1,11 +1,20 @@
-use Rattle.std.proofs.Common.{◌∙◌, ◌≡◌, refl, ap, subst, filter}
+use Rattle.std.proofs.Common.{◌∙◌, ◌≡◌, List, false, refl, sym, ap, subst, filter}
+use Rattle.std.specs.List.{AllByRecursion}
+use Rattle.cat_model.specs.declared.row.SessionRow.{SessionRow}
 use Rattle.cat_model.specs.Machine.{broken}
 use Rattle.catalog_table.specs.Rows.{catalog_of}
 use Rattle.session_table.specs.Nodes.{is_of_node}
 use Rattle.catalog_store.specs.States.{State, now_of}
 use Rattle.catalog_store.specs.Ending.{Ends}
 use Rattle.catalog_store.proofs.Endings.{gone_order, rows_ended}
+use Rattle.catalog_store.proofs.Unbroken.{unbroken_rows}
 use Rattle.catalog_store.proofs.steps.apply_rows.Goals as goal
+
+pub broken_by-requires : goal.broken_by-requires
+broken_by-requires c = λ e.
+    let t = c.change_rows.new.tables in
+    subst (λ (l : List SessionRow). AllByRecursion (λ s. broken (catalog_of t.catalog.now) s ≡ false) l) (ap (λ (s : State). s.sessions) (sym c.in_ok-answer.ensures.others))
+    (unbroken_rows c.args.position c.args.command.now (now_of c.args.tables.now) t.catalog.now t.indexes.now c.in_ok-answer.answer c.in_ok-answer.chans e c.in_ok-answer.ensures.step c.requires.ready)
 
 pub end-requires-clause-order : goal.end-requires-clause-order
 end-requires-clause-order c =
