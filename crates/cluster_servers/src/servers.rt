@@ -1,13 +1,13 @@
 //! The servers of a cluster.
 
-ghost use Rattle.std.specs.Prelude.{◌≡◌, ◌+◌, ◌≤◌, length, nat_lt, IfOk, OnErr, OnOk};
+ghost use Rattle.std.specs.Prelude.{◌≡◌, ◌+◌, ◌≤◌, ◌&&◌, length, nat_le, nat_lt, IfOk, OnErr, OnOk};
 ghost use Rattle.cat_model.specs.Indexes.{index_of};
 ghost use Rattle.cat_model.specs.Log.{commands_of};
 ghost use Rattle.cat_model.specs.Machine.{catalog_at};
 ghost use Rattle.cat_model.specs.Queries.{answer};
 ghost use Rattle.cluster_rules.specs.Cluster.{clock_of, node_of, server_of};
 ghost use Rattle.raft_world.specs.Steps.{IsNumber};
-ghost use Rattle.office_rules.specs.Offices.{looks_on, office_from};
+ghost use Rattle.office_rules.specs.Offices.{has_removed, looks_on, office_from};
 ghost use Rattle.replica.specs.States.{last_reply};
 ghost use Rattle.cluster_servers.specs.Servers.{HasNext, applies_next, officed};
 
@@ -91,6 +91,7 @@ impl<K: Keeper> Servers<K> {
         ensures commands { result.now.commands ≡ commands_of (server_of self.now.servers s).applied }
         ensures clocks { result.now.clocks ≡ (server_of self.now.servers s).clocks }
         ensures count { length result.now.commands ≡ length (server_of self.now.servers s).applied }
+        ensures office { result.now.office ≡ (server_of self.now.servers s).office }
     {
         &self.replicas[place(s)]
     }
@@ -186,5 +187,14 @@ impl<K: Keeper> Servers<K> {
         let at = place(s);
         let leader = &mut self.replicas[at];
         leader.look(clock);
+    }
+    /// A server in office has a reap to propose: by its clock the time of its next look has come, and a key was removed
+    /// after the last reap that it applied.
+    pub fn is_reap_due(&self, s: u32) -> bool
+        requires { IsNumber s self.now.world }
+        ensures { let server = server_of self.now.servers s in result ≡ (nat_le server.office.reap (clock_of self.now.world s) && has_removed (commands_of server.applied)) }
+    {
+        let leader = self.replica(s);
+        leader.is_look_due(self.world.clock(s)) && leader.has_removed()
     }
 }

@@ -1,2 +1,3 @@
-pub mod Standing
+pub mod Gone
 pub mod Replying
+pub mod Standing

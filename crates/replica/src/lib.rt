@@ -4,6 +4,7 @@
 mod copies;
 pub mod laws;
 mod office;
+mod removing;
 mod replica;
 
 pub use replica::Replica;

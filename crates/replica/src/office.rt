@@ -43,3 +43,13 @@ pub(crate) fn looks_on(office: Option<Office>, now: u64) -> Option<Office>
         }
     }
 }
+
+/// The time of the next look has come. It has where the server is in no office.
+pub(crate) fn is_look_due(office: Option<Office>, now: u64) -> bool
+    ensures { result ≡ nat_le (office_kept office).reap now }
+{
+    match office {
+        None => true,
+        Some(office) => is_due(office.looked, now),
+    }
+}

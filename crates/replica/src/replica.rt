@@ -1,4 +1,4 @@
-ghost use Rattle.std.specs.Prelude.{◌≡◌, ◌+◌, ◌<◌, ◌≤◌, ◌++◌, [], ◌∷◌, Option, IfOk, OnOk, OnErr, length, map, true};
+ghost use Rattle.std.specs.Prelude.{◌≡◌, ◌+◌, ◌<◌, ◌≤◌, ◌++◌, [], ◌∷◌, Option, IfOk, OnOk, OnErr, length, map, nat_le, true};
 ghost use Rattle.std.specs.Option.{option_copied};
 ghost use Rattle.cat_model.specs.Machine.{catalog_at, freed};
 ghost use Rattle.cat_model.specs.Channels.{fires};
@@ -6,11 +6,11 @@ ghost use Rattle.cat_model.specs.Queries.{answer};
 ghost use Rattle.cat_model.specs.Indexes.{index_of};
 ghost use Rattle.key_commands.specs.Firing.{FiresJust};
 ghost use Rattle.catalog_store.specs.Taken.{is_taken};
-ghost use Rattle.office_rules.specs.Offices.{looks_on, office_from};
+ghost use Rattle.office_rules.specs.Offices.{has_removed, looks_on, office_from};
 ghost use Rattle.replica.specs.States.{nothing_applied, applied_at, in_office, last_reply};
 
-use crate::copies;
-use crate::office::{Office, looks_on};
+use crate::office::{Office, is_look_due, looks_on};
+use crate::{copies, removing};
 use cat_model::{Answer, Applied, Command, Fired, Memory, Query, Steps};
 use catalog_query::View;
 use catalog_store::Store;
@@ -25,18 +25,20 @@ pub struct Replica {
     store: Store,
     clocks: Vec<u64>,
     reply: Option<Applied>,
+    removed: bool,
     office: Option<Office>,
 }
 
 impl Model for Replica {
     ghost use Rattle.std.specs.Prelude.{◌≡◌, ◌≤◌, length};
+    ghost use Rattle.office_rules.specs.Offices.{has_removed};
     ghost use Rattle.replica.specs.States.{ReplicaState, last_reply, office_kept};
 
     ghost Value = { ReplicaState };
 
     ghost view = { λ r. record { commands = r.store; clocks = r.clocks.items; office = office_kept r.office } };
 
-    ghost invariant = { λ r. (length r.clocks.items ≡ length r.store) × (length r.store ≤ 262144) × (r.reply ≡ last_reply r.store) };
+    ghost invariant = { λ r. (length r.clocks.items ≡ length r.store) × (length r.store ≤ 262144) × (r.reply ≡ last_reply r.store) × (r.removed ≡ has_removed r.store) };
 }
 
 impl Replica {
@@ -48,6 +50,7 @@ impl Replica {
             store: Store::new(alloc)?,
             clocks: Vec::new(alloc),
             reply: None,
+            removed: false,
             office: None,
         })
     }
@@ -85,6 +88,13 @@ impl Replica {
         }
     }
 
+    /// Whether a key was removed after the last reap.
+    pub fn has_removed(&self) -> bool
+        ensures { result ≡ has_removed self.now.commands }
+    {
+        self.removed
+    }
+
     /// Applies the command at the next position, at this time of the server's clock. The catalog's answer is then the
     /// last reply. It gives the channels that the step fires and the keys that it frees. After want of memory all is as
     /// before.
@@ -102,6 +112,12 @@ impl Replica {
         match self.store.apply(alloc, position, command) {
             Ok((reply, fired)) => {
                 self.reply = Some(reply);
+                self.removed = removing::has_removed(
+                    self.removed,
+                    command,
+                    fired.chans.as_slice(),
+                    &self.store,
+                );
                 Ok(fired)
             }
             Err(memory) => {
@@ -127,6 +143,13 @@ impl Replica {
         ensures { self.new ≡ in_office (looks_on now self.old.office) self.old }
     {
         self.office = looks_on(self.office, now);
+    }
+
+    /// The time of a server's next look for removed keys has come.
+    pub fn is_look_due(&self, now: u64) -> bool
+        ensures { result ≡ nat_le self.now.office.reap now }
+    {
+        is_look_due(self.office, now)
     }
 
     /// The answer to the query at all that is applied, with its index. It is one step, also where memory fails.
