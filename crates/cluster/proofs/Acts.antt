@@ -1,12 +1,12 @@
 -- An act: a step of a server's node with its marks, or a part of one where memory ran out.
-use Rattle.std.proofs.Common.{◌≡◌, ◌≢◌, ℕ, inl, inr, Bool, true, false, cond, not, List, length, Option, Some, None, Result, Ok, Err, OnOk, OnErr, IfErr, refl, sym, ◌∙◌, ap, subst, arith}
+use Rattle.std.proofs.Common.{◌≡◌, ◌≢◌, ℕ, inl, inr, Bool, true, false, cond, not, List, Option, Some, None, Result, Ok, Err, OnOk, OnErr, IfErr, refl, sym, ◌∙◌, ap, subst, arith}
 use Rattle.std.specs.Prelude.{◌==◌, ◌&&◌}
 use Rattle.cat_model.specs.declared.memory.Memory.{Memory}
 use Rattle.cat_model.specs.declared.request.Event.{Event}
 use Rattle.cat_model.specs.declared.request.Event.TheVariants as event
 use Rattle.raft_model.specs.Node.{Node}
 use Rattle.raft_model.specs.Rules.{Input, Timeout, Beat, Receive, Propose, Probe, done}
-use Rattle.raft_model.specs.Step.{Outcome, Works, Forgets, NodeStep}
+use Rattle.raft_model.specs.Step.{Outcome, Forgets, NodeStep}
 use Rattle.raft_model.specs.World as world
 use Rattle.raft_model.specs.World.{World, WorldStep, Packet, Acts as NodeActs, IsReached, numbered, raised}
 use Rattle.raft_world.specs.Steps.{Delivers, FindsNoMemory, KeepsAgreement, StepsWhole, StepsWorking}
@@ -98,7 +98,7 @@ stands_officed i o w servers r s = record {
   proposed = s.proposed;
   ascends = s.ascends;
   held = all_officed w servers i o r.asked r.held s.held;
-  calm = each_set servers i (record (server_of servers i) { office = o }) s.calm (each_item servers i s.calm);
+  no_ttl = each_set servers i (record (server_of servers i) { office = o }) s.no_ttl (each_item servers i s.no_ttl);
 }
 
 stands_seated : (w w' : World) (i : ℕ) (servers : List Server) (r : Requests) → Stands w' servers r → Stands w' (seated_servers w w' i servers) r

@@ -1,5 +1,5 @@
 -- A cluster that has just begun.
-use Rattle.std.proofs.Common.{◌≡◌, ◌⊎◌, inl, inr, ℕ, zero, suc, ◌<◌, ◌≤◌, get_or, length, replicate, List, [], ◌∷◌, refl, sym, ap, ◌∙◌, subst, arith}
+use Rattle.std.proofs.Common.{◌≡◌, inl, inr, ℕ, zero, suc, ◌<◌, get_or, length, replicate, List, refl, sym, ap, ◌∙◌, subst, arith}
 use Rattle.std.specs.List.{AllByRecursion as Each}
 use Rattle.raft_model.specs.Node.{Store}
 use Rattle.raft_model.specs.World.{World, Begins, IsReached, empty, again}
@@ -8,11 +8,11 @@ use Rattle.cluster_rules.specs.Sound.{ServerIsSound}
 use Rattle.open_requests.specs.Requests as own
 use Rattle.cluster_servers.proofs.Beginning.{as_many_start}
 use Rattle.cluster.specs.Beginning.{MayBegin}
-use Rattle.cluster.specs.Standing.{AppliesCalm, Stands}
+use Rattle.cluster.specs.Standing.{AppliesNoTtl, Stands}
 
-idle_calm : (count : ℕ) → Each AppliesCalm (replicate count no_server)
-idle_calm zero = tt
-idle_calm (suc count) = (refl, idle_calm count)
+idle_no_ttl : (count : ℕ) → Each AppliesNoTtl (replicate count no_server)
+idle_no_ttl zero = tt
+idle_no_ttl (suc count) = (refl, idle_no_ttl count)
 
 replicated : {A : Type 0} (count : ℕ) (x : A) → length (replicate count x) ≡ count
 replicated zero x = refl
@@ -42,5 +42,5 @@ begun_stands stores agents count w servers may begins some size idle =
       proposed = omega (arith, begins.greatest);
       ascends = tt;
       held = tt;
-      calm = subst (λ (ss : List Server). Each AppliesCalm ss) (sym idle) (idle_calm count);
+      no_ttl = subst (λ (ss : List Server). Each AppliesNoTtl ss) (sym idle) (idle_no_ttl count);
     }

@@ -1,12 +1,13 @@
 -- What is applied and held stays so as the world goes on, and where a server has applied no more.
-use Rattle.std.proofs.Common.{◌≡◌, ℕ, ◌+◌, ◌≤◌, List, length, refl, sym, ap, ◌∙◌, subst, arith}
+use Rattle.std.proofs.Common.{◌≡◌, ℕ, ◌≤◌, List, length, refl, sym, ap, ◌∙◌, subst, arith}
 use Rattle.std.specs.List.{AllByRecursion as Each}
 use Rattle.std.proofs.lemmas.List.{length-take}
 use Rattle.cat_model.specs.declared.command.Command.{Command}
 use Rattle.office_rules.specs.Offices.{Office}
+use Rattle.raft_model.specs.Log.{Log}
 use Rattle.raft_model.specs.Node.{set_server}
-use Rattle.raft_model.specs.Rules.{Input, Propose}
-use Rattle.raft_model.specs.World.{World, Acts as NodeActs, IsReached, Proposes, WorldStep}
+use Rattle.raft_model.specs.Rules.{Probe, Propose}
+use Rattle.raft_model.specs.World.{World, Acts as NodeActs, IsReached, Probes, Proposes, WorldStep}
 use Rattle.raft_model.specs.World as world
 use Rattle.raft_model.proofs.Logs.{front_take}
 use Rattle.cluster_rules.specs.Cluster.{AtPlace, InRound, ForIndex, Ended, Pending, Server, Stand, no_server, node_of, server_of}
@@ -16,7 +17,7 @@ use Rattle.cluster_rules.proofs.Boundary.{Rises, acts_rise}
 use Rattle.cluster_rules.proofs.Grows.{GoesTo, goes_by, goes_nowhere, write_map}
 use Rattle.cluster_rules.proofs.Moved.{arms_rise, drops_rise, ticks_rise}
 use Rattle.cluster_rules.proofs.Tools.{at_item, each_map}
-use Rattle.cluster.specs.Standing.{HasPlace, IsAwaited, IsHeld}
+use Rattle.cluster.specs.Standing.{HasPlace, IsAwaited, IsHeld, IsLookedFor}
 
 -- The world went on, and no server's commit fell.
 pub record Goes (w w' : World) : Type 0 where
@@ -28,6 +29,9 @@ goes_here w = record { on = goes_nowhere w; up = record { count = refl; each = �
 
 pub proposing_goes : (w : World) (i number : ℕ) (command : Command) (w' : World) → IsReached w → NodeActs w i (Propose number command) w' → Goes w w'
 proposing_goes w i number command w' r a = record { on = goes_by w w' (Proposes i number command) r a; up = acts_rise w i (Propose number command) w' r a }
+
+pub probing_goes : (w : World) (i : ℕ) (w' : World) → IsReached w → NodeActs w i Probe w' → Goes w w'
+probing_goes w i w' r a = record { on = goes_by w w' (Probes i) r a; up = acts_rise w i Probe w' r a }
 
 pub ticking_goes : (w : World) (i ms : ℕ) (w' : World) → IsReached w → WorldStep w (world.Ticks i ms) w' → Goes w w'
 ticking_goes w i ms w' r step = record { on = goes_by w w' (world.Ticks i ms) r step; up = (ticks_rise w i ms w' step).0 }
@@ -70,18 +74,12 @@ awaited_later w w' g n q (InRound round deadline) x = tt
 awaited_later w w' g n q (ForIndex deadline seen) x = tt
 awaited_later w w' g n q (Ended event) x = tt
 
-awaited_less : (w : World) (n m : ℕ) (q : Question) (s : Stand) → m ≤ n → IsAwaited w n q s → IsAwaited w m q s
-awaited_less w n m q (AtPlace index term) l x = (x.0, (let k = x.1 in omega arith), x.2)
-awaited_less w n m q (InRound round deadline) l x = tt
-awaited_less w n m q (ForIndex deadline seen) l x = tt
-awaited_less w n m q (Ended event) l x = tt
-
 held_later : (w w' : World) (servers : List Server) (n m : ℕ) → GoesTo w w' → n ≤ m → (h : Pending) → IsHeld w servers n h → IsHeld w' servers m h
 held_later w w' servers n m g l h x = record {
   numbered = let k = x.numbered in omega arith;
   taken = x.taken;
-  no_round = x.no_round;
   awaited = awaited_later w w' g (length (server_of servers h.server).applied) h.question h.stand x.awaited;
+  looked = x.looked;
 }
 
 pub all_later : (w w' : World) (servers : List Server) (n m : ℕ) (held : List Pending) → GoesTo w w' → n ≤ m → Each (IsHeld w servers n) held → Each (IsHeld w' servers m) held
@@ -91,12 +89,13 @@ all_later w w' servers n m held g l all = each_map (IsHeld w servers n) (IsHeld 
 pub all_more : (w : World) (servers : List Server) (n m : ℕ) (held : List Pending) → n ≤ m → Each (IsHeld w servers n) held → Each (IsHeld w servers m) held
 all_more w servers n m held l all = all_later w w servers n m held (goes_nowhere w) l all
 
-pub held_less : (w : World) (servers servers' : List Server) (n : ℕ) (h : Pending) → length (server_of servers' h.server).applied ≤ length (server_of servers h.server).applied → IsHeld w servers n h → IsHeld w servers' n h
-held_less w servers servers' n h l x = record {
+-- its server has applied the same
+pub held_same : (w : World) (servers servers' : List Server) (n : ℕ) (h : Pending) → (server_of servers' h.server).applied ≡ (server_of servers h.server).applied → IsHeld w servers n h → IsHeld w servers' n h
+held_same w servers servers' n h e x = record {
   numbered = x.numbered;
   taken = x.taken;
-  no_round = x.no_round;
-  awaited = awaited_less w (length (server_of servers h.server).applied) (length (server_of servers' h.server).applied) h.question h.stand l x.awaited;
+  awaited = subst (λ (l : Log). IsAwaited w (length l) h.question h.stand) (sym e) x.awaited;
+  looked = subst (λ (l : Log). IsLookedFor l h.question.asked h.stand) (sym e) x.looked;
 }
 
 -- of a server that has another time in office
@@ -105,12 +104,12 @@ sound_officed w servers i o sound =
     let x = sound i in
     sound_with w servers i (record (server_of servers i) { office = o }) sound (record { front = x.front; within = x.within; clocks = x.clocks })
 
-same_applied : (servers : List Server) (i : ℕ) (o : Office) (j : ℕ) → length (server_of (set_server servers i (record (server_of servers i) { office = o })) j).applied ≤ length (server_of servers j).applied
+same_applied : (servers : List Server) (i : ℕ) (o : Office) (j : ℕ) → (server_of (set_server servers i (record (server_of servers i) { office = o })) j).applied ≡ (server_of servers j).applied
 same_applied servers i o j =
-    at_item (λ (x : Server). length x.applied ≤ length (server_of servers j).applied) no_server servers i (record (server_of servers i) { office = o }) j
-    (λ e. subst (λ k. length (server_of servers i).applied ≤ length (server_of servers k).applied) (sym e) (omega arith)) (omega arith)
+    at_item (λ (x : Server). x.applied ≡ (server_of servers j).applied) no_server servers i (record (server_of servers i) { office = o }) j
+    (λ e. ap (λ k. (server_of servers k).applied) (sym e)) refl
 
 pub all_officed : (w : World) (servers : List Server) (i : ℕ) (o : Office) (n : ℕ) (held : List Pending) → Each (IsHeld w servers n) held → Each (IsHeld w (set_server servers i (record (server_of servers i) { office = o })) n) held
 all_officed w servers i o n held all =
     let others = set_server servers i (record (server_of servers i) { office = o }) in
-    each_map (IsHeld w servers n) (IsHeld w others n) (λ h x. held_less w servers others n h (same_applied servers i o h.server) x) held all
+    each_map (IsHeld w servers n) (IsHeld w others n) (λ h x. held_same w servers others n h (same_applied servers i o h.server) x) held all

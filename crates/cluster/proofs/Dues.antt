@@ -1,17 +1,24 @@
 -- What is due first is due.
-use Rattle.std.proofs.Common.{◌≡◌, ◌≢◌, ℕ, ◌<◌, List, [], ◌∷◌, ◌++◌, length, Option, Some, None, Result, Ok, Err, Bool, refl, sym, ap, ◌∙◌, subst}
+use Rattle.std.proofs.Common.{◌≡◌, inl, inr, ℕ, ◌<◌, List, [], ◌∷◌, ◌++◌, length, map, Option, Some, None, Result, Ok, Err, refl, sym, ap, ◌∙◌, subst, arith}
 use Rattle.std.specs.Prelude.{OnOk}
 use Rattle.cat_model.specs.declared.reply.Kind.{Kind}
 use Rattle.std.specs.List.{AllByRecursion as Each, find}
-use Rattle.cluster_rules.specs.Cluster.{Pending, Cluster, applied_of, contact_of, knows, node_of}
-use Rattle.cluster_rules.specs.Due.{Work, Replies, Holds, Closes, Applies, answered, applies, did, due, early_work, first_work, late_work, next_work, or_work, IsDue, early, next_one, late}
+use Rattle.raft_model.specs.World.{World}
+use Rattle.cluster_rules.specs.Cluster.{Pending, Cluster, ForIndex, Server, Stand, applied_of, contact_of, knows, node_of, server_of}
+use Rattle.cluster_rules.specs.Due.{Work, Replies, Holds, Closes, Applies, answered, applies, did, due, early_work, first_work, late_work, next_work, or_work, with_held, IsDue, early, next_one, late}
 use Rattle.cluster_rules.specs.Replies.{Question, shown}
+use Rattle.cluster_rules.specs.Sound.{Ascends, IsAmong}
 use Rattle.cluster_rules.proofs.Cases.{Leaves, due_cases}
+use Rattle.cluster_rules.proofs.Works.{ascends_with, each_with}
 use Rattle.open_requests.specs.declared.content.Content.{Content}
-use Rattle.open_requests.specs.Contents.{content_of}
+use Rattle.open_requests.specs.declared.pending.Stand as own_stand
+use Rattle.open_requests.specs.Contents.{content_of, stand_of}
+use Rattle.open_requests.specs.Requests.{Requests, cluster_of, restood}
+use Rattle.open_requests.proofs.Lifting.{restands_by}
 use Rattle.cluster.specs.declared.work.Work as own
-use Rattle.cluster.specs.declared.work.Work.TheVariants.{Answer, Close, Apply}
+use Rattle.cluster.specs.declared.work.Work.TheVariants.{Answer, Hold, Close, Apply}
 use Rattle.cluster.specs.Looking.{is_early}
+use Rattle.cluster.specs.Standing.{IsHeld, IsLookedFor, IsNotThere, Stands}
 use Rattle.cluster.specs.Working.{IsWork, closed}
 
 some_is : {A : Type 0} (x y : A) → Some x ≡ Some y → x ≡ y
@@ -93,6 +100,85 @@ next_due c i work found is =
 pub none_due : (c : Cluster) (i : ℕ) (work : own.Work) → Found c i work → work ≡ Apply → find (is_early c i) c.held ≡ None
 none_due c i work found is = apply_none c i found.0 (subst (λ x. IsWork c i x found.0) is found.2)
 
+-- A request that is held on is one that was held, with another stand.
+record HoldsOn (c : Cluster) (h : Pending) : Type 0 where
+  from : Pending
+  among : IsAmong from c.held
+  is : h ≡ record from { stand = h.stand }
+  held : IsHeld c.world c.servers c.asked h
+
+abbrev HoldsRight : Cluster → Work → Type 0
+HoldsRight c (Holds h) = HoldsOn c h
+HoldsRight c other = Unit {0}
+
+abbrev IsHeldThere : Cluster → Pending → Type 0
+IsHeldThere c h = IsAmong h c.held × IsHeld c.world c.servers c.asked h
+
+held_for : (c : Cluster) (h : Pending) (deadline : ℕ) (seen : Option ℕ) → IsHeldThere c h → IsLookedFor (server_of c.servers h.server).applied h.question.asked (ForIndex deadline seen) → HoldsOn c (record h { stand = ForIndex deadline seen })
+held_for c h deadline seen x l = record {
+  from = h;
+  among = x.0;
+  is = refl;
+  held = record { numbered = x.1.numbered; taken = x.1.taken; awaited = tt; looked = l };
+}
+
+leaves_right : (c : Cluster) (i : ℕ) (h : Pending) → IsHeldThere c h → h.server ≡ i → Leaves c i (HoldsRight c) h
+leaves_right c i h x here = record {
+  halted = λ _ _. tt;
+  closes = λ _ _. tt;
+  lands = λ _ _ _ _. tt;
+  rises = λ _ _ _ _. tt;
+  answers = λ _ _ _ _ _ _ _ _ _ _. tt;
+  refuses = λ _ _ _ _ _ _ _ _ _ _ _. tt;
+  sees = λ deadline seen query mode least wait raw st ask low was. held_for c h deadline (Some (length (applied_of c i))) x
+      (subst (λ k. IsLookedFor (applied_of c k) h.question.asked (ForIndex deadline (Some (length (applied_of c i))))) (sym here)
+      (omega arith, λ _. subst (IsNotThere (applied_of c i)) (sym ask) low));
+  runs = λ _ _ _ _ _ _ _. tt;
+  turns = λ round deadline st up confirmed reached. held_for c h deadline None x tt;
+}
+
+all_there : (c : Cluster) (held : List Pending) → ((h : Pending) → IsAmong h held → IsAmong h c.held) → Each (IsHeld c.world c.servers c.asked) held → Each (IsHeldThere c) held
+all_there c [] among all = tt
+all_there c (h ∷ held) among all = ((among h (inl refl), all.0), all_there c held (λ g a. among g (inr a)) all.1)
+
+holds_on : (c : Cluster) (i : ℕ) (h : Pending) → Each (IsHeld c.world c.servers c.asked) c.held → due i c ≡ Some (Holds h) → HoldsOn c h
+holds_on c i h all e = due_cases c i (HoldsRight c) (IsHeldThere c) (all_there c c.held (λ _ a. a) all) (leaves_right c i) (λ _. tt) (Holds h) (due_is i c (Holds h) e)
+
+module _ (w : World) (servers : List Server) (r : Requests) (s : Stands w servers r) (i : ℕ) (h : Pending) (due_now : due i (cluster_of w servers r) ≡ Some (Holds h)) (number : ℕ) (stand : Stand) (n : number ≡ h.question.number) (same : stand ≡ h.stand) where
+  on : HoldsOn (cluster_of w servers r) h
+  on = holds_on (cluster_of w servers r) i h s.held due_now
+
+  pub restood_is : map (restood number stand) r.held ≡ with_held h r.held
+  restood_is =
+      let from : on.from.question.number ≡ number = sym (n ∙ ap (λ (g : Pending). g.question.number) on.is) in
+      let is : record on.from { stand = stand } ≡ h = ap (λ (t : Stand). record on.from { stand = t }) same ∙ sym on.is in
+      ap (λ k. map (restood k stand) r.held) (sym from) ∙ restands_by on.from stand r.held s.ascends on.among ∙ ap (λ (g : Pending). with_held g r.held) is
+
+  pub restood_stands : Stands w servers (record r { held = map (restood number stand) r.held })
+  restood_stands = record {
+    reached = s.reached;
+    some = s.some;
+    count = s.count;
+    sound = s.sound;
+    joined = s.joined;
+    proposed = s.proposed;
+    ascends = subst Ascends (sym restood_is) (ascends_with h r.held s.ascends);
+    held = subst (Each (IsHeld w servers r.asked)) (sym restood_is) (each_with (IsHeld w servers r.asked) h r.held on.held s.held);
+    no_ttl = s.no_ttl;
+  }
+
+pub restand_stands : (w : World) (servers : List Server) (r new : Requests) (c : Cluster) (number : ℕ) (stand : Stand) → Stands w servers r → cluster_of w servers r ≡ c
+    → (i : ℕ) (h : Pending) → due i c ≡ Some (Holds h) → number ≡ h.question.number → stand ≡ h.stand → new ≡ record r { held = map (restood number stand) r.held } → Stands w servers new
+restand_stands w servers r new c number stand s view i h e n same is =
+    subst (Stands w servers) (sym is) (restood_stands w servers r s i h (subst (λ (d : Cluster). due i d ≡ Some (Holds h)) (sym view) e) number stand n same)
+
+pub restand_is : (w : World) (servers : List Server) (r new : Requests) (c : Cluster) (number : ℕ) (stand : Stand) → Stands w servers r → cluster_of w servers r ≡ c → new ≡ record r { held = map (restood number stand) r.held }
+    → (i : ℕ) (h : Pending) → due i c ≡ Some (Holds h) → number ≡ h.question.number → stand ≡ h.stand → cluster_of w servers new ≡ record c { held = with_held h c.held }
+restand_is w servers r new c number stand s view is i h e n same =
+    ap (cluster_of w servers) is
+    ∙ ap (λ (l : List Pending). cluster_of w servers (record r { held = l })) (restood_is w servers r s i h (subst (λ (d : Cluster). due i d ≡ Some (Holds h)) (sym view) e) number stand n same)
+    ∙ ap (λ (d : Cluster). record d { held = with_held h d.held }) view
+
 -- whatever is due then is what was found
 same_due : (c : Cluster) (i : ℕ) (work : own.Work) (found : Found c i work) (w : Work) → due i c ≡ Some w → IsWork c i work w
 same_due c i work found w e = subst (λ x. IsWork c i work x) (some_is found.0 w (sym found.1 ∙ e)) found.2
@@ -110,6 +196,14 @@ answer_of c new i number kind content done (Replies q k) f =
 answer_of c new i number kind content done (Holds h) f = absurd f
 answer_of c new i number kind content done (Closes n event) f = absurd f
 answer_of c new i number kind content done Applies f = absurd f
+
+hold_of : (c new : Cluster) (i number : ℕ) (stand : own_stand.Stand) → ((h : Pending) → due i c ≡ Some (Holds h) → number ≡ h.question.number → stand_of stand ≡ h.stand → new ≡ record c { held = with_held h c.held })
+    → (w : Work) → due i c ≡ Some w → IsWork c i (Hold number stand) w → new ≡ did i w c
+unfolding did
+hold_of c new i number stand done (Holds h) e f = done h e f.0 f.1
+hold_of c new i number stand done (Replies q k) e f = absurd f
+hold_of c new i number stand done (Closes n m) e f = absurd f
+hold_of c new i number stand done Applies e f = absurd f
 
 close_of : (c new : Cluster) (i number event : ℕ) → new ≡ closed number event c → (w : Work) → IsWork c i (Close number event) w → new ≡ did i w c
 unfolding did
@@ -132,6 +226,20 @@ pub answer_done : {A B : Type 0} (c new : Cluster) (i : ℕ) (work : own.Work) (
     → OnOk result (AnswerDone c new i number kind content) → OnOk result ((w : Work) → due i c ≡ Some w → new ≡ did i w c)
 answer_done c new i work number kind content (Err b) found is done = tt
 answer_done c new i work number kind content (Ok a) found is done = does c new i work (Answer number kind content) found is (answer_of c new i number kind content done)
+
+-- the work that is to hold a request on is due
+hold_by : (c : Cluster) (i number : ℕ) (stand : own_stand.Stand) (w : Work) → due i c ≡ Some w → IsWork c i (Hold number stand) w → (k : ℕ) × (h : Pending) × (due k c ≡ Some (Holds h)) × (number ≡ h.question.number) × (stand_of stand ≡ h.stand)
+hold_by c i number stand (Holds h) e f = (i, h, e, f.0, f.1)
+hold_by c i number stand (Replies q k) e f = absurd f
+hold_by c i number stand (Closes n m) e f = absurd f
+hold_by c i number stand Applies e f = absurd f
+
+pub hold_due : (c : Cluster) (i : ℕ) (work : own.Work) (number : ℕ) (stand : own_stand.Stand) → Found c i work → work ≡ Hold number stand → (k : ℕ) × (h : Pending) × (due k c ≡ Some (Holds h)) × (number ≡ h.question.number) × (stand_of stand ≡ h.stand)
+hold_due c i work number stand found is = hold_by c i number stand found.0 found.1 (subst (λ x. IsWork c i x found.0) is found.2)
+
+pub hold_done : (c new : Cluster) (i : ℕ) (work : own.Work) (number : ℕ) (stand : own_stand.Stand) → Found c i work → work ≡ Hold number stand
+    → ((k : ℕ) (h : Pending) → due k c ≡ Some (Holds h) → number ≡ h.question.number → stand_of stand ≡ h.stand → new ≡ record c { held = with_held h c.held }) → (w : Work) → due i c ≡ Some w → new ≡ did i w c
+hold_done c new i work number stand found is done w e = hold_of c new i number stand (done i) w e (subst (λ x. IsWork c i x w) is (same_due c i work found w e))
 
 pub close_done : {A B : Type 0} (c new : Cluster) (i : ℕ) (work : own.Work) (number event : ℕ) (result : Result A B) → Found c i work → work ≡ Close number event
     → OnOk result (new ≡ closed number event c) → OnOk result ((w : Work) → due i c ≡ Some w → new ≡ did i w c)

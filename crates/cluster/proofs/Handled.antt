@@ -1,13 +1,10 @@
 -- A request that was just noted is handled: it takes its number, and is refused or held.
-use Rattle.std.proofs.Common.{◌≡◌, ◌≢◌, ◌⊎◌, inl, inr, ℕ, zero, suc, ◌+◌, ◌<◌, ◌≤◌, Bool, true, false, length, List, [], ◌∷◌, ◌++◌, Option, Some, None, refl, sym, ap, ◌∙◌, subst, arith}
+use Rattle.std.proofs.Common.{◌≡◌, ◌≢◌, ℕ, suc, ◌+◌, ◌<◌, ◌≤◌, ◌||◌, true, false, length, List, [], ◌∷◌, ◌++◌, Some, None, refl, sym, ap, ◌∙◌, subst, arith}
 use Rattle.std.specs.List.{AllByRecursion as Each}
-use Rattle.cat_model.specs.declared.query.Query.{Query}
 use Rattle.cat_model.specs.declared.request.Asked.{Asked}
-use Rattle.cat_model.specs.declared.request.Asked.TheVariants.{Good, Bad}
 use Rattle.cat_model.specs.declared.request.Draw.{Draw}
 use Rattle.cat_model.specs.declared.request.Mode.{Mode}
-use Rattle.cat_model.specs.declared.request.Mode.TheVariants.{Default, Consistent}
-use Rattle.cat_model.specs.declared.request.Request.TheVariants.{Read, Write}
+use Rattle.cat_model.specs.declared.request.Mode.TheVariants.{Consistent}
 use Rattle.cat_model.specs.declared.reply.Kind.TheVariants.{Refused}
 use Rattle.cat_model.specs.declared.reply.Mark.TheVariants as mark
 use Rattle.cat_model.specs.declared.reply.Refusal.{Refusal}
@@ -17,18 +14,16 @@ use Rattle.raft_model.specs.World.{World}
 use Rattle.script_runs.specs.Taken.{IsTakenAsked}
 use Rattle.cluster_rules.specs.Cluster.{Cluster, ForIndex, Looked, Pending, Server, Stand, Start, applied_of, clock_of, node_of, server_of}
 use Rattle.cluster_rules.specs.Replies.{Question, Says, shown}
-use Rattle.cluster_rules.specs.Requests.{Handles, holding, is_ready, is_stale_read, look_of, refused, unready, reads, wait_of}
+use Rattle.cluster_rules.specs.Requests.{holding, is_ready, is_stale_read, look_of, refused, unready, reads, wait_of}
 use Rattle.cluster_rules.specs.Sound.{Ascends}
-use Rattle.cluster_rules.proofs.Tools.{each_append, each_map}
+use Rattle.cluster_rules.proofs.Tools.{each_append, each_map, neither, one_of}
 use Rattle.cluster_turns.specs.Turns.{HandlesNewest, IsCome, newest, numbered}
 use Rattle.open_requests.specs.Notes.{IsMadeLast, past_of}
 use Rattle.open_requests.specs.Requests.{Requests, answered_with, cluster_of, holding_with, numbered_with, used}
-use Rattle.cluster.specs.Asking.{ForRead}
-use Rattle.cluster.specs.Standing.{IsAwaited, IsHeld, IsNoRound, Stands}
+use Rattle.cluster.specs.Standing.{IsAwaited, IsHeld, IsLookedFor, Stands}
 use Rattle.cluster.proofs.Carried.{all_more}
 use Rattle.cluster.proofs.Kept.{answer_stands}
 use Rattle.cluster.proofs.Notes.{come_made, joined_placed, numbers_by}
-use Rattle.cluster.proofs.Taken.{default_read, not_stale}
 
 -- what a request that came last is handled on
 pub record Comes (w : World) (servers : List Server) (r : Requests) (c : Cluster) (agent : ℕ) (asked : Asked) (draw : Draw) : Type 0 where
@@ -60,7 +55,7 @@ module _ (w : World) (servers : List Server) (r : Requests) (c : Cluster) (agent
     proposed = omega (arith, at.stands.proposed);
     ascends = at.stands.ascends;
     held = all_more w servers r.asked (r.asked + 1) r.held (omega arith) at.stands.held;
-    calm = at.stands.calm;
+    no_ttl = at.stands.no_ttl;
   }
 
   -- its number in the rules
@@ -80,17 +75,18 @@ refuses_as w servers r new q why c number n view e =
 pub refusal_stands : (w : World) (servers : List Server) (r new : Requests) (number : ℕ) (why : Refusal) → Stands w servers r → new ≡ used (answered_with number (Refused why) false 0 (Says why) r) → Stands w servers new
 refusal_stands w servers r new number why s e =
     let a = answer_stands w servers r number (Refused why) false 0 (Says why) s in
-    subst (Stands w servers) (sym e) (record { reached = a.reached; some = a.some; count = a.count; sound = a.sound; joined = a.joined; proposed = a.proposed; ascends = a.ascends; held = a.held; calm = a.calm })
+    subst (Stands w servers) (sym e) (record { reached = a.reached; some = a.some; count = a.count; sound = a.sound; joined = a.joined; proposed = a.proposed; ascends = a.ascends; held = a.held; no_ttl = a.no_ttl })
 
-pub unready_handles : (w : World) (servers : List Server) (r r' : Requests) (c : Cluster) (i agent : ℕ) (asked : Asked) (draw : Draw) (number term applied : ℕ) → Comes w servers r c agent asked draw → IsTakenAsked asked → is_ready c i ≡ false
+pub unready_handles : (w : World) (servers : List Server) (r r' : Requests) (c : Cluster) (i agent : ℕ) (asked : Asked) (draw : Draw) (number term applied : ℕ) → Comes w servers r c agent asked draw → (is_stale_read asked || is_ready c i) ≡ false
     → number ≡ r.asked + 1 → term ≡ (node_of c.world i).term → applied ≡ last_term (applied_of c i)
     → r' ≡ used (answered_with number (Refused (refusal.NotReady term applied)) false 0 (Says (refusal.NotReady term applied)) (used (numbered_with agent asked draw (record r { room = 4 }))))
     → HandlesNewest i agent asked draw c (cluster_of w servers r')
-unready_handles w servers r r' c i agent asked draw number term applied at taken not_ready n t l e =
+unready_handles w servers r r' c i agent asked draw number term applied at stays n t l e =
     let c₁ = numbered agent asked draw c in
     let q = newest agent asked draw c₁ in
     let done = refuses_as w servers (used (numbered_with agent asked draw (record r { room = 4 }))) r' q (refusal.NotReady term applied) c₁ number (number_is w servers r c agent asked draw at ∙ sym n) (numbered_cluster w servers r c agent asked draw at) e in
-    unready (not_stale asked taken) not_ready (done ∙ ap (λ k. refused q (refusal.NotReady k applied) c₁) t ∙ ap (λ k. refused q (refusal.NotReady (node_of c.world i).term k) c₁) l)
+    let waits = neither (is_stale_read asked) (is_ready c i) stays in
+    unready waits.0 waits.1 (done ∙ ap (λ k. refused q (refusal.NotReady k applied) c₁) t ∙ ap (λ k. refused q (refusal.NotReady (node_of c.world i).term k) c₁) l)
 
 pub unready_stands : (w : World) (servers : List Server) (r r' : Requests) (c : Cluster) (agent : ℕ) (asked : Asked) (draw : Draw) (number : ℕ) (why : Refusal) → Comes w servers r c agent asked draw
     → r' ≡ used (answered_with number (Refused why) false 0 (Says why) (used (numbered_with agent asked draw (record r { room = 4 })))) → Stands w servers r'
@@ -100,16 +96,10 @@ ascends_last : (hs : List Pending) (h : Pending) → Ascends hs → Each (λ (g 
 ascends_last [] h a b = (tt, tt)
 ascends_last (g ∷ hs) h a b = (each_append (λ (x : Pending). g.question.number < x.question.number) hs (h ∷ []) a.0 (b.0, tt), ascends_last hs h a.1 b.1)
 
-default_mode : (query : Query) (mode : Mode) (least wait : ℕ) (raw : Bool) (a : Asked) → a ≡ Good (Read query mode least wait raw) → IsTakenAsked a → mode ≡ Default
-default_mode query mode least wait raw a e t = default_read mode least (subst IsTakenAsked e t)
-
-not_consistent : (mode : Mode) → mode ≡ Default → mode ≢ Consistent
-not_consistent mode e f = cc (e, f)
-
 -- a request that is held behind all others
-pub hold_stands : (w : World) (servers : List Server) (r new : Requests) (q : Question) (i : ℕ) (stand : Stand) (start : Start) → Stands w servers r → Each (λ (h : Pending). h.question.number < q.number) r.held → q.number ≤ r.asked → IsTakenAsked q.asked → IsNoRound stand
-    → IsAwaited w (length (server_of servers i).applied) q stand → new ≡ used (holding_with q i stand start r) → Stands w servers new
-hold_stands w servers r new q i stand start s below given taken no_round awaited e =
+pub hold_stands : (w : World) (servers : List Server) (r new : Requests) (q : Question) (i : ℕ) (stand : Stand) (start : Start) → Stands w servers r → Each (λ (h : Pending). h.question.number < q.number) r.held → q.number ≤ r.asked → IsTakenAsked q.asked
+    → IsAwaited w (length (server_of servers i).applied) q stand → IsLookedFor (server_of servers i).applied q.asked stand → new ≡ used (holding_with q i stand start r) → Stands w servers new
+hold_stands w servers r new q i stand start s below given taken awaited looked e =
     let h : Pending = record { question = q; server = i; stand = stand } in
     subst (Stands w servers) (sym e) (record {
       reached = s.reached;
@@ -119,8 +109,8 @@ hold_stands w servers r new q i stand start s below given taken no_round awaited
       joined = s.joined;
       proposed = s.proposed;
       ascends = ascends_last r.held h s.ascends below;
-      held = each_append (IsHeld w servers r.asked) r.held (h ∷ []) s.held (record { numbered = given; taken = taken; no_round = no_round; awaited = awaited }, tt);
-      calm = s.calm;
+      held = each_append (IsHeld w servers r.asked) r.held (h ∷ []) s.held (record { numbered = given; taken = taken; awaited = awaited; looked = looked }, tt);
+      no_ttl = s.no_ttl;
     })
 
 pub holds_as : (w : World) (servers : List Server) (r new : Requests) (q : Question) (i : ℕ) (stand : Stand) (start : Start) (c : Cluster) → cluster_of w servers r ≡ c → new ≡ used (holding_with q i stand start r) → cluster_of w servers new ≡ holding q i stand start c
@@ -130,33 +120,20 @@ holds_as w servers r new q i stand start c view e = ap (cluster_of w servers) e 
 pub below_next : (w : World) (servers : List Server) (r : Requests) (number : ℕ) → Stands w servers r → number ≡ r.asked + 1 → Each (λ (h : Pending). h.question.number < number) r.held
 below_next w servers r number s n = each_map (IsHeld w servers r.asked) (λ (h : Pending). h.question.number < number) (λ h l. omega (arith, l.numbered, n)) r.held s.held
 
--- a default read is held, to be looked for at once
-pub read_handles : (w : World) (servers : List Server) (r r' : Requests) (c : Cluster) (i agent : ℕ) (asked : Asked) (draw : Draw) (query : Query) (mode : Mode) (least wait : ℕ) (raw : Bool) (number deadline applied : ℕ) →
-    Comes w servers r c agent asked draw → IsTakenAsked asked → asked ≡ Good (Read query mode least wait raw) → is_ready c i ≡ true → number ≡ r.asked + 1 → deadline ≡ clock_of c.world i + wait_of wait → applied ≡ length (applied_of c i)
+-- a read that needs no round is held, to be looked for at once
+pub read_handles : (w : World) (servers : List Server) (r r' : Requests) (c : Cluster) (i agent : ℕ) (asked : Asked) (draw : Draw) (mode : Mode) (wait number deadline applied : ℕ) →
+    Comes w servers r c agent asked draw → IsTakenAsked asked → look_of asked ≡ Some (mode, wait) → mode ≢ Consistent → (is_stale_read asked || is_ready c i) ≡ true → number ≡ r.asked + 1 → deadline ≡ clock_of c.world i + wait_of wait → applied ≡ length (applied_of c i)
     → r' ≡ used (holding_with (record { number = number; agent = agent; asked = asked; draw = draw }) i (ForIndex deadline None) (Looked number i applied) (used (numbered_with agent asked draw (record r { room = 4 }))))
     → HandlesNewest i agent asked draw c (cluster_of w servers r') × Stands w servers r'
-read_handles w servers r r' c i agent asked draw query mode least wait raw number deadline applied at taken is ready n d l e =
+read_handles w servers r r' c i agent asked draw mode wait number deadline applied at taken look other go n d l e =
     let c₁ = numbered agent asked draw c in
     let r₂ = used (numbered_with agent asked draw (record r { room = 4 })) in
     let q : Question = record { number = number; agent = agent; asked = asked; draw = draw } in
     let same : q ≡ newest agent asked draw c₁ = ap (λ k. record { number = k; agent = agent; asked = asked; draw = draw }) (n ∙ sym (number_is w servers r c agent asked draw at)) in
     let done = holds_as w servers r₂ r' q i (ForIndex deadline None) (Looked number i applied) c₁ (numbered_cluster w servers r c agent asked draw at) e in (
-      reads mode wait (ap look_of is) (not_consistent mode (default_mode query mode least wait raw asked is taken)) (inr ready)
+      reads mode wait look other (one_of (is_stale_read asked) (is_ready c i) go)
           (done ∙ ap (λ (p : Question). holding p i (ForIndex deadline None) (Looked p.number i applied) c₁) same
           ∙ ap (λ k. holding (newest agent asked draw c₁) i (ForIndex k None) (Looked (newest agent asked draw c₁).number i applied) c₁) d
           ∙ ap (λ k. holding (newest agent asked draw c₁) i (ForIndex (clock_of c.world i + wait_of wait) None) (Looked (newest agent asked draw c₁).number i k) c₁) l),
       hold_stands w servers r₂ r' q i (ForIndex deadline None) (Looked number i applied) (numbered_stands w servers r c agent asked draw at) (below_next w servers r number at.stands n) (omega (arith, n)) taken tt tt e,
     )
-
--- a read, by its wait
-pub record IsReadOf (a : Asked) (wait : ℕ) : Type 0 where
-  pub query : Query
-  pub mode : Mode
-  pub least : ℕ
-  pub raw : Bool
-  pub is : a ≡ Good (Read query mode least wait raw)
-
-pub read_is : (a : Asked) (wait : ℕ) → ForRead a (λ n. wait ≡ n) → IsReadOf a wait
-read_is (Good (Read query mode least n raw)) wait f = record { query = query; mode = mode; least = least; raw = raw; is = ap (λ k. Good (Read query mode least k raw)) (sym f) }
-read_is (Good other) wait f = absurd f
-read_is (Bad why) wait f = absurd f

@@ -1,8 +1,8 @@
 pub mod Acts
 pub mod Beginning
-pub mod Calm
 pub mod Carried
 pub mod Dues
+pub mod Entered
 pub mod Finding
 pub mod Forgetting
 pub mod Going
@@ -13,11 +13,14 @@ pub mod Marking
 pub mod Numbers
 pub mod Outs
 pub mod Proposing
+pub mod Reaps
 pub mod Refused
 pub mod Replying
+pub mod Rounds
 pub mod Restarts
 pub mod Stores
 pub mod Taken
 pub mod Clocks
 pub mod Turns
 pub mod Notes
+pub mod Ttls

@@ -1,5 +1,5 @@
 -- A step of a server that is marked is one of the rules' cluster, and leaves the parts as they have to be.
-use Rattle.std.proofs.Common.{◌≡◌, ℕ, ◌+◌, ◌-◌, ◌≤◌, Bool, true, false, List, ◌++◌, length, drop, refl, sym, ◌∙◌, ap, subst, arith, length-drop}
+use Rattle.std.proofs.Common.{◌≡◌, ℕ, ◌+◌, ◌-◌, ◌≤◌, Bool, true, false, List, ◌++◌, length, drop, sym, ◌∙◌, ap, subst, arith, length-drop}
 use Rattle.std.proofs.lemmas.List.{length-take, take-append-drop}
 use Rattle.raft_model.specs.World.{World, IsReached}
 use Rattle.raft_world.specs.Steps.{KeepsAgreement}
@@ -30,7 +30,7 @@ with_notes w w' servers r notes room s reached goes greatest joined = record {
   proposed = greatest;
   ascends = s.ascends;
   held = all_later w w' servers r.asked r.asked r.held goes.on (omega arith) s.held;
-  calm = s.calm;
+  no_ttl = s.no_ttl;
 }
 
 -- the same requests in a world that went on, of which no more is agreed

@@ -1,5 +1,5 @@
 -- The numbers of servers.
-use Rattle.std.proofs.Common.{◌≡◌, ℕ, ◌≤◌, length, List, sym, ap, subst, arith}
+use Rattle.std.proofs.Common.{◌≡◌, ℕ, length, List, ap, arith}
 use Rattle.raft_model.specs.World.{World}
 use Rattle.raft_world.specs.Steps.{IsNumber}
 use Rattle.cluster_rules.specs.Cluster.{Cluster, Server}

@@ -1,5 +1,5 @@
 -- A write that was just noted is proposed: it is held at its place, or refused by what the proposal answered.
-use Rattle.std.proofs.Common.{◌≡◌, ◌≢◌, ◌⊎◌, inl, inr, ℕ, suc, ◌+◌, ◌-◌, ◌≤◌, max, Bool, true, false, cond, not, length, List, [], ◌∷◌, ◌++◌, Option, None, Result, Ok, Err, refl, sym, ap, ◌∙◌, subst, arith}
+use Rattle.std.proofs.Common.{◌≡◌, inl, inr, ℕ, suc, ◌+◌, ◌-◌, ◌≤◌, Bool, true, false, cond, not, length, List, [], ◌∷◌, ◌++◌, Result, Ok, Err, refl, sym, ap, ◌∙◌, subst, arith}
 use Rattle.std.specs.Prelude.{OnOk, OnErr, ◌&&◌, ◌<◌}
 use Rattle.std.specs.List.{AllByRecursion as Each}
 use Rattle.std.proofs.lemmas.List.{length-append}
@@ -8,9 +8,7 @@ use Rattle.cat_model.specs.declared.command.Entry.{Entry}
 use Rattle.cat_model.specs.declared.memory.Memory as memory
 use Rattle.cat_model.specs.declared.request.Asked.{Asked}
 use Rattle.cat_model.specs.declared.request.Asked.TheVariants.{Good}
-use Rattle.cat_model.specs.declared.request.Draw.{Draw}
 use Rattle.cat_model.specs.declared.request.Request.TheVariants.{Write as Writes}
-use Rattle.cat_model.specs.declared.reply.Role.TheVariants.{Leader}
 use Rattle.cat_model.specs.declared.reply.Kind.TheVariants.{Refused}
 use Rattle.cat_model.specs.declared.reply.Refusal.{Refusal}
 use Rattle.cat_model.specs.declared.reply.Refusal.TheVariants as refusal
@@ -21,15 +19,15 @@ use Rattle.raft_model.specs.Log.{Log}
 use Rattle.raft_model.specs.Node.{Node, last}
 use Rattle.raft_model.specs.Rules.{Propose, has_room, proposal}
 use Rattle.raft_model.specs.Step.{NodeStep, LogFails, Outcome}
-use Rattle.raft_model.specs.World.{World, Acts as NodeActs, IsServer}
+use Rattle.raft_model.specs.World.{World, Acts as NodeActs}
 use Rattle.raft_node.specs.declared.fault.ProposeFault.{ProposeFault}
 use Rattle.raft_node.specs.declared.fault.ProposeFault.TheVariants as fault
-use Rattle.raft_world.specs.Steps.{IsProposed, KeepsAgreement, Proposes}
+use Rattle.raft_world.specs.Steps.{KeepsAgreement, Proposes}
 use Rattle.script_runs.specs.Taken.{IsTakenAsked, is_command_taken}
 use Rattle.cluster_rules.specs.Cluster.{AtPlace, Cluster, Pending, Proposed, Server, node_of, runs_leading, server_of}
 use Rattle.cluster_rules.specs.Lasting.{IsWrite}
 use Rattle.cluster_rules.specs.Replies.{Question, Says, entered}
-use Rattle.cluster_rules.specs.Requests.{Handles, full, holding, delayed_at, is_ready, log_with, moved, proposes, refused, stops}
+use Rattle.cluster_rules.specs.Requests.{full, holding, is_ready, log_with, moved, proposes, refused, stops}
 use Rattle.cluster_rules.proofs.Boundary.{acts_greatest, acts_server, commit_within, leader_there, leading_tells, proposed as placed_by}
 use Rattle.cluster_rules.proofs.Tools.{is_node}
 use Rattle.cluster_turns.specs.Turns.{HandlesNewest, IsCome, newest, numbered}
@@ -37,13 +35,13 @@ use Rattle.cluster_servers.specs.Servers.{Servers}
 use Rattle.open_requests.specs.Requests.{Requests, answered_with, cluster_of, holding_with, numbered_with, used}
 use Rattle.cluster.specs.declared.asking.Write.{Write}
 use Rattle.cluster.specs.declared.moving.Seen.{Seen}
-use Rattle.cluster.specs.Asking.{EndsWrite, HoldsWrite, IsCopied, RefusesWrite}
+use Rattle.cluster.specs.Asking.{EndsWrite, IsCopied, IsTakenWrite}
 use Rattle.cluster.specs.Moving.{IsMarked, MarksStep, seen_of}
 use Rattle.cluster.specs.Standing.{HasPlace, IsAwaited, Stands}
 use Rattle.cluster.proofs.Carried.{carries, proposing_goes}
 use Rattle.cluster.proofs.Handled.{Comes, below_next, hold_stands, holds_as, numbered_cluster, numbered_stands, refusal_stands, refuses_as}
 use Rattle.cluster.proofs.Marking.{cluster_marked, stands_proposed, with_room}
-use Rattle.cluster.proofs.Taken.{entered_is, is_counted, is_free}
+use Rattle.cluster.proofs.Taken.{is_counted, is_free}
 
 -- the entry of a write that was taken, at its place
 awaits : (w w' : World) (servers : List Server) (i index term : ℕ) (q : Question) (command : Command) → q.asked ≡ Good (Writes command) → index ≡ suc (length (node_of w i).log) → term ≡ (node_of w i).term
@@ -61,11 +59,11 @@ bytes_more [] e n = let one = entry_bytes (is_noop e.command) (command_bytes e.c
 bytes_more (x ∷ log) e n = let more = bytes_more log e n in omega (arith, more)
 
 -- marks change nothing else
-marked_held : (b : Bool) (i count : ℕ) (old new : Requests) → IsMarked b i count old new → new.held ≡ old.held
+pub marked_held : (b : Bool) (i count : ℕ) (old new : Requests) → IsMarked b i count old new → new.held ≡ old.held
 marked_held true i count old new m = ap (λ (r : Requests). r.held) m
 marked_held false i count old new m = ap (λ (r : Requests). r.held) m
 
-marked_asked : (b : Bool) (i count : ℕ) (old new : Requests) → IsMarked b i count old new → new.asked ≡ old.asked
+pub marked_asked : (b : Bool) (i count : ℕ) (old new : Requests) → IsMarked b i count old new → new.asked ≡ old.asked
 marked_asked true i count old new m = ap (λ (r : Requests). r.asked) m
 marked_asked false i count old new m = ap (λ (r : Requests). r.asked) m
 
@@ -103,16 +101,15 @@ module _ (w w' : World) (servers : List Server) (r r' : Requests) (i : ℕ) (wri
   taken_write : is_command_taken command ≡ true
   taken_write = subst IsTakenAsked is.asked is.taken
 
-  command_is : entered q command ≡ command
-  command_is = entered_is q command taken_write
+  -- the command that is entered
+  abbrev enters : Command
+  enters = entered write.question command
 
   entry_is : write.entry ≡ proposal (node_of w i) q.number (entered q command)
-  entry_is =
-      is.copied.entry ∙ ap (λ k. record { term = (node_of w i).term; number = k; command = command }) next
-      ∙ ap (λ x. record { term = (node_of w i).term; number = q.number; command = x }) (sym command_is)
+  entry_is = is.copied.entry ∙ ap (λ (z : Question). record { term = (node_of w i).term; number = z.number; command = entered z command }) question_is
 
   -- the step is marked
-  module _ (a : NodeActs w i (Propose write.question.number command) w') (before now : Seen) (mid : Requests) (was : before ≡ seen_of w i) (seen : now ≡ seen_of w' i) (marked : MarksStep before now i r₁ mid) where
+  module _ (a : NodeActs w i (Propose write.question.number enters) w') (before now : Seen) (mid : Requests) (was : before ≡ seen_of w i) (seen : now ≡ seen_of w' i) (marked : MarksStep before now i r₁ mid) where
     marks : MarksStep (seen_of w i) (seen_of w' i) i r₁ mid
     marks = subst (λ (s : Seen). MarksStep s (seen_of w' i) i r₁ mid) was (subst (λ (s : Seen). MarksStep before s i r₁ mid) seen marked)
 
@@ -125,34 +122,34 @@ module _ (w w' : World) (servers : List Server) (r r' : Requests) (i : ℕ) (wri
         ∙ ap (moved i w') (numbered_cluster w servers r (cluster_of w servers r) write.question.agent write.asked write.question.draw is.at)
 
     low : w'.greatest ≤ r₁.asked
-    low = omega (arith, acts_greatest w i (Propose write.question.number command) w' a, is.at.stands.proposed, ap (λ (x : Question). x.number) is.copied.question)
+    low = omega (arith, acts_greatest w i (Propose write.question.number enters) w' a, is.at.stands.proposed, ap (λ (x : Question). x.number) is.copied.question)
 
     moved_stands : Stands w' servers mid
-    moved_stands = stands_proposed (not (node_of w i).halted && (node_of w' i).halted) i w w' servers r₁ mid stands₁ keeps (carries w w' servers (proposing_goes w i write.question.number command w' is.at.stands.reached a) is.at.stands.sound) low marks
+    moved_stands = stands_proposed (not (node_of w i).halted && (node_of w' i).halted) i w w' servers r₁ mid stands₁ keeps (carries w w' servers (proposing_goes w i write.question.number enters w' is.at.stands.reached a) is.at.stands.sound) low marks
 
     acts_now : NodeActs w i (Propose q.number (entered q command)) w'
-    acts_now = subst (λ (x : Command). NodeActs w i (Propose q.number x) w') (sym command_is) (subst (λ k. NodeActs w i (Propose k command) w') number_is a)
+    acts_now = subst (λ (z : Question). NodeActs w i (Propose z.number (entered z command)) w') question_is a
 
     same_node : node_of w i ≡ a.old
     same_node = is_node w i a.old a.server
 
-    room_is : (b : Bool) → has_room a.old write.question.number command ≡ b → has_room (node_of w i) q.number (entered q command) ≡ b
+    room_is : (b : Bool) → has_room a.old write.question.number enters ≡ b → has_room (node_of w i) q.number (entered q command) ≡ b
     room_is b e =
         ap (λ (n : Node). has_room n q.number (entered q command)) same_node
-        ∙ ap (has_room a.old q.number) command_is ∙ ap (λ k. has_room a.old k command) (sym number_is) ∙ e
+        ∙ ap (λ (z : Question). has_room a.old z.number (entered z command)) (sym question_is) ∙ e
 
     -- it is held
-    held_so : (place : Place) → place ≡ record { index = suc (last a.old); term = a.old.term } → has_room a.old write.question.number command ≡ true → a.new.halted ≡ false
+    held_so : (place : Place) → place ≡ record { index = suc (last a.old); term = a.old.term } → has_room a.old write.question.number enters ≡ true → a.new.halted ≡ false
         → r' ≡ used (holding_with write.question i (AtPlace place.index place.term) (Proposed place.index write.entry) mid)
         → HandlesNewest i write.question.agent write.asked write.question.draw (cluster_of w servers r) (cluster_of w' servers r') × Stands w' servers r'
     held_so place here room up e =
         let at : place ≡ record { index = suc (length (node_of w i).log); term = (node_of w i).term } = here ∙ ap (λ (n : Node). record { index = suc (length n.log); term = n.term }) (sym same_node) in
         let done = holds_as w' servers mid r' write.question i (AtPlace place.index place.term) (Proposed place.index write.entry) (moved i w' c₁) moved_cluster e in (
-          proposes command w' is.asked (is_free c₁ i command taken_write) (inr is.ready) (room_is true room) acts_now (ap (λ (n : Node). n.halted) (acts_server w i (Propose write.question.number command) w' a) ∙ up)
+          proposes command w' is.asked (is_free c₁ i command taken_write) (inr is.ready) (room_is true room) acts_now (ap (λ (n : Node). n.halted) (acts_server w i (Propose write.question.number enters) w' a) ∙ up)
               (done ∙ ap (λ (x : Question). holding x i (AtPlace place.index place.term) (Proposed place.index write.entry) (moved i w' c₁)) question_is
               ∙ ap (λ (x : Entry). holding q i (AtPlace place.index place.term) (Proposed place.index x) (moved i w' c₁)) entry_is
               ∙ ap (λ (p : Place). holding q i (AtPlace p.index p.term) (Proposed p.index (proposal (node_of w i) q.number (entered q command))) (moved i w' c₁)) at),
-          hold_stands w' servers mid r' write.question i (AtPlace place.index place.term) (Proposed place.index write.entry) moved_stands below given asked_taken tt (waits_at place at room up) e,
+          hold_stands w' servers mid r' write.question i (AtPlace place.index place.term) (Proposed place.index write.entry) moved_stands below given asked_taken (waits_at place at room up) tt e,
         )
       where
         held_same : mid.held ≡ r.held
@@ -176,11 +173,11 @@ module _ (w w' : World) (servers : List Server) (r r' : Requests) (i : ℕ) (wri
             let l = commit_within w is.at.stands.reached i (node_of w i) (leader_there w i is.leads) in
             omega arith
 
-        placed_now : a.new.halted ≡ false → has_room a.old write.question.number command ≡ true → IsPlaced w' (suc (length (node_of w i).log)) (proposal (node_of w i) q.number (entered q command))
+        placed_now : a.new.halted ≡ false → has_room a.old write.question.number enters ≡ true → IsPlaced w' (suc (length (node_of w i).log)) (proposal (node_of w i) q.number (entered q command))
         placed_now up room =
-            placed_by w is.at.stands.reached i q.number (entered q command) w' acts_now is.leads (room_is true room) (ap (λ (n : Node). n.halted) (acts_server w i (Propose write.question.number command) w' a) ∙ up)
+            placed_by w is.at.stands.reached i q.number (entered q command) w' acts_now is.leads (room_is true room) (ap (λ (n : Node). n.halted) (acts_server w i (Propose write.question.number enters) w' a) ∙ up)
 
-        waits_at : (place : Place) → place ≡ record { index = suc (length (node_of w i).log); term = (node_of w i).term } → has_room a.old write.question.number command ≡ true → a.new.halted ≡ false
+        waits_at : (place : Place) → place ≡ record { index = suc (length (node_of w i).log); term = (node_of w i).term } → has_room a.old write.question.number enters ≡ true → a.new.halted ≡ false
             → IsAwaited w' (length (server_of servers i).applied) write.question (AtPlace place.index place.term)
         waits_at place at room up =
             subst (λ (x : Question). IsAwaited w' (length (server_of servers i).applied) x (AtPlace place.index place.term)) (sym question_is)
@@ -190,25 +187,25 @@ module _ (w w' : World) (servers : List Server) (r r' : Requests) (i : ℕ) (wri
     refused_so : (why : Refusal) → r' ≡ used (answered_with write.question.number (Refused why) false 0 (Says why) mid) → (cluster_of w' servers r' ≡ refused q why (moved i w' c₁)) × Stands w' servers r'
     refused_so why e = (refuses_as w' servers mid r' q why (moved i w' c₁) write.question.number (sym number_is) moved_cluster e, refusal_stands w' servers mid r' write.question.number why moved_stands e)
 
-    full_so : has_room a.old write.question.number command ≡ false → r' ≡ used (answered_with write.question.number (Refused (refusal.LogFull write.entries write.bytes)) false 0 (Says (refusal.LogFull write.entries write.bytes)) mid)
+    full_so : has_room a.old write.question.number enters ≡ false → r' ≡ used (answered_with write.question.number (Refused (refusal.LogFull write.entries write.bytes)) false 0 (Says (refusal.LogFull write.entries write.bytes)) mid)
         → HandlesNewest i write.question.agent write.asked write.question.draw (cluster_of w servers r) (cluster_of w' servers r') × Stands w' servers r'
     full_so room e =
         let log = (node_of w i).log in
         let entries : write.entries ≡ length (log_with (node_of w i) q command) = is.copied.entries ∙ sym (length-append log (proposal (node_of w i) q.number (entered q command) ∷ [])) in
-        let counts : is_noop (entered q command) ≡ false = ap is_noop command_is ∙ is_counted command taken_write in
+        let counts : is_noop (entered q command) ≡ false = is_counted q command taken_write in
         let bytes : write.bytes ≡ log_bytes (log_with (node_of w i) q command) =
-        is.copied.bytes ∙ ap (λ x. log_bytes log + command_bytes x) (sym command_is) ∙ sym (bytes_more log (proposal (node_of w i) q.number (entered q command)) counts) in
+        is.copied.bytes ∙ ap (λ (z : Question). log_bytes log + command_bytes (entered z command)) question_is ∙ sym (bytes_more log (proposal (node_of w i) q.number (entered q command)) counts) in
         let done = refused_so (refusal.LogFull write.entries write.bytes) e in (
           full command w' is.asked (is_free c₁ i command taken_write) (inr is.ready) (room_is false room) acts_now
               (done.0 ∙ ap (λ k. refused q (refusal.LogFull k write.bytes) (moved i w' c₁)) entries ∙ ap (λ k. refused q (refusal.LogFull (length (log_with (node_of w i) q command)) k) (moved i w' c₁)) bytes),
           done.1,
         )
 
-    stops_so : has_room a.old write.question.number command ≡ true → a.outcome ≡ LogFails → r' ≡ used (answered_with write.question.number (Refused (refusal.Halted i)) false 0 (Says (refusal.Halted i)) mid)
+    stops_so : has_room a.old write.question.number enters ≡ true → a.outcome ≡ LogFails → r' ≡ used (answered_with write.question.number (Refused (refusal.Halted i)) false 0 (Says (refusal.Halted i)) mid)
         → HandlesNewest i write.question.agent write.asked write.question.draw (cluster_of w servers r) (cluster_of w' servers r') × Stands w' servers r'
     stops_so room fails e =
-        let step : NodeStep LogFails a.old (Propose write.question.number command) a.new a.sent = subst (λ (o : Outcome). NodeStep o a.old (Propose write.question.number command) a.new a.sent) fails a.step in
-        let down : (node_of w' i).halted ≡ true = ap (λ (n : Node). n.halted) (acts_server w i (Propose write.question.number command) w' a ∙ step.4) in
+        let step : NodeStep LogFails a.old (Propose write.question.number enters) a.new a.sent = subst (λ (o : Outcome). NodeStep o a.old (Propose write.question.number enters) a.new a.sent) fails a.step in
+        let down : (node_of w' i).halted ≡ true = ap (λ (n : Node). n.halted) (acts_server w i (Propose write.question.number enters) w' a ∙ step.4) in
         let done = refused_so (refusal.Halted i) e in
         (stops command w' is.asked (is_free c₁ i command taken_write) (inr is.ready) (room_is true room) acts_now down done.0, done.1)
 
@@ -219,7 +216,7 @@ module _ (w w' : World) (servers : List Server) (r r' : Requests) (i : ℕ) (wri
       × OnErr result (cluster_of w' servers r' ≡ cluster_of w servers r) × Stands w' servers r'
 
   ended : (before now : Seen) (proposed : Result Place ProposeFault) (result : Result Unit memory.Memory) (p : Requests) → p ≡ record r { room = 4 } → before ≡ seen_of w i → now ≡ seen_of w' i
-      → Proposes w i write.question.number command w' proposed → EndsWrite write before now i proposed result (record r { room = 4 }) r' → Ended result
+      → Proposes w i write.question.number enters w' proposed → EndsWrite write before now i proposed result (record r { room = 4 }) r' → Ended result
   ended before now (Ok place) (Ok u) p e was seen made ends =
       let done = held_so made.acts before now ends.0 was seen ends.1 place made.is made.may.2 made.runs ends.2 in (done.0, tt, done.1)
   ended before now (Ok place) (Err u) p e was seen made ends = absurd ends
@@ -242,36 +239,38 @@ module _ (w w' : World) (servers : List Server) (r r' : Requests) (i : ℕ) (wri
       )
 
 -- the same for a cluster that is seen so
-pub done_write : (s s' : Servers) (r p r' : Requests) (i : ℕ) (write : Write) (command : Command) (c : Cluster) (before now : Seen) (number : ℕ) (proposed : Result Place ProposeFault) (result : Result Unit memory.Memory) →
-    Stands s.world s.servers r → cluster_of s.world s.servers r ≡ c → IsCome write.question.agent write.asked write.question.draw c.past → IsCopied c i write.question.agent write.asked write.question.draw command write
-    → write.asked ≡ Good (Writes command) → IsTakenAsked write.asked → runs_leading c.world i ≡ true → is_ready c i ≡ true
+pub done_write : (s s' : Servers) (r p r' : Requests) (i : ℕ) (write : Write) (enters : Command) (c : Cluster) (before now : Seen) (number : ℕ) (proposed : Result Place ProposeFault) (result : Result Unit memory.Memory) →
+    Stands s.world s.servers r → cluster_of s.world s.servers r ≡ c → IsCome write.question.agent write.asked write.question.draw c.past → IsTakenWrite c i write → enters ≡ write.entry.command
+    → runs_leading c.world i ≡ true → is_ready c i ≡ true
     → p ≡ record r { room = 4 } → number ≡ write.question.number → before ≡ seen_of s.world i → now ≡ seen_of s'.world i
-    → Proposes s.world i number command s'.world proposed → KeepsAgreement s.world s'.world → s'.servers ≡ s.servers → EndsWrite write before now i proposed result p r'
+    → Proposes s.world i number enters s'.world proposed → KeepsAgreement s.world s'.world → s'.servers ≡ s.servers → EndsWrite write before now i proposed result p r'
     → OnOk result (HandlesNewest i write.question.agent write.asked write.question.draw c (cluster_of s'.world s'.servers r'))
     × OnErr result (cluster_of s'.world s'.servers r' ≡ c) × Stands s'.world s'.servers r'
-done_write s s' r p r' i write command c before now number proposed result stands view come copied asked taken leads ready prepared n was seen made keeps same ends =
+done_write s s' r p r' i write enters c before now number proposed result stands view come taken own leads ready prepared n was seen made keeps same ends =
+    let command = taken.command in
     let Goal : Cluster → List Server → Type 0 = λ d ss.
     OnOk result (HandlesNewest i write.question.agent write.asked write.question.draw d (cluster_of s'.world ss r')) × OnErr result (cluster_of s'.world ss r' ≡ d) × Stands s'.world ss r' in
     let is : IsProposing s.world s.servers r i write command = record {
       at = record { stands = stands; view = refl; come = subst (λ (d : Cluster). IsCome write.question.agent write.asked write.question.draw d.past) (sym view) come };
-      copied = subst (λ (d : Cluster). IsCopied d i write.question.agent write.asked write.question.draw command write) (sym view) copied;
-      asked = asked;
-      taken = taken;
+      copied = subst (λ (d : Cluster). IsCopied d i write.question.agent write.asked write.question.draw command write) (sym view) taken.copied;
+      asked = taken.asked;
+      taken = taken.taken;
       leads = subst (λ (d : Cluster). runs_leading d.world i ≡ true) (sym view) leads;
       ready = subst (λ (d : Cluster). is_ready d i ≡ true) (sym view) ready;
     } in
+    let enters_is : enters ≡ entered write.question command = own ∙ ap (λ (e : Entry). e.command) taken.copied.entry in
     subst (λ (ss : List Server). Goal c ss) (sym same) (subst (λ (d : Cluster). Goal d s.servers) view
     (ended s.world s'.world s.servers r r' i write command is keeps before now proposed result p prepared was seen
-    (subst (λ k. Proposes s.world i k command s'.world proposed) n made)
+    (subst (λ (x : Command). Proposes s.world i write.question.number x s'.world proposed) enters_is (subst (λ k. Proposes s.world i k enters s'.world proposed) n made))
     (subst (λ (o : Requests). EndsWrite write before now i proposed result o r') prepared ends)))
 
 -- Each part of it, for a cluster that is seen so afterwards.
-pub write_handled : (s s' : Servers) (r p r' : Requests) (i : ℕ) (write : Write) (command : Command) (c c' : Cluster) (before now : Seen) (number : ℕ) (proposed : Result Place ProposeFault) (result : Result Unit memory.Memory) →
-    Stands s.world s.servers r → cluster_of s.world s.servers r ≡ c → IsCome write.question.agent write.asked write.question.draw c.past → IsCopied c i write.question.agent write.asked write.question.draw command write
-    → write.asked ≡ Good (Writes command) → IsTakenAsked write.asked → runs_leading c.world i ≡ true → is_ready c i ≡ true
+pub write_handled : (s s' : Servers) (r p r' : Requests) (i : ℕ) (write : Write) (enters : Command) (c c' : Cluster) (before now : Seen) (number : ℕ) (proposed : Result Place ProposeFault) (result : Result Unit memory.Memory) →
+    Stands s.world s.servers r → cluster_of s.world s.servers r ≡ c → IsCome write.question.agent write.asked write.question.draw c.past → IsTakenWrite c i write → enters ≡ write.entry.command
+    → runs_leading c.world i ≡ true → is_ready c i ≡ true
     → p ≡ record r { room = 4 } → number ≡ write.question.number → before ≡ seen_of s.world i → now ≡ seen_of s'.world i
-    → Proposes s.world i number command s'.world proposed → KeepsAgreement s.world s'.world → s'.servers ≡ s.servers → EndsWrite write before now i proposed result p r' → cluster_of s'.world s'.servers r' ≡ c'
+    → Proposes s.world i number enters s'.world proposed → KeepsAgreement s.world s'.world → s'.servers ≡ s.servers → EndsWrite write before now i proposed result p r' → cluster_of s'.world s'.servers r' ≡ c'
     → OnOk result (HandlesNewest i write.question.agent write.asked write.question.draw c c') × OnErr result (c' ≡ c)
-write_handled s s' r p r' i write command c c' before now number proposed result stands view come copied asked taken leads ready prepared n was seen made keeps same ends shown =
-    let t = done_write s s' r p r' i write command c before now number proposed result stands view come copied asked taken leads ready prepared n was seen made keeps same ends in
+write_handled s s' r p r' i write enters c c' before now number proposed result stands view come taken own leads ready prepared n was seen made keeps same ends shown =
+    let t = done_write s s' r p r' i write enters c before now number proposed result stands view come taken own leads ready prepared n was seen made keeps same ends in
     subst (λ (d : Cluster). OnOk result (HandlesNewest i write.question.agent write.asked write.question.draw c d) × OnErr result (d ≡ c)) shown (t.0, t.1)

@@ -1,5 +1,5 @@
 -- A request comes and is refused at once.
-use Rattle.std.proofs.Common.{◌≡◌, ℕ, suc, ◌+◌, ◌≤◌, false, List, ◌∷◌, Result, Ok, Err, refl, sym, ap, ◌∙◌, subst, arith}
+use Rattle.std.proofs.Common.{◌≡◌, ℕ, suc, ◌+◌, false, List, ◌∷◌, Result, Ok, Err, ap, ◌∙◌, arith}
 use Rattle.std.specs.Prelude.{OnOk, OnErr}
 use Rattle.cat_model.specs.declared.request.Asked.{Asked}
 use Rattle.cat_model.specs.declared.request.Draw.{Draw}
@@ -43,7 +43,7 @@ came_stands w servers r agent asked draw s = record {
   proposed = omega (arith, s.proposed);
   ascends = s.ascends;
   held = all_more w servers r.asked (r.asked + 1) r.held (omega arith) s.held;
-  calm = s.calm;
+  no_ttl = s.no_ttl;
 }
 
 pub refused_stands : {A B : Type 0} (w : World) (servers : List Server) (r new : Requests) (agent : ℕ) (asked : Asked) (draw : Draw) (why : Refusal) (result : Result A B) → Stands w servers r

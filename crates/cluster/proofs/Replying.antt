@@ -1,5 +1,5 @@
 -- The last reply of a server is that of the write whose position it applied last.
-use Rattle.std.proofs.Common.{◌≡◌, ℕ, zero, suc, ◌-◌, ◌<◌, ◌≤◌, List, [], ◌∷◌, ◌++◌, length, take, Option, Some, None, refl, sym, ap, ◌∙◌, subst, arith}
+use Rattle.std.proofs.Common.{◌≡◌, ℕ, zero, suc, ◌-◌, ◌<◌, ◌≤◌, List, [], ◌∷◌, ◌++◌, length, take, Some, None, sym, ap, ◌∙◌, subst, arith}
 use Rattle.std.proofs.lemmas.List.{length-take, map-append, take_all}
 use Rattle.cat_model.specs.declared.applied.Applied.{Applied}
 use Rattle.cat_model.specs.declared.command.Command.{Command}

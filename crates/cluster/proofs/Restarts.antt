@@ -13,15 +13,15 @@ use Rattle.cluster_rules.specs.Cluster.{Cluster, Ended, Pending, Server, no_node
 use Rattle.cluster_rules.specs.Sound.{Ascends, ServerIsSound}
 use Rattle.cluster_rules.specs.Step.{begun_anew, ended, restarts}
 use Rattle.cluster_rules.proofs.Grows.{GoesTo, goes_by}
-use Rattle.cluster_rules.proofs.Tools.{at_item, eq_tells_not, is_place, item_other, item_same, length_set_server}
+use Rattle.cluster_rules.proofs.Tools.{eq_tells_not, is_place, item_other, item_same, length_set_server}
 use Rattle.open_requests.proofs.Lifting.{ends_by}
 use Rattle.open_requests.specs.Notes.{events_noted}
 use Rattle.open_requests.specs.Requests.{Requests, cluster_of, ended_all}
 use Rattle.cluster.specs.declared.moving.Seen.{Seen}
 use Rattle.cluster.specs.Moving.{IsMarked, seen_of}
-use Rattle.cluster.specs.Standing.{AppliesCalm, IsHeld, Stands}
+use Rattle.cluster.specs.Standing.{AppliesNoTtl, IsHeld, Stands}
 use Rattle.cluster.proofs.Acts.{ActedWhole, whole_with}
-use Rattle.cluster.proofs.Carried.{AreSound, Carries, held_less, server_later, sound_with}
+use Rattle.cluster.proofs.Carried.{AreSound, Carries, held_same, server_later, sound_with}
 use Rattle.cluster.proofs.Marking.{cluster_marked, stands_marked, with_room}
 
 number_kept : (i made : ℕ) (h : Pending) → (ended i made h).question.number ≡ h.question.number
@@ -35,14 +35,10 @@ ascends_kept : (i made : ℕ) (held : List Pending) → Ascends held → Ascends
 ascends_kept i made [] a = tt
 ascends_kept i made (h ∷ held) a = (above_kept i made h.question.number (ended i made h).question.number held (number_kept i made h) a.0, ascends_kept i made held a.1)
 
--- the server that begins again has applied nothing
-none_more : (servers : List Server) (i j : ℕ) → length (server_of (set_server servers i no_server) j).applied ≤ length (server_of servers j).applied
-none_more servers i j = at_item (λ (x : Server). length x.applied ≤ length (server_of servers j).applied) no_server servers i no_server j (λ e. omega arith) (omega arith)
-
 is_held : (w : World) (servers : List Server) (i made asked : ℕ) (h : Pending) → IsHeld w servers asked h → IsHeld w (set_server servers i no_server) asked (ended i made h)
 is_held w servers i made asked h s = at_bool (λ b. IsHeld w (set_server servers i no_server) asked (cond b (record h { stand = Ended made }) h)) (h.server == i)
-    (λ _. record { numbered = s.numbered; taken = s.taken; no_round = tt; awaited = tt })
-    (λ _. held_less w servers (set_server servers i no_server) asked h (none_more servers i h.server) s)
+    (λ _. record { numbered = s.numbered; taken = s.taken; awaited = tt; looked = tt })
+    (λ e. held_same w servers (set_server servers i no_server) asked h (ap (λ (x : Server). x.applied) (item_other no_server servers i h.server no_server (eq_tells_not h.server i e))) s)
 
 held_kept : (w : World) (servers : List Server) (i made asked : ℕ) (held : List Pending) → Each (IsHeld w servers asked) held → Each (IsHeld w (set_server servers i no_server) asked) (map (ended i made) held)
 held_kept w servers i made asked [] all = tt
@@ -51,14 +47,14 @@ held_kept w servers i made asked (h ∷ held) all = (is_held w servers i made as
 nothing_sound : (agreed : Log) (commit : ℕ) → ServerIsSound agreed commit no_server
 nothing_sound agreed commit = record { front = refl; within = omega arith; clocks = refl }
 
-calm_set : (l : List Server) → Each AppliesCalm l → (at : ℕ) → Each AppliesCalm (set l at no_server)
-calm_set [] all at = tt
-calm_set (x ∷ l) all zero = (refl, all.1)
-calm_set (x ∷ l) all (suc at) = (all.0, calm_set l all.1 at)
+no_ttl_set : (l : List Server) → Each AppliesNoTtl l → (at : ℕ) → Each AppliesNoTtl (set l at no_server)
+no_ttl_set [] all at = tt
+no_ttl_set (x ∷ l) all zero = (refl, all.1)
+no_ttl_set (x ∷ l) all (suc at) = (all.0, no_ttl_set l all.1 at)
 
-calm_kept : (servers : List Server) → Each AppliesCalm servers → (i : ℕ) → Each AppliesCalm (set_server servers i no_server)
-calm_kept servers all zero = all
-calm_kept servers all (suc at) = calm_set servers all at
+no_ttl_kept : (servers : List Server) → Each AppliesNoTtl servers → (i : ℕ) → Each AppliesNoTtl (set_server servers i no_server)
+no_ttl_kept servers all zero = all
+no_ttl_kept servers all (suc at) = no_ttl_set servers all at
 
 -- what server i holds is to be closed
 abbrev ended_with : ℕ → ℕ → Requests → Requests
@@ -75,7 +71,7 @@ stands_ended i made w servers r s = record {
   proposed = s.proposed;
   ascends = ascends_kept i made r.held s.ascends;
   held = held_kept w servers i made r.asked r.held s.held;
-  calm = calm_kept servers s.calm i;
+  no_ttl = no_ttl_kept servers s.no_ttl i;
 }
 
 ended_marked : (failed : Bool) (i made count : ℕ) (r r' : Requests) → IsMarked failed i count r r' → IsMarked failed i count (ended_with i made r) (ended_with i made r')

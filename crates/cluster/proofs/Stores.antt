@@ -1,13 +1,11 @@
 -- Stores in memory that hold nothing.
-use Rattle.std.proofs.Common.{◌≡◌, ◌⊎◌, inl, inr, ℕ, zero, suc, ◌+◌, ◌<◌, ◌≤◌, All, length, map, replicate, List, [], ◌∷◌, ◌++◌, Some, None, refl, sym, ap, ◌∙◌, subst, arith}
+use Rattle.std.proofs.Common.{◌≡◌, inl, ℕ, zero, suc, ◌+◌, ◌<◌, ◌≤◌, length, map, replicate, List, [], ◌∷◌, ◌++◌, Some, refl, sym, ap, ◌∙◌, subst, arith}
 use Rattle.std.proofs.lemmas.List.{length-map, replicate_more}
-use Rattle.std.specs.Option.{ForSome}
 use Rattle.cat_outside.specs.KeepersInMemory.{FaultyKeeper}
 use Rattle.raft_model.specs.Node.{Store}
-use Rattle.raft_model.specs.World.{World, AreEmpty, Begins}
-use Rattle.raft_node.specs.Nodes.{KeepsLimits}
+use Rattle.raft_model.specs.World.{AreEmpty}
 use Rattle.raft_node.specs.Steps.{stored}
-use Rattle.cluster_rules.specs.Cluster.{Cluster, started}
+use Rattle.cluster_rules.specs.Cluster.{Cluster}
 use Rattle.cluster_rules.specs.Reached.{AreUnarmed}
 use Rattle.script_runs.specs.Holds.{IsFirstStart}
 use Rattle.cluster.specs.Beginning.{HasBegun, MayBegin}

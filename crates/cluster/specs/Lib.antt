@@ -1,10 +1,11 @@
 pub mod Asking
 pub mod Beginning
-pub mod Calm
 pub mod Fitting
 pub mod Going
 pub mod Looking
 pub mod Moving
 pub mod Playing
 pub mod Standing
+pub mod Tending
+pub mod Ttls
 pub mod Working

@@ -1,23 +1,23 @@
 -- What the parts of a cluster have to do with each other.
-use Rattle.std.specs.Prelude.{◌≡◌, ℕ, ◌<◌, ◌≤◌, true, List, length}
+use Rattle.std.specs.Prelude.{◌≡◌, ℕ, ◌<◌, ◌≤◌, true, List, length, Some}
 use Rattle.std.specs.List.{AllByRecursion as Each, list_all}
 use Rattle.cat_model.specs.declared.command.Command.{Command}
+use Rattle.cat_model.specs.declared.request.Asked.{Asked}
+use Rattle.cat_model.specs.declared.request.Asked.TheVariants.{Good}
+use Rattle.cat_model.specs.declared.request.Request.TheVariants.{Read}
+use Rattle.cat_model.specs.Indexes.{index_of}
 use Rattle.cat_model.specs.Log.{commands_of}
 use Rattle.raft_model.specs.Facts.{IsPlaced}
+use Rattle.raft_model.specs.Log.{Log}
 use Rattle.raft_model.specs.World.{World, IsReached}
 use Rattle.script_runs.specs.Taken.{IsTakenAsked}
-use Rattle.cluster_rules.specs.Cluster.{Stand, AtPlace, InRound, ForIndex, Ended, Pending, Server, node_of, server_of}
+use Rattle.cluster_rules.specs.Cluster.{Stand, AtPlace, ForIndex, Pending, Server, node_of, server_of}
 use Rattle.cluster_rules.specs.Lasting.{IsWrite}
 use Rattle.cluster_rules.specs.Replies.{Question, entered}
 use Rattle.cluster_rules.specs.Sound.{Ascends, ServerIsSound}
-use Rattle.cluster.specs.Calm.{is_calm}
+use Rattle.cluster.specs.Ttls.{has_no_ttl}
 use Rattle.open_requests.specs.Notes.{joined_in}
 use Rattle.open_requests.specs.Requests.{Requests}
-
--- it waits for no round: no consistent read is taken so far
-abbrev pub IsNoRound : Stand → Type 0
-IsNoRound (InRound round deadline) = ⊥
-IsNoRound other = Unit {0}
 
 -- the entry with which the request enters this command has this place, now and later
 abbrev pub HasPlace : World → ℕ → ℕ → Question → Command → Type 0
@@ -29,16 +29,27 @@ abbrev pub IsAwaited : World → ℕ → Question → Stand → Type 0
 IsAwaited w applied q (AtPlace index term) = (0 < index) × (applied ≤ index) × IsWrite q.asked (HasPlace w index term q)
 IsAwaited w applied q other = Unit {0}
 
+-- A read at this applied prefix: its index is not above the one given.
+abbrev pub IsNotThere : Log → Asked → Type 0
+IsNotThere applied (Good (Read query mode least wait raw)) = index_of query (commands_of applied) ≤ least
+IsNotThere applied other = Unit {0}
+
+-- What waits for an index was looked for last after no more positions than its server has applied, and where it was
+-- after just those, the index was not there.
+abbrev pub IsLookedFor : Log → Asked → Stand → Type 0
+IsLookedFor applied asked (ForIndex deadline (Some n)) = (n ≤ length applied) × (n ≡ length applied → IsNotThere applied asked)
+IsLookedFor applied asked other = Unit {0}
+
 -- a held request is one of those that are taken so far, with a number that was given
 pub record IsHeld (w : World) (servers : List Server) (asked : ℕ) (h : Pending) : Type 0 where
   pub numbered : h.question.number ≤ asked
   pub taken : IsTakenAsked h.question.asked
-  pub no_round : IsNoRound h.stand
   pub awaited : IsAwaited w (length (server_of servers h.server).applied) h.question h.stand
+  pub looked : IsLookedFor (server_of servers h.server).applied h.question.asked h.stand
 
--- Nothing that a server has applied makes a later tick propose anything.
-abbrev pub AppliesCalm : Server → Type 0
-AppliesCalm s = list_all is_calm (commands_of s.applied) ≡ true
+-- None of the commands that a server has applied creates a session with a TTL.
+abbrev pub AppliesNoTtl : Server → Type 0
+AppliesNoTtl s = list_all has_no_ttl (commands_of s.applied) ≡ true
 
 -- The world is one of a run with as many servers, of which there is one at least, each has applied a front of the agreed
 -- log, the notes count the agreed log, no proposal has a number above those that were given, and held requests stand in
@@ -52,4 +63,4 @@ pub record Stands (w : World) (servers : List Server) (r : Requests) : Type 0 wh
   pub proposed : w.greatest ≤ r.asked
   pub ascends : Ascends r.held
   pub held : Each (IsHeld w servers r.asked) r.held
-  pub calm : Each AppliesCalm servers
+  pub no_ttl : Each AppliesNoTtl servers

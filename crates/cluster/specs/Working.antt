@@ -7,16 +7,17 @@ use Rattle.cluster_rules.specs.Replies.{Closed, shown}
 use Rattle.cluster_rules.specs.Cluster.{Cluster, applied_of, node_of}
 use Rattle.cluster_rules.specs.Due as rules
 use Rattle.cluster_rules.specs.Due.{due, put_out, without}
-use Rattle.cluster.specs.Calm.{is_calm}
+use Rattle.cluster.specs.Ttls.{has_no_ttl}
 use Rattle.cluster.specs.Looking.{is_early}
-use Rattle.open_requests.specs.Contents.{content_of}
+use Rattle.open_requests.specs.Contents.{content_of, stand_of}
 use Rattle.cluster.specs.declared.work.Work.{Work}
-use Rattle.cluster.specs.declared.work.Work.TheVariants.{Answer, Close, Apply}
+use Rattle.cluster.specs.declared.work.Work.TheVariants.{Answer, Hold, Close, Apply}
 
 -- It is this work of the rules at server i. A position is applied only where no held request has something due before.
 abbrev pub IsWork : Cluster → ℕ → Work → rules.Work → Type 0
 IsWork c i (Answer number kind content) (rules.Replies q kind') =
     (number ≡ q.number) × (kind ≡ kind') × (content_of content ≡ shown q kind' (applied_of c i))
+IsWork c i (Hold number stand) (rules.Holds h) = (number ≡ h.question.number) × (stand_of stand ≡ h.stand)
 IsWork c i (Close number event) (rules.Closes number' event') = (number ≡ number') × (event ≡ event')
 IsWork c i Apply rules.Applies = find (is_early c i) c.held ≡ None
 IsWork c i work other = ⊥
@@ -31,11 +32,11 @@ IsFound c i found other = ⊥
 abbrev pub closed : ℕ → ℕ → Cluster → Cluster
 closed number event c = record c { held = without number c.held; fresh = put_out (Closed number event) c.fresh }
 
--- the entry, if there is one, is of a calm command
-abbrev pub is_calm_entry : Option Entry → Bool
-is_calm_entry None = false
-is_calm_entry (Some e) = is_calm e.command
+-- the entry, if there is one, is of a command that has no TTL
+abbrev pub entry_has_no_ttl : Option Entry → Bool
+entry_has_no_ttl None = false
+entry_has_no_ttl (Some e) = has_no_ttl e.command
 
--- the next entry that server i may apply is of a calm command
-abbrev pub calm_next : Cluster → ℕ → Bool
-calm_next c i = is_calm_entry (entry_at (length (applied_of c i) + 1) (node_of c.world i).log)
+-- the next entry that server i may apply is of a command that has no TTL
+abbrev pub next_has_no_ttl : Cluster → ℕ → Bool
+next_has_no_ttl c i = entry_has_no_ttl (entry_at (length (applied_of c i) + 1) (node_of c.world i).log)

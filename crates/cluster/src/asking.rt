@@ -22,9 +22,6 @@ pub(crate) struct Write {
     pub(crate) bytes: u64,
 }
 
-// Lets go of a write that is not made.
-pub(crate) fn discard(_write: Write) {}
-
 // Refuses a write that was proposed.
 fn refuse_write(
     requests: &mut Requests,
@@ -122,7 +119,7 @@ pub(crate) fn end_write(
             Ok(())
         }
         Err(ProposeFault::NotLeader | ProposeFault::Memory) => {
-            discard(write);
+            drop(write);
             Err(Memory)
         }
     }

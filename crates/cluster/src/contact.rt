@@ -10,8 +10,8 @@ use crate::cluster::Cluster;
 use cat_model::{Kind, Mode};
 use cat_outside::Keeper;
 
-// Whether such a read is by the asked server as it stands.
-fn is_stale(mode: Mode) -> bool
+/// Whether such a read is by the asked server as it stands.
+pub(crate) fn is_stale(mode: Mode) -> bool
     ensures { result ≡ is_stale mode }
 {
     match mode {

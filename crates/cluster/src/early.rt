@@ -4,9 +4,10 @@ ghost use Rattle.std.specs.Prelude.{◌≡◌};
 ghost use Rattle.std.specs.List.{find};
 ghost use Rattle.std.specs.Option.{option_copied};
 ghost use Rattle.cluster_rules.specs.Cluster.{node_of};
+ghost use Rattle.cluster_rules.specs.Due.{was_seen};
 ghost use Rattle.cluster_rules.specs.Reached.{IsServerNumber};
 ghost use Rattle.open_requests.specs.Contents.{stand_of};
-ghost use Rattle.cluster.specs.Looking.{is_early, is_read, is_stand_due};
+ghost use Rattle.cluster.specs.Looking.{is_early, is_look_due, is_read, is_stand_due};
 
 use crate::cluster::Cluster;
 use cat_model::{Asked, Request};
@@ -19,6 +20,16 @@ fn is_read(asked: &Asked) -> bool
     matches!(asked, Asked::Good(Request::Read { .. }))
 }
 
+// A read was looked for last after so many positions.
+fn was_seen(seen: Option<u64>, applied: u64) -> bool
+    ensures { result ≡ was_seen seen applied }
+{
+    match seen {
+        None => false,
+        Some(last) => last == applied,
+    }
+}
+
 impl<K: Keeper> Cluster<K> {
     /// The server's durable store failed, and it has not restarted since.
     #[tactic(auto, using(crate::proofs::Numbers::is_number))]
@@ -29,7 +40,17 @@ impl<K: Keeper> Cluster<K> {
         self.servers.node(server).halted()
     }
 
-    // What the request waits for has come, at a server that runs.
+    // The time of a read is over, or it was not looked for yet at just what the server has applied.
+    #[tactic(auto, using(crate::proofs::Numbers::is_number))]
+    fn is_look_due(&self, server: u32, deadline: u64, seen: Option<u64>) -> bool
+        requires { IsServerNumber self.now server }
+        ensures { result ≡ is_look_due self.now server deadline seen }
+    {
+        deadline <= self.servers.clock(server) || !was_seen(seen, self.servers.applied(server))
+    }
+
+    // What the request waits for has come, at a server that runs. A read is looked for once at each position that is
+    // applied, and once more when its time is over: nothing tells which positions change its answer.
     #[tactic(auto, using(crate::proofs::Numbers::is_number))]
     fn is_stand_due(&self, server: u32, asked: &Asked, stand: Stand) -> bool
         requires { IsServerNumber self.now server }
@@ -39,7 +60,9 @@ impl<K: Keeper> Cluster<K> {
             Stand::Ended { .. } => true,
             Stand::AtPlace { index, .. } => index <= self.servers.applied(server),
             Stand::InRound { round, .. } => round.term < self.servers.node(server).term(),
-            Stand::ForIndex { .. } => is_read(asked),
+            Stand::ForIndex { deadline, seen } => {
+                is_read(asked) && self.is_look_due(server, deadline, seen)
+            }
         }
     }
 

@@ -1,30 +1,35 @@
 //! What a server does with a request that was just noted.
 
-ghost use Rattle.std.specs.Prelude.{◌≡◌, ◌<◌, ◌+◌, ◌-◌, ◌^◌, IfOk, OnErr, OnOk, false, true};
+ghost use Rattle.std.specs.Prelude.{◌≡◌, ◌≢◌, ◌+◌, ◌||◌, IfOk, OnErr, OnOk, Some, false, true};
 ghost use Rattle.cat_model.specs.LogLimits.{command_bytes as bytes_of_command};
 ghost use Rattle.cat_model.specs.declared.request.Asked.TheVariants.{Good};
+ghost use Rattle.cat_model.specs.declared.request.Mode.{Mode as SpecMode};
+ghost use Rattle.cat_model.specs.declared.request.Mode.TheVariants as modes;
 ghost use Rattle.cat_model.specs.declared.request.Request.TheVariants.{Write as Writes};
 ghost use Rattle.script_runs.specs.Taken.{IsTakenAsked};
 ghost use Rattle.cluster_rules.specs.Cluster.{runs_leading};
 ghost use Rattle.cluster_rules.specs.Due.{due};
 ghost use Rattle.cluster_rules.specs.Reached.{IsServerNumber};
-ghost use Rattle.cluster_rules.specs.Requests.{Goes, is_ready, wait_of};
+ghost use Rattle.cluster_rules.specs.Replies.{entered};
+ghost use Rattle.cluster_rules.specs.Requests.{Goes, is_ready, is_stale_read, look_of, wait_of};
 ghost use Rattle.cluster_turns.specs.Turns.{GoesBy, HandlesNewest, IsCome};
 ghost use Rattle.open_requests.specs.Contents.{HasWay};
-ghost use Rattle.cluster.specs.Asking.{ForRead, IsCopied};
+ghost use Rattle.cluster.specs.Asking.{IsCopied, IsTakenWrite};
 
-use crate::asking::{Write, discard, end_write};
+use crate::asking::{Write, end_write};
 use crate::cluster::Cluster;
+use crate::entering::entered;
 use crate::looking::copy_command;
 use crate::moving::see;
-use cat_model::{Asked, Command, Draw, Entry, Memory, Request};
+use crate::way::is_stale_read;
+use cat_model::{Asked, Command, Draw, Entry, Memory, Mode, Request};
 use cat_outside::Keeper;
 use open_requests::{Plain, Question, Stand, Start, copy_asked};
 use raft_node::batch::command_bytes;
 use std::alloc::Global;
 
-// How long a read waits at most, in milliseconds.
-fn wait_of(wait_ms: u64) -> u64
+/// How long a read waits at most, in milliseconds.
+pub(crate) fn wait_of(wait_ms: u64) -> u64
     ensures { result ≡ wait_of wait_ms }
 {
     if wait_ms == 0 {
@@ -34,40 +39,44 @@ fn wait_of(wait_ms: u64) -> u64
     }
 }
 
-fn discard_question(_question: Question) {}
-
-fn discard_copies(_question: Question, _entry: Entry) {}
-
-fn discard_proposal(_write: Write, _command: Command) {}
-
-fn copied_question(number: u64, agent: u32, asked: &Asked, draw: Draw) -> Result<Question, Memory>
+/// A request with its number, and a copy of what was asked.
+pub(crate) fn copied_question(
+    number: u64,
+    agent: u32,
+    asked: &Asked,
+    draw: Draw,
+) -> Result<Question, Memory>
     requires { HasWay asked.now }
     ensures { IfOk result (λ question. question ≡ record { number = number; agent = agent; asked = asked.now; draw = draw }) }
 {
     Ok(Question::new(number, agent, copy_asked(asked)?, draw))
 }
 
-fn copied_entry(term: u64, number: u64, command: &Command) -> Result<Entry, Memory>
-    ensures { IfOk result (λ entry. entry ≡ record { term = term; number = number; command = command.now }) }
+// The entry of a write at a leader of this term.
+fn entry_of(
+    alloc: Global,
+    question: &Question,
+    term: u64,
+    command: &Command,
+) -> Result<Entry, Memory>
+    ensures { IfOk result (λ entry. entry ≡ record { term = term; number = question.now.number; command = entered question.now command.now }) }
 {
     Ok(Entry {
         term,
-        number,
-        command: copy_command(command)?,
+        number: question.number(),
+        command: entered(alloc, question, command)?,
     })
 }
 
-// How many bytes these are together.
-fn total(bytes: u64, more: usize) -> Result<u64, Memory>
-    ensures { IfOk result (λ all. (all ≡ bytes + more) × (bytes < 2 ^ 64 - 1)) }
+// How many bytes these are with a command more.
+fn total(alloc: Global, bytes: u64, command: &Command) -> Result<u64, Memory>
+    ensures { IfOk result (λ all. all ≡ bytes + bytes_of_command command.now) }
 {
-    if bytes == u64::MAX {
-        return Err(Memory);
-    }
+    let more = command_bytes(alloc, command)?;
     bytes.checked_add(more as u64).ok_or(Memory)
 }
 
-fn with_entry(
+fn with_bytes(
     question: Question,
     entry: Entry,
     asked: &Asked,
@@ -86,27 +95,50 @@ fn with_entry(
             bytes,
         }),
         Err(Memory) => {
-            discard_copies(question, entry);
+            drop(question);
+            drop(entry);
+            Err(Memory)
+        }
+    }
+}
+
+fn with_entry(
+    alloc: Global,
+    question: Question,
+    entry: Entry,
+    asked: &Asked,
+    entries: u64,
+    before: u64,
+) -> Result<Write, Memory>
+    requires { HasWay asked.now }
+    ensures { IfOk result (λ write. write ≡ record { asked = asked.now; question = question; entry = entry; entries = entries; bytes = before + bytes_of_command entry.command }) }
+{
+    match total(alloc, before, &entry.command) {
+        Ok(bytes) => with_bytes(question, entry, asked, entries, bytes),
+        Err(Memory) => {
+            drop(question);
+            drop(entry);
             Err(Memory)
         }
     }
 }
 
 fn with_question(
+    alloc: Global,
     question: Question,
     term: u64,
     asked: &Asked,
     command: &Command,
     entries: u64,
-    bytes: u64,
+    before: u64,
 ) -> Result<Write, Memory>
     requires { HasWay asked.now }
-    ensures { IfOk result (λ write. write ≡ record { asked = asked.now; question = question; entry = record { term = term; number = question.number; command = command.now }; entries = entries; bytes = bytes }) }
+    ensures { let enters = entered question command.now in IfOk result (λ write. write ≡ record { asked = asked.now; question = question; entry = record { term = term; number = question.number; command = enters }; entries = entries; bytes = before + bytes_of_command enters }) }
 {
-    match copied_entry(term, question.number(), command) {
-        Ok(entry) => with_entry(question, entry, asked, entries, bytes),
+    match entry_of(alloc, &question, term, command) {
+        Ok(entry) => with_entry(alloc, question, entry, asked, entries, before),
         Err(Memory) => {
-            discard_question(question);
+            drop(question);
             Err(Memory)
         }
     }
@@ -121,6 +153,14 @@ impl<K: Keeper + Drop> Cluster<K> {
     {
         let applied = self.servers.last_term(server);
         !(applied < self.servers.node(server).term())
+    }
+
+    // A request goes on at a server that is ready, and a stale read anywhere.
+    fn may_go(&self, server: u32, asked: &Asked) -> bool
+        requires { IsServerNumber self.now server }
+        ensures { result ≡ (is_stale_read asked.now || is_ready self.now server) }
+    {
+        is_stale_read(asked) || self.is_ready(server)
     }
 
     // The copies of a write that a server is to enter.
@@ -140,10 +180,11 @@ impl<K: Keeper + Drop> Cluster<K> {
     {
         let number = self.requests.asked().checked_add(1).ok_or(Memory)?;
         let node = self.servers.node(server);
-        let bytes = total(node.log_bytes(alloc)?, command_bytes(alloc, command)?)?;
+        let term = node.term();
+        let before = node.log_bytes(alloc)?;
         let entries = node.last().checked_add(1).ok_or(Memory)?;
         let question = copied_question(number, agent, asked, draw)?;
-        with_question(question, node.term(), asked, command, entries, bytes)
+        with_question(alloc, question, term, asked, command, entries, before)
     }
 
     // Refuses a request at a server that is not ready.
@@ -158,7 +199,7 @@ impl<K: Keeper + Drop> Cluster<K> {
         requires server { IsServerNumber self.old server }
         requires taken { IsTakenAsked asked.now }
         requires come { IsCome agent asked.now draw self.old.past }
-        requires unready { is_ready self.old server ≡ false }
+        requires unready { (is_stale_read asked.now || is_ready self.old server) ≡ false }
         ensures ok { OnOk result (HandlesNewest server agent asked.now draw self.old self.new) }
         ensures err { OnErr result (self.new ≡ self.old) }
     {
@@ -174,7 +215,7 @@ impl<K: Keeper + Drop> Cluster<K> {
         Ok(())
     }
 
-    // Holds a default read, to be looked for at once.
+    // Holds a read that needs no round, to be looked for at once.
     #[tactic(auto, using(crate::proofs::Numbers::is_number, crate::proofs::Taken::has_way))]
     fn hold_read(
         &mut self,
@@ -186,9 +227,9 @@ impl<K: Keeper + Drop> Cluster<K> {
     ) -> Result<(), Memory>
         requires server { IsServerNumber self.old server }
         requires taken { IsTakenAsked asked.now }
-        requires wait { ForRead asked.now (λ wait. wait_ms ≡ wait) }
+        requires look { (mode : SpecMode) × (look_of asked.now ≡ Some (mode, wait_ms)) × (mode ≢ modes.Consistent) }
         requires come { IsCome agent asked.now draw self.old.past }
-        requires ready { is_ready self.old server ≡ true }
+        requires go { (is_stale_read asked.now || is_ready self.old server) ≡ true }
         ensures ok { OnOk result (HandlesNewest server agent asked.now draw self.old self.new) }
         ensures err { OnErr result (self.new ≡ self.old) }
     {
@@ -201,7 +242,7 @@ impl<K: Keeper + Drop> Cluster<K> {
         let copy = match copy_asked(asked) {
             Ok(copy) => copy,
             Err(Memory) => {
-                discard_question(question);
+                drop(question);
                 return Err(Memory);
             }
         };
@@ -219,7 +260,32 @@ impl<K: Keeper + Drop> Cluster<K> {
         Ok(())
     }
 
-    // Proposes a write at a server that leads and is ready.
+    // Begins with a read: a consistent one waits for a round first.
+    fn begin_read(
+        &mut self,
+        alloc: Global,
+        server: u32,
+        agent: u32,
+        asked: &Asked,
+        draw: Draw,
+        mode: Mode,
+        wait_ms: u64,
+    ) -> Result<(), Memory>
+        requires server { IsServerNumber self.old server }
+        requires taken { IsTakenAsked asked.now }
+        requires look { look_of asked.now ≡ Some (mode, wait_ms) }
+        requires come { IsCome agent asked.now draw self.old.past }
+        requires go { (is_stale_read asked.now || is_ready self.old server) ≡ true }
+        ensures ok { OnOk result (HandlesNewest server agent asked.now draw self.old self.new) }
+        ensures err { OnErr result (self.new ≡ self.old) }
+    {
+        match mode {
+            Mode::Consistent => self.begin_round(alloc, server, agent, asked, draw, wait_ms),
+            Mode::Default | Mode::Stale => self.hold_read(server, agent, asked, draw, wait_ms),
+        }
+    }
+
+    // Proposes a write with its entry's command at a server that leads and is ready.
     #[tactic(auto, using(crate::proofs::Numbers::is_number))]
     fn propose(
         &mut self,
@@ -229,9 +295,8 @@ impl<K: Keeper + Drop> Cluster<K> {
         command: Command,
     ) -> Result<(), Memory>
         requires server { IsServerNumber self.old server }
-        requires copied { IsCopied self.old server write.question.agent write.asked write.question.draw command write }
-        requires asked { write.asked ≡ Good (Writes command) }
-        requires taken { IsTakenAsked write.asked }
+        requires write { IsTakenWrite self.old server write }
+        requires command { command ≡ write.entry.command }
         requires come { IsCome write.question.agent write.asked write.question.draw self.old.past }
         requires leads { runs_leading self.old.world server ≡ true }
         requires ready { is_ready self.old server ≡ true }
@@ -239,7 +304,8 @@ impl<K: Keeper + Drop> Cluster<K> {
         ensures err { OnErr result (self.new ≡ self.old) }
     {
         if self.requests.prepare().is_err() {
-            discard_proposal(write, command);
+            drop(write);
+            drop(command);
             return Err(Memory);
         }
         let number = write.question.number();
@@ -270,10 +336,10 @@ impl<K: Keeper + Drop> Cluster<K> {
         ensures err { OnErr result (self.new ≡ self.old) }
     {
         let write = self.copies(alloc, server, agent, asked, draw, command)?;
-        match copy_command(command) {
+        match copy_command(&write.entry.command) {
             Ok(copy) => self.propose(alloc, server, write, copy),
             Err(Memory) => {
-                discard(write);
+                drop(write);
                 Err(Memory)
             }
         }
@@ -296,15 +362,15 @@ impl<K: Keeper + Drop> Cluster<K> {
         ensures ok { OnOk result (HandlesNewest server agent asked.now draw self.old self.new) }
         ensures err { OnErr result (self.new ≡ self.old) }
     {
-        if !self.is_ready(server) {
+        if !self.may_go(server, asked) {
             return self.refuse_unready(server, agent, asked, draw);
         }
         match asked {
             Asked::Good(Request::Write { command }) => {
                 self.enter(alloc, server, agent, asked, draw, command)
             }
-            Asked::Good(Request::Read { wait_ms, .. }) => {
-                self.hold_read(server, agent, asked, draw, *wait_ms)
+            Asked::Good(Request::Read { mode, wait_ms, .. }) => {
+                self.begin_read(alloc, server, agent, asked, draw, *mode, *wait_ms)
             }
             _ => unreachable!(),
         }

@@ -1,36 +1,27 @@
 //! What is due at a server.
 
-ghost use Rattle.std.specs.Prelude.{◌≡◌, ◌≢◌, ◌<◌, ◌≤◌, ℕ, Bool, None, Some, true, IfOk, OnErr, is_some, length, Option};
+ghost use Rattle.std.specs.Prelude.{◌≡◌, ◌≢◌, ◌≤◌, ℕ, None, Some, true, IfOk, OnErr, is_some, length};
 ghost use Rattle.std.specs.List.{find};
 ghost use Rattle.cat_model.specs.declared.reply.Kind.TheVariants as kinds;
 ghost use Rattle.cat_model.specs.declared.reply.Refusal.TheVariants as refusals;
-ghost use Rattle.cat_model.specs.declared.request.Asked.TheVariants.{Good};
-ghost use Rattle.cat_model.specs.declared.request.Request.TheVariants.{Read};
-ghost use Rattle.cat_model.specs.Indexes.{index_of};
-ghost use Rattle.cat_model.specs.Log.{commands_of};
-ghost use Rattle.cat_model.specs.Machine.{catalog_at};
-ghost use Rattle.cat_model.specs.Queries.{answer};
 ghost use Rattle.script_runs.specs.Taken.{IsTakenAsked};
 ghost use Rattle.cluster_rules.specs.Cluster as rules;
-ghost use Rattle.cluster_rules.specs.Cluster.{AtPlace, applied_of, clock_of};
-ghost use Rattle.cluster_rules.specs.Due.{Replies, asks_read, due, early_stand, early_work, is_ended, landed, next_work};
+ghost use Rattle.cluster_rules.specs.Cluster.{AtPlace, applied_of};
+ghost use Rattle.cluster_rules.specs.Due.{Replies, due, early_stand, early_work, first_work, is_ended, landed, late_work, next_work, or_work};
 ghost use Rattle.cluster_rules.specs.Reached.{IsServerNumber};
 ghost use Rattle.cluster_rules.specs.Replies as replies;
 ghost use Rattle.open_requests.specs.Contents.{content_of, stand_of, write_content};
-ghost use Rattle.cluster.specs.Looking.{IsAppliedLast, is_early, is_read};
-ghost use Rattle.cluster.specs.Standing.{IsAwaited, IsNoRound};
+ghost use Rattle.cluster.specs.Looking.{IsAppliedLast, is_early};
+ghost use Rattle.cluster.specs.Standing.{IsAwaited};
 ghost use Rattle.cluster.specs.Working.{IsFound, IsWork};
 
 use crate::cluster::Cluster;
+use crate::entering::entered;
 use crate::work::Work;
-use cat_model::{
-    Answer, Applied, Asked, Command, Kind, Memory, Mode, Query, Refusal, Request, Steps,
-};
+use cat_model::{Applied, Asked, Command, Kind, Memory, Refusal, Request};
 use cat_outside::Keeper;
 use open_requests::{Content, Pending, Question, Stand};
 use std::alloc::Global;
-use std::marker::Brand;
-use std::sync::ledger::{Blank, Ledger};
 
 fn is_ended(stand: Stand) -> bool
     ensures { result ≡ is_ended (stand_of stand) }
@@ -50,7 +41,7 @@ fn halted(number: u64, server: u32) -> Work
     }
 }
 
-// Another entry stands where a write was proposed.
+// Another entry stands where a write was proposed, or another term came while a read waited for its round.
 #[tactic(auto, unfolding(cluster_rules::specs::Replies::shown))]
 fn lost(number: u64, entered: u64, found: u64) -> Work
     ensures { (c : rules.Cluster) (i : ℕ) (q : replies.Question) → number ≡ q.number → IsWork c i result (Replies q (kinds.Refused (refusals.Lost entered found))) }
@@ -68,18 +59,15 @@ pub(crate) fn copy_command(command: &Command) -> Result<Command, Memory>
     Ok(command.clone()?)
 }
 
-fn discard(_applied: Applied) {}
-
 // What a write shows that is done, with the catalog's answer.
-fn written(question: &Question, applied: Applied) -> Result<Content, Memory>
-    requires { IsTakenAsked question.now.asked }
+fn written(alloc: Global, question: &Question, applied: Applied) -> Result<Content, Memory>
     ensures { IfOk result (λ content. content_of content ≡ write_content question.now question.now.asked applied) }
 {
     match question.asked() {
-        Asked::Good(Request::Write { command }) => match copy_command(command) {
+        Asked::Good(Request::Write { command }) => match entered(alloc, question, command) {
             Ok(command) => Ok(Content::Tells { command, applied }),
             Err(Memory) => {
-                discard(applied);
+                drop(applied);
                 Err(Memory)
             }
         },
@@ -87,79 +75,7 @@ fn written(question: &Question, applied: Applied) -> Result<Content, Memory>
     }
 }
 
-impl<K: Keeper> Cluster<K> {
-    // The answer to a query at all that a server has applied, with its index. Nobody asks for the count of its steps.
-    #[tactic(auto, using(crate::proofs::Numbers::is_number))]
-    fn read<L: Ledger>(
-        &self,
-        alloc: Global,
-        server: u32,
-        query: &Query,
-        blank: Blank,
-    ) -> Result<(Answer, u64), Memory>
-        requires server { IsServerNumber self.now server }
-        requires name { blank.name ≡ L.name }
-        requires parts { blank.parts ≡ L.parts }
-        requires some { 0 < L.parts }
-        ensures { let log = commands_of (applied_of self.now server) in IfOk result (λ r. r ≡ (answer query.now (catalog_at log), index_of query.now log)) }
-    {
-        let mut steps: Steps<L> = Steps::new(blank);
-        self.servers.read(alloc, server, query, &mut steps)
-    }
-
-    // A read is answered with all that the server has applied.
-    #[tactic(auto, using(crate::proofs::Numbers::is_number, crate::proofs::Finding::read_shown))]
-    fn answer_read(
-        &self,
-        alloc: Global,
-        server: u32,
-        question: &Question,
-        query: &Query,
-        mode: Mode,
-        deadline: u64,
-    ) -> Result<Work, Memory>
-        requires server { IsServerNumber self.now server }
-        requires asked { (least wait : ℕ) × (raw : Bool) × (question.now.asked ≡ Good (Read query.now mode least wait raw)) }
-        ensures { let log = applied_of self.now server in IfOk result (λ work. IsWork self.now server work (Replies question.now (kinds.At mode (length log) (index_of query.now (commands_of log)) (clock_of self.now.world server) deadline))) }
-    {
-        let (answer, index) = self.read::<Brand>(alloc, server, query, Blank::new(1))?;
-        let content = question.read_content(answer)?;
-        let kind = Kind::At {
-            mode,
-            prefix: self.servers.applied(server),
-            index,
-            clock: self.servers.clock(server),
-            deadline,
-        };
-        Ok(Work::Answer {
-            number: question.number(),
-            kind,
-            content,
-        })
-    }
-
-    // What is due of a read that waits for an index: its answer, since none that is taken so far names an index.
-    fn read_due(
-        &self,
-        alloc: Global,
-        server: u32,
-        question: &Question,
-        deadline: u64,
-    ) -> Result<Work, Memory>
-        requires server { IsServerNumber self.now server }
-        requires taken { IsTakenAsked question.now.asked }
-        requires read { is_read question.now.asked ≡ true }
-        ensures { IfOk result (λ work. (h : rules.Pending) (others : ℕ) (seen : Option ℕ) → h.question ≡ question.now
-            → IsFound self.now server (asks_read h others (clock_of self.now.world server) (applied_of self.now server) deadline seen question.now.asked) (Some work)) }
-    {
-        match question.asked() {
-            Asked::Good(Request::Read { query, mode, .. }) => {
-                self.answer_read(alloc, server, question, query, *mode, deadline)
-            }
-            _ => unreachable!(),
-        }
-    }
-
+impl<K: Keeper + Drop> Cluster<K> {
     // A write stands where it was proposed, and was applied last: the last reply is its own.
     #[tactic(auto, using(crate::proofs::Numbers::is_number, crate::proofs::Replying::written_shown))]
     fn acked(
@@ -178,7 +94,7 @@ impl<K: Keeper> Cluster<K> {
             Some(applied) => Ok(Work::Answer {
                 number: question.number(),
                 kind: Kind::Acked { position },
-                content: written(question, applied)?,
+                content: written(alloc, question, applied)?,
             }),
             None => unreachable!(),
         }
@@ -208,12 +124,11 @@ impl<K: Keeper> Cluster<K> {
         }
     }
 
-    // What is due of a held request by what it waits for. None waits for a round, since no consistent read is taken so
-    // far.
+    // What is due of a held request by what it waits for.
+    #[tactic(auto, using(crate::proofs::Numbers::is_number))]
     fn stand_due(&self, alloc: Global, server: u32, held: &Pending) -> Result<Work, Memory>
         requires server { IsServerNumber self.now server }
         requires taken { IsTakenAsked held.now.question.asked }
-        requires no_round { IsNoRound held.now.stand }
         requires awaited { IsAwaited self.now.world (length (applied_of self.now server)) held.now.question held.now.stand }
         requires early { is_some (early_stand self.now server held.now held.now.stand) ≡ true }
         ensures { IfOk result (λ work. IsFound self.now server (early_stand self.now server held.now held.now.stand) (Some work)) }
@@ -226,10 +141,13 @@ impl<K: Keeper> Cluster<K> {
             Stand::AtPlace { index, term } => {
                 self.write_due(alloc, server, held.question(), index, term)
             }
-            Stand::ForIndex { deadline, .. } => {
-                self.read_due(alloc, server, held.question(), deadline)
+            Stand::ForIndex { deadline, seen } => {
+                self.read_due(alloc, server, held, deadline, seen)
             }
-            Stand::InRound { .. } => unreachable!(),
+            Stand::InRound { round, .. } => {
+                let found = self.servers.node(server).term();
+                Ok(lost(held.number(), round.term, found))
+            }
         }
     }
 
@@ -237,7 +155,6 @@ impl<K: Keeper> Cluster<K> {
     fn early_due(&self, alloc: Global, server: u32, held: &Pending) -> Result<Work, Memory>
         requires server { IsServerNumber self.now server }
         requires taken { IsTakenAsked held.now.question.asked }
-        requires no_round { IsNoRound held.now.stand }
         requires awaited { IsAwaited self.now.world (length (applied_of self.now server)) held.now.question held.now.stand }
         requires early { is_some (early_work self.now server held.now) ≡ true }
         ensures { IfOk result (λ work. IsFound self.now server (early_work self.now server held.now) (Some work)) }
@@ -263,6 +180,18 @@ impl<K: Keeper> Cluster<K> {
         }
     }
 
+    // The next position, or a round that is confirmed once there is none.
+    fn later_due(&self, server: u32) -> Option<Work>
+        requires server { IsServerNumber self.now server }
+        requires none { find (is_early self.now server) self.now.held ≡ None }
+        ensures { IsFound self.now server (or_work (next_work self.now server) (first_work (late_work self.now server) self.now.held)) result }
+    {
+        match self.next_due(server) {
+            Some(work) => Some(work),
+            None => self.late_due(server),
+        }
+    }
+
     /// What is due first at a server, if anything is. It lacks memory only where there is something.
     pub(crate) fn find(&self, alloc: Global, server: u32) -> Result<Option<Work>, Memory>
         requires { IsServerNumber self.now server }
@@ -274,7 +203,7 @@ impl<K: Keeper> Cluster<K> {
                 Ok(work) => Ok(Some(work)),
                 Err(Memory) => Err(Memory),
             },
-            None => Ok(self.next_due(server)),
+            None => Ok(self.later_due(server)),
         }
     }
 }

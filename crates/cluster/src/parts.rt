@@ -43,9 +43,8 @@ impl<K: Keeper + Drop> Parts for Cluster<K> {
         self.tick(server, ms);
     }
 
-    fn tend(&mut self, _alloc: Global, server: u32) -> Result<(), Memory> {
-        self.tend(server);
-        Ok(())
+    fn tend(&mut self, alloc: Global, server: u32) -> Result<(), Memory> {
+        self.tend(alloc, server)
     }
 
     fn shelve(&mut self) {

@@ -11,7 +11,7 @@ use cat_model::Memory;
 use cat_outside::Keeper;
 use std::alloc::Global;
 
-impl<K: Keeper> Cluster<K> {
+impl<K: Keeper + Drop> Cluster<K> {
     /// Does what is due first at a server, and says whether there was something. It lacks memory only where there is.
     pub(crate) fn turn(&mut self, alloc: Global, server: u32) -> Result<bool, Memory>
         requires { IsServerNumber self.old server }

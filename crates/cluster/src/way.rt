@@ -4,12 +4,13 @@ ghost use Rattle.std.specs.Prelude.{◌≡◌, ◌<◌, ◌≤◌, ◌+◌, IfOk
 ghost use Rattle.script_runs.specs.Taken.{IsTakenAsked};
 ghost use Rattle.cluster_rules.specs.Cluster.{no_node, node_of, runs_leading};
 ghost use Rattle.cluster_rules.specs.Reached.{IsAgentNumber, IsServerNumber};
-ghost use Rattle.cluster_rules.specs.Requests.{Goes, asked_server, to_leader, way_of as rules_way};
+ghost use Rattle.cluster_rules.specs.Requests.{Goes, asked_server, is_stale_read, to_leader, way_of as rules_way};
 ghost use Rattle.cluster_turns.specs.Turns.{GoesBy, way_of};
 ghost use Rattle.cluster.specs.Going.{held_of};
 
 use crate::cluster::Cluster;
-use cat_model::{Asked, Held, Memory, Refusal, Role};
+use crate::contact::is_stale;
+use cat_model::{Asked, Held, Memory, Refusal, Request, Role};
 use cat_outside::Keeper;
 use cluster_turns::Way;
 
@@ -18,6 +19,17 @@ fn copied(why: &Refusal) -> Result<Refusal, Memory>
     ensures { IfOk result (λ copy. copy ≡ why.now) }
 {
     Ok(why.clone()?)
+}
+
+/// It is a stale read or execution.
+pub(crate) fn is_stale_read(asked: &Asked) -> bool
+    ensures { result ≡ is_stale_read asked.now }
+{
+    match asked {
+        Asked::Good(Request::Read { mode, .. }) => is_stale(*mode),
+        Asked::Good(Request::Execute { mode, .. }) => is_stale(*mode),
+        _ => false,
+    }
 }
 
 impl<K: Keeper> Cluster<K> {
@@ -91,24 +103,25 @@ impl<K: Keeper> Cluster<K> {
         })
     }
 
-    // The way of a request that is one, from the asked server.
+    // The way of a request that is one, from the asked server. A stale read stays there.
     #[tactic(auto, using(crate::proofs::Numbers::is_number))]
-    fn way_from(&self, server: u32) -> Way
+    fn way_from(&self, server: u32, stale: bool) -> Way
         requires { IsServerNumber self.now server }
-        ensures way { way_of result ≡ rules_way self.now.world server false }
+        ensures way { way_of result ≡ rules_way self.now.world server stale }
         ensures server { (there : ℕ) → way_of result ≡ Goes there → IsServerNumber self.now there }
     {
         let node = self.servers.node(server);
         if node.halted() {
             return Way::Answers(Refusal::Halted { server });
         }
-        if self.runs_leading(server) {
+        if stale || self.runs_leading(server) {
             return Way::Goes(server);
         }
         self.way_to(server, node.leader())
     }
 
     /// Where a request of an agent goes.
+    #[tactic(auto, using(crate::proofs::Going::way_is))]
     pub(crate) fn way_of(&self, agent: u32, asked: &Asked) -> Result<Way, Memory>
         requires agent { IsAgentNumber self.now agent }
         requires takes { IsTakenAsked asked.now }
@@ -116,7 +129,10 @@ impl<K: Keeper> Cluster<K> {
         ensures server { IfOk result (λ way. (server : ℕ) → way_of way ≡ Goes server → IsServerNumber self.now server) }
     {
         match asked {
-            Asked::Good(_) => Ok(self.way_from(self.asked_server(agent))),
+            Asked::Good(_) => {
+                let stale = is_stale_read(asked);
+                Ok(self.way_from(self.asked_server(agent), stale))
+            }
             Asked::Bad(why) => Ok(Way::Answers(copied(why)?)),
         }
     }

@@ -1,5 +1,5 @@
 use cat_model::Kind;
-use open_requests::Content;
+use open_requests::{Content, Stand};
 
 /// What is due at a server.
 #[derive(Drop)]
@@ -9,6 +9,11 @@ pub(crate) enum Work {
         number: u64,
         kind: Kind,
         content: Content,
+    },
+    /// A held request waits for something else.
+    Hold {
+        number: u64,
+        stand: Stand,
     },
     /// A held request is closed, since its server restarted in the event with this number.
     Close {

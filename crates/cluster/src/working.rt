@@ -1,32 +1,31 @@
 //! Doing what is due at a server.
 
-ghost use Rattle.std.specs.Prelude.{◌≡◌, ◌<◌, None, OnErr, OnOk, Some, length, true};
+ghost use Rattle.std.specs.Prelude.{◌≡◌, ◌<◌, ℕ, None, OnErr, OnOk, Some, length, true};
 ghost use Rattle.std.specs.List.{find};
-ghost use Rattle.cluster_rules.specs.Cluster.{applied_of, contact_of, knows, node_of};
+ghost use Rattle.cluster_rules.specs.Cluster.{Pending, applied_of, contact_of, knows, node_of};
 ghost use Rattle.cluster_rules.specs.Due as rules;
-ghost use Rattle.cluster_rules.specs.Due.{answered, applies, did, due};
+ghost use Rattle.cluster_rules.specs.Due.{answered, applies, did, due, with_held};
 ghost use Rattle.cluster_rules.specs.Reached.{IsServerNumber};
 ghost use Rattle.cluster_rules.specs.Replies.{Question, shown};
-ghost use Rattle.open_requests.specs.Contents.{content_of};
+ghost use Rattle.open_requests.specs.Contents.{content_of, stand_of};
 ghost use Rattle.cluster.specs.Looking.{is_early};
-ghost use Rattle.cluster.specs.Working.{IsWork, calm_next, closed};
-ghost use Rattle.cluster.specs.Calm.{is_calm};
+ghost use Rattle.cluster.specs.Working.{IsWork, next_has_no_ttl, closed};
+ghost use Rattle.cluster.specs.Ttls.{has_no_ttl};
 
 use crate::cluster::Cluster;
 use crate::work::Work;
 use cat_model::{Command, Kind, Memory};
 use cat_outside::Keeper;
-use open_requests::Content;
+use open_requests::{Content, Stand};
 use std::alloc::Global;
 
-// No later tick of a leading server has anything to propose because of such a command.
-fn is_calm(command: &Command) -> bool
-    ensures { result ≡ is_calm command.now }
+fn has_no_ttl(command: &Command) -> bool
+    ensures { result ≡ has_no_ttl command.now }
 {
-    matches!(
-        command,
-        Command::Noop | Command::Register { .. } | Command::KvSet { .. } | Command::KvCas { .. }
-    )
+    match command {
+        Command::SessionCreate { ttl_ms, .. } => *ttl_ms == 0,
+        _ => true,
+    }
 }
 
 impl<K: Keeper> Cluster<K> {
@@ -48,6 +47,14 @@ impl<K: Keeper> Cluster<K> {
         self.requests.answer(number, kind, known, contact, content)
     }
 
+    // A held request waits for something else.
+    fn hold_on(&mut self, number: u64, stand: Stand)
+        requires { (i : ℕ) × (h : Pending) × (due i self.old ≡ Some (rules.Holds h)) × (number ≡ h.question.number) × (stand_of stand ≡ h.stand) }
+        ensures { (i : ℕ) (h : Pending) → due i self.old ≡ Some (rules.Holds h) → number ≡ h.question.number → stand_of stand ≡ h.stand → self.new ≡ record self.old { held = with_held h self.old.held } }
+    {
+        self.requests.restand(number, stand);
+    }
+
     // Closes a held request.
     fn close(&mut self, number: u64, event: u64) -> Result<(), Memory>
         ensures done { OnOk result (self.new ≡ closed number event self.old) }
@@ -56,17 +63,17 @@ impl<K: Keeper> Cluster<K> {
         self.requests.close(number, event)
     }
 
-    // The entry at the server's next position is one that this program takes.
+    // The entry at the server's next position is no session with a TTL, of which this program takes none.
     #[tactic(auto, using(crate::proofs::Numbers::is_number))]
     fn takes_next(&self, server: u32) -> bool
         requires { IsServerNumber self.now server }
-        ensures { result ≡ true → calm_next self.now server ≡ true }
+        ensures { result ≡ true → next_has_no_ttl self.now server ≡ true }
     {
         let Some(next) = self.servers.applied(server).checked_add(1) else {
             return false;
         };
         match self.servers.node(server).entry(next) {
-            Some(entry) => is_calm(&entry.command),
+            Some(entry) => has_no_ttl(&entry.command),
             None => false,
         }
     }
@@ -85,8 +92,8 @@ impl<K: Keeper> Cluster<K> {
         self.servers.apply(alloc, server)
     }
 
-    /// Does what is due first at a server. It answers Memory also where that is to apply an entry that is not taken so
-    /// far: such a one can only come out of a durable store.
+    /// Does what is due first at a server. It answers Memory also where that is to apply the creation of a session with
+    /// a TTL, which is not taken so far: such an entry can only come out of a durable store.
     pub(crate) fn perform(&mut self, alloc: Global, server: u32, work: Work) -> Result<(), Memory>
         requires server { IsServerNumber self.old server }
         requires due { (w : rules.Work) × (due server self.old ≡ Some w) × IsWork self.old server work w }
@@ -99,6 +106,10 @@ impl<K: Keeper> Cluster<K> {
                 kind,
                 content,
             } => self.answer(server, number, kind, content),
+            Work::Hold { number, stand } => {
+                self.hold_on(number, stand);
+                Ok(())
+            }
             Work::Close { number, event } => self.close(number, event),
             Work::Apply => self.apply_next(alloc, server),
         }

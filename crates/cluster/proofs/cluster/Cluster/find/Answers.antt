@@ -2,7 +2,7 @@ use Rattle.std.proofs.Common.{None, Some, ap}
 use Rattle.std.specs.Option.{option_copied}
 use Rattle.cluster.specs.Looking.{is_early}
 use Rattle.cluster.specs.Standing.{IsHeld}
-use Rattle.cluster.proofs.Finding.{awaited_here, early_behind, early_found, found_held, found_in, held_each, next_found, some_early}
+use Rattle.cluster.proofs.Finding.{awaited_here, early_behind, early_found, found_held, found_in, held_each, later_found, some_early}
 use Rattle.cluster.proofs.cluster.Cluster.find.Goals as goal
 
 pub early_due-requires-clause-taken : goal.early_due-requires-clause-taken
@@ -11,20 +11,14 @@ early_due-requires-clause-taken g c =
     let found = found_in c.self.inside.servers.world c.self.inside.servers.servers c.self.inside.requests c.args.self.now c.args.server c.held.result.now (option_copied c.first_early.result) (Some c.in-Some.held.now) c.self.view_is c.held.ensures c.first_early.ensures (ap option_copied c.in-Some.is) in
     (found_held (is_early c.args.self.now c.args.server) (IsHeld c.args.self.now.world c.args.self.now.servers c.args.self.now.asked) c.args.self.now.held c.in-Some.held.now each found).held.taken
 
-pub early_due-requires-clause-no_round : goal.early_due-requires-clause-no_round
-early_due-requires-clause-no_round g c =
-    let each = held_each c.self.inside.servers.world c.self.inside.servers.servers c.self.inside.requests c.args.self.now c.self.invariant c.self.view_is in
-    let found = found_in c.self.inside.servers.world c.self.inside.servers.servers c.self.inside.requests c.args.self.now c.args.server c.held.result.now (option_copied c.first_early.result) (Some c.in-Some.held.now) c.self.view_is c.held.ensures c.first_early.ensures (ap option_copied c.in-Some.is) in
-    (found_held (is_early c.args.self.now c.args.server) (IsHeld c.args.self.now.world c.args.self.now.servers c.args.self.now.asked) c.args.self.now.held c.in-Some.held.now each found).held.no_round
-
 pub early_due-requires-clause-awaited : goal.early_due-requires-clause-awaited
 early_due-requires-clause-awaited g c =
     let each = held_each c.self.inside.servers.world c.self.inside.servers.servers c.self.inside.requests c.args.self.now c.self.invariant c.self.view_is in
     let found = found_in c.self.inside.servers.world c.self.inside.servers.servers c.self.inside.requests c.args.self.now c.args.server c.held.result.now (option_copied c.first_early.result) (Some c.in-Some.held.now) c.self.view_is c.held.ensures c.first_early.ensures (ap option_copied c.in-Some.is) in
     awaited_here c.args.self.now c.args.server c.args.self.now.asked c.in-Some.held.now (found_held (is_early c.args.self.now c.args.server) (IsHeld c.args.self.now.world c.args.self.now.servers c.args.self.now.asked) c.args.self.now.held c.in-Some.held.now each found)
 
-pub next_due-requires-clause-none : goal.next_due-requires-clause-none
-next_due-requires-clause-none g c =
+pub later_due-requires-clause-none : goal.later_due-requires-clause-none
+later_due-requires-clause-none g c =
     found_in c.self.inside.servers.world c.self.inside.servers.servers c.self.inside.requests c.args.self.now c.args.server c.held.result.now (option_copied c.first_early.result) None c.self.view_is c.held.ensures c.first_early.ensures (ap option_copied c.in-None.is)
 
 pub early_due-requires-clause-early : goal.early_due-requires-clause-early
@@ -49,4 +43,4 @@ pub returns-in-None-clause-found : goal.returns-in-None-clause-found
 returns-in-None-clause-found g c =
     let each = held_each c.self.inside.servers.world c.self.inside.servers.servers c.self.inside.requests c.args.self.now c.self.invariant c.self.view_is in
     let found = found_in c.self.inside.servers.world c.self.inside.servers.servers c.self.inside.requests c.args.self.now c.args.server c.held.result.now (option_copied c.first_early.result) None c.self.view_is c.held.ensures c.first_early.ensures (ap option_copied c.in-None.is) in
-    next_found c.args.self.now c.args.server c.args.self.now.asked c.next_due.result each found c.next_due.ensures
+    later_found c.args.self.now c.args.server c.args.self.now.asked c.later_due.result each found c.later_due.ensures

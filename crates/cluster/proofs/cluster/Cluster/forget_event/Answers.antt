@@ -1,4 +1,4 @@
-use Rattle.std.proofs.Common.{◌≡◌, ◌∙◌, ap, sym, subst}
+use Rattle.std.proofs.Common.{◌∙◌, ap, sym, subst}
 use Rattle.open_requests.specs.Requests.{Requests, cluster_of}
 use Rattle.cluster.specs.Standing.{Stands}
 use Rattle.cluster.proofs.Notes.{forgotten_is, forgotten_stands, just_noted}

@@ -1,4 +1,4 @@
-use Rattle.std.proofs.Common.{length, map, sym, subst, ◌∙◌}
+use Rattle.std.proofs.Common.{length, sym, subst}
 use Rattle.std.proofs.lemmas.List.{length-map}
 use Rattle.open_requests.specs.Requests as own
 use Rattle.cluster.specs.Standing.{Stands}

@@ -2,11 +2,11 @@ use Rattle.std.proofs.Common.{◌≡◌, ◌+◌, false, ap, ◌∙◌, rules}
 use Rattle.cat_model.specs.declared.request.Asked.{Asked}
 use Rattle.cat_model.specs.declared.reply.Kind.TheVariants.{Refused}
 use Rattle.cat_model.specs.declared.reply.Refusal.TheVariants as refusal
-use Rattle.cluster_rules.specs.Cluster.{Cluster, applied_of, node_of}
+use Rattle.cluster_rules.specs.Cluster.{applied_of, node_of}
 use Rattle.cluster_rules.specs.Replies.{Says}
 use Rattle.raft_model.specs.Log.{last_term}
 use Rattle.open_requests.specs.Requests.{Requests, answered_with, numbered_with, used}
-use Rattle.cluster.proofs.Handled.{Comes, made_last, unready_handles, unready_stands}
+use Rattle.cluster.proofs.Handled.{made_last, unready_handles, unready_stands}
 use Rattle.cluster.proofs.cluster.Cluster.refuse_unready.Goals as goal
 
 pub number-requires-clause-made : goal.number-requires-clause-made
@@ -32,5 +32,5 @@ returns-clause-ok g c =
     let term : c.term.result ≡ (node_of c.args.self.now.world c.args.server).term = search rules in
     let applied : c.last_term.result ≡ last_term (applied_of c.args.self.now c.args.server) = search rules in
     unready_handles c.self.inside.servers.world c.self.inside.servers.servers old c.refuse.new.self c.args.self.now c.args.server c.args.agent c.args.asked.now c.args.draw c.in_ok-number.number c.term.result c.last_term.result
-    (record { stands = c.self.invariant; view = c.self.view_is; come = c.requires.come }) c.requires.taken c.requires.unready number term applied
+    (record { stands = c.self.invariant; view = c.self.view_is; come = c.requires.come }) c.requires.unready number term applied
     (c.refuse.ensures ∙ ap (λ (p : Requests). used (answered_with c.in_ok-number.number (Refused (refusal.NotReady c.term.result c.last_term.result)) false 0 (Says (refusal.NotReady c.term.result c.last_term.result)) p)) numbered)

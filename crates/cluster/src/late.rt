@@ -1,0 +1,85 @@
+//! The held requests whose round is confirmed.
+
+ghost use Rattle.std.specs.Prelude.{◌≡◌, ℕ, Some, true};
+ghost use Rattle.std.specs.List.{find};
+ghost use Rattle.std.specs.Option.{option_copied};
+ghost use Rattle.cluster_rules.specs.Cluster as rules;
+ghost use Rattle.cluster_rules.specs.Due.{first_work, late_work};
+ghost use Rattle.cluster_rules.specs.Reached.{IsServerNumber};
+ghost use Rattle.open_requests.specs.Contents.{stand_of};
+ghost use Rattle.cluster.specs.Looking.{is_late, is_round_over, is_stand_late};
+ghost use Rattle.cluster.specs.Working.{IsFound};
+
+use crate::cluster::Cluster;
+use crate::work::Work;
+use cat_outside::Keeper;
+use open_requests::{Pending, Stand};
+use raft_model::Round;
+
+// A request whose round is over is looked for from now on.
+fn past_round(held: &Pending) -> Option<Work>
+    ensures { (c : rules.Cluster) (i : ℕ) → is_late c i held.now ≡ true → IsFound c i (late_work c i held.now) result }
+{
+    match held.stand() {
+        Stand::InRound { deadline, .. } => Some(Work::Hold {
+            number: held.number(),
+            stand: Stand::ForIndex {
+                deadline,
+                seen: None,
+            },
+        }),
+        _ => None,
+    }
+}
+
+impl<K: Keeper + Drop> Cluster<K> {
+    // The round is confirmed at a server that runs, and its commit is applied there.
+    #[tactic(auto, using(crate::proofs::Numbers::is_number))]
+    fn is_round_over(&self, server: u32, round: &Round) -> bool
+        requires { IsServerNumber self.now server }
+        ensures { result ≡ is_round_over self.now server round.now }
+    {
+        if self.is_halted(server) {
+            return false;
+        }
+        self.servers.node(server).confirmed(round) && round.commit <= self.servers.applied(server)
+    }
+
+    // The request waits for a round that is over.
+    fn is_stand_late(&self, server: u32, stand: Stand) -> bool
+        requires { IsServerNumber self.now server }
+        ensures { result ≡ is_stand_late self.now server (stand_of stand) }
+    {
+        match stand {
+            Stand::InRound { round, .. } => self.is_round_over(server, &round),
+            _ => false,
+        }
+    }
+
+    // The same of a held request of the server.
+    fn is_late(&self, server: u32, held: &Pending) -> bool
+        requires { IsServerNumber self.now server }
+        ensures { result ≡ is_late self.now server held.now }
+    {
+        held.server() == server && self.is_stand_late(server, held.stand())
+    }
+
+    // The first of these held requests of the server whose round is over.
+    fn first_late<'a>(&self, server: u32, held: &'a [Pending]) -> Option<&'a Pending>
+        requires { IsServerNumber self.now server }
+        ensures { option_copied result ≡ find (is_late self.now server) held.now }
+    {
+        held.iter().find(|h| self.is_late(server, h))
+    }
+
+    /// What is due at a server that has applied all that it committed, and of which nothing is due before.
+    pub(crate) fn late_due(&self, server: u32) -> Option<Work>
+        requires { IsServerNumber self.now server }
+        ensures { IsFound self.now server (first_work (late_work self.now server) self.now.held) result }
+    {
+        match self.first_late(server, self.requests.held()) {
+            Some(held) => past_round(held),
+            None => None,
+        }
+    }
+}

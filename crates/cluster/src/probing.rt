@@ -1,0 +1,165 @@
+//! A consistent read waits for a round of acknowledgements, which is begun for it.
+
+ghost use Rattle.std.specs.Prelude.{◌≡◌, ◌<◌, ◌≤◌, ◌+◌, ◌-◌, ◌^◌, ◌||◌, ℕ, IfOk, OnErr, OnOk, Some, true};
+ghost use Rattle.cat_model.specs.declared.request.Mode.TheVariants as modes;
+ghost use Rattle.script_runs.specs.Taken.{IsTakenAsked};
+ghost use Rattle.cluster_rules.specs.Cluster.{clock_of, node_of};
+ghost use Rattle.cluster_rules.specs.Reached.{IsServerNumber};
+ghost use Rattle.cluster_rules.specs.Requests.{is_ready, is_stale_read, look_of, wait_of};
+ghost use Rattle.cluster_turns.specs.Turns.{HandlesNewest, IsCome};
+ghost use Rattle.open_requests.specs.Contents.{HasWay};
+ghost use Rattle.open_requests.specs.Notes.{IsMadeLast};
+ghost use Rattle.cluster.specs.Asking.{EndsProbe, HoldsRead, IsNewRead};
+
+use crate::cluster::Cluster;
+use crate::handling::{copied_question, wait_of};
+use crate::moving::{Seen, mark_step, see};
+use cat_model::{Asked, Draw, Memory};
+use cat_outside::Keeper;
+use open_requests::{Question, Requests, Stand, Start, copy_asked};
+use raft_model::Round;
+use raft_node::ProbeFault;
+use std::alloc::Global;
+
+// A read with its number, and a copy of what was asked.
+#[derive(Drop)]
+pub(crate) struct NewRead {
+    pub(crate) asked: Asked,
+    pub(crate) question: Question,
+}
+
+// Holds a read whose round was begun.
+fn hold_read(
+    requests: &mut Requests,
+    server: u32,
+    before: Seen,
+    now: Seen,
+    read: NewRead,
+    deadline: u64,
+    round: Round,
+)
+    requires room { 4 ≤ requests.old.room }
+    requires made { IsMadeLast requests.old.notes }
+    requires grown { before.agreed ≤ now.agreed }
+    ensures { HoldsRead read before now server deadline round requests.old requests.new }
+{
+    let NewRead { asked, question } = read;
+    let number = question.number();
+    requests.number(question.agent(), asked, question.draw());
+    mark_step(requests, server, before, now);
+    let stand = Stand::InRound { round, deadline };
+    let start = Start::Probed {
+        number,
+        server,
+        round,
+    };
+    requests.hold(question, server, stand, start);
+}
+
+// Holds a read, where its round was begun.
+fn end_probe(
+    requests: &mut Requests,
+    server: u32,
+    before: Seen,
+    now: Seen,
+    read: NewRead,
+    deadline: u64,
+    probed: Result<Round, ProbeFault>,
+) -> Result<(), Memory>
+    requires room { 4 ≤ requests.old.room }
+    requires made { IsMadeLast requests.old.notes }
+    requires grown { before.agreed ≤ now.agreed }
+    ensures { EndsProbe read before now server deadline probed result requests.old requests.new }
+{
+    match probed {
+        Ok(round) => {
+            hold_read(requests, server, before, now, read, deadline, round);
+            Ok(())
+        }
+        Err(_) => {
+            drop(read);
+            Err(Memory)
+        }
+    }
+}
+
+fn copies(number: u64, agent: u32, asked: &Asked, draw: Draw) -> Result<NewRead, Memory>
+    requires { HasWay asked.now }
+    ensures { IfOk result (λ read. read ≡ record { asked = asked.now; question = record { number = number; agent = agent; asked = asked.now; draw = draw } }) }
+{
+    let question = copied_question(number, agent, asked, draw)?;
+    match copy_asked(asked) {
+        Ok(asked) => Ok(NewRead { asked, question }),
+        Err(Memory) => {
+            drop(question);
+            Err(Memory)
+        }
+    }
+}
+
+impl<K: Keeper + Drop> Cluster<K> {
+    // Begins a round for a read that has its copies.
+    #[tactic(auto, using(crate::proofs::Numbers::is_number))]
+    fn probe(
+        &mut self,
+        alloc: Global,
+        server: u32,
+        read: NewRead,
+        deadline: u64,
+    ) -> Result<(), Memory>
+        requires server { IsServerNumber self.old server }
+        requires read { IsNewRead self.old server read deadline }
+        requires taken { IsTakenAsked read.asked }
+        requires come { IsCome read.question.agent read.asked read.question.draw self.old.past }
+        requires go { (is_stale_read read.asked || is_ready self.old server) ≡ true }
+        requires rounds { (node_of self.old.world server).round < 2 ^ 64 - 1 }
+        ensures ok { OnOk result (HandlesNewest server read.question.agent read.asked read.question.draw self.old self.new) }
+        ensures err { OnErr result (self.new ≡ self.old) }
+    {
+        if self.requests.prepare().is_err() {
+            drop(read);
+            return Err(Memory);
+        }
+        let before = see(&self.servers, server);
+        let probed = self.servers.probe(alloc, server);
+        let now = see(&self.servers, server);
+        end_probe(
+            &mut self.requests,
+            server,
+            before,
+            now,
+            read,
+            deadline,
+            probed,
+        )
+    }
+
+    /// Begins a round for a consistent read, which is held until that is confirmed. Its time counts from now on.
+    #[tactic(auto, using(crate::proofs::Numbers::is_number, crate::proofs::Taken::has_way))]
+    pub(crate) fn begin_round(
+        &mut self,
+        alloc: Global,
+        server: u32,
+        agent: u32,
+        asked: &Asked,
+        draw: Draw,
+        wait_ms: u64,
+    ) -> Result<(), Memory>
+        requires server { IsServerNumber self.old server }
+        requires taken { IsTakenAsked asked.now }
+        requires look { look_of asked.now ≡ Some (modes.Consistent, wait_ms) }
+        requires come { IsCome agent asked.now draw self.old.past }
+        requires go { (is_stale_read asked.now || is_ready self.old server) ≡ true }
+        ensures ok { OnOk result (HandlesNewest server agent asked.now draw self.old self.new) }
+        ensures err { OnErr result (self.new ≡ self.old) }
+    {
+        let number = self.requests.asked().checked_add(1).ok_or(Memory)?;
+        let now = self.servers.clock(server);
+        let deadline = now.checked_add(wait_of(wait_ms)).ok_or(Memory)?;
+        if self.servers.node(server).round() == u64::MAX {
+            return Err(Memory);
+        }
+        let read = copies(number, agent, asked, draw)?;
+        self.probe(alloc, server, read, deadline)
+    }
+}
