@@ -5,9 +5,9 @@
 //! that it should write, and `NAME.status` the status with which it should end.
 //!
 //! Each line of `connections.txt` has the name of a server's run and how its connections are served: `once`, the bytes
-//! of each in one piece; `cut`, in pieces of each size from 1 byte on, which all are answered alike; or `faults`, where
-//! each read and write of a connection fails once, after which a first part of the answers is written. Of the run `NAME`,
-//! `NAME.words` has the words of the command line and, in its second line, the number of the job that is refused, or 0;
+//! of each in one piece, one connection after the other; `cut`, in pieces of each size from 1 byte on, which all are
+//! answered alike; `faults`, where each read and write of a connection fails once, after which a first part of the answers
+//! is written; or `together`, all connections at once, each in a thread of its own. Of the run `NAME`, `NAME.words` has the words of the command line and, in its second line, the number of the job that is refused, or 0;
 //! `NAME.in1` has the bytes of the first connection and `NAME.said1` those that should be written to it, and so on;
 //! `NAME.out` and `NAME.status` are as those of a script.
 #![tactic(auto)]

@@ -5,8 +5,11 @@ use crate::served_row::ServedRow;
 use anyhow::Result;
 use cat_model::{Bytes, List};
 use cat_outside::{SureSink, SureSource};
-use catalog_top::run;
-use serve_outside::{CountWords, MemListener, MemSpawner, Script};
+use catalog_top::{Machine, run};
+use serve_outside::{
+    Clock, CountWords, Gate, MachineClock, MemListener, MemSpawner, Script, SleepGate, Spawner,
+    ThreadSpawner,
+};
 use std::alloc::Global;
 use std::sync::Wait;
 use std::thread::Threads;
@@ -42,8 +45,8 @@ fn scripts(alloc: Global, row: &ServedRow, most: usize, fault: u64) -> Result<Ve
     Ok(scripts)
 }
 
-/// Serves the connections of the row: each read gives so many bytes at most, and this read or write of each connection
-/// fails, if it is not 0.
+/// Serves the connections of the row one after the other, by a clock that stands still: each read gives so many bytes at
+/// most, and this read or write of each connection fails, if it is not 0.
 pub fn serve<R: Threads + Wait + time::Clock + Copy + Send + Drop + 'static>(
     rt: R,
     alloc: Global,
@@ -51,6 +54,39 @@ pub fn serve<R: Threads + Wait + time::Clock + Copy + Send + Drop + 'static>(
     most: usize,
     fault: u64,
 ) -> Result<Ended> {
+    let mut spawner = MemSpawner::new(failing(alloc, row.refused)?);
+    serve_by(machine(rt, alloc), row, most, fault, &mut spawner)
+}
+
+/// Serves the connections of the row at once, each in a thread of its own, by the machine's clock.
+pub fn serve_at_once<R: Threads + Wait + time::Clock + Copy + Send + Drop + 'static>(
+    rt: R,
+    alloc: Global,
+    row: &ServedRow,
+) -> Result<Ended> {
+    let machine = Machine {
+        rt,
+        alloc,
+        clock: MachineClock::new(rt),
+        gate: SleepGate::new(rt),
+    };
+    serve_by(machine, row, usize::MAX, 0, &mut ThreadSpawner::new())
+}
+
+// Serves the connections of the row on this machine, as jobs that this spawner starts.
+fn serve_by<
+    R: Threads + Wait + Copy + Send + Drop + 'static,
+    C: Clock + Copy + Send + Drop + 'static,
+    G: Gate + Copy + Send + Drop + 'static,
+    S: Spawner,
+>(
+    machine: Machine<R, C, G>,
+    row: &ServedRow,
+    most: usize,
+    fault: u64,
+    spawner: &mut S,
+) -> Result<Ended> {
+    let alloc = machine.alloc;
     let words: Vec<&str> = row.words.as_str().split(' ').collect(alloc)?;
     let mut sink = SureSink::new(alloc);
     let mut listener = MemListener::new(
@@ -59,13 +95,13 @@ pub fn serve<R: Threads + Wait + time::Clock + Copy + Send + Drop + 'static>(
         List::new(alloc),
     )?;
     let outcome = run(
-        machine(rt, alloc),
+        machine,
         &words,
         &mut SureSource::new(Bytes::new(alloc, b"")?),
         &mut sink,
         &mut listener,
         &mut CountWords::new(),
-        &mut MemSpawner::new(failing(alloc, row.refused)?),
+        spawner,
     );
     Ok(Ended {
         status: outcome.status,

@@ -1,7 +1,7 @@
 //! The ways in which a row is served.
 
 use crate::served_row::{ServedRow, read_served};
-use crate::serving::{Ended, serve};
+use crate::serving::{Ended, serve, serve_at_once};
 use anyhow::{Context, Result, bail};
 use std::alloc::Global;
 use std::sync::Wait;
@@ -24,6 +24,7 @@ pub fn is_served_as_written<R: Threads + Wait + time::Clock + Copy + Send + Drop
         "once" => is_served(rt, alloc, &row, usize::MAX),
         "cut" => is_served_in_pieces(rt, alloc, &row),
         "faults" => is_served_with_faults(rt, alloc, &row),
+        "together" => is_served_together(rt, alloc, &row),
         _ => bail!("no such way"),
     }
 }
@@ -63,6 +64,16 @@ fn is_served<R: Threads + Wait + time::Clock + Copy + Send + Drop + 'static>(
     most: usize,
 ) -> Result<bool> {
     let ended = serve(rt, alloc, row, most, 0)?;
+    Ok(is_ended(&ended, row) && is_answered(&ended, row))
+}
+
+// Whether all is as it should be where the connections are served at once.
+fn is_served_together<R: Threads + Wait + time::Clock + Copy + Send + Drop + 'static>(
+    rt: R,
+    alloc: Global,
+    row: &ServedRow,
+) -> Result<bool> {
+    let ended = serve_at_once(rt, alloc, row)?;
     Ok(is_ended(&ended, row) && is_answered(&ended, row))
 }
 
