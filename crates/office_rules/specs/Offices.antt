@@ -12,8 +12,8 @@ use Rattle.cat_model.specs.declared.command.Command.{Command}
 use Rattle.cat_model.specs.declared.row.SessionRow.{SessionRow}
 
 -- A server's time in office: since when, by its clock; the renewals in it, the last one first; the positions at which
--- those sessions were made whose end it proposed and that were not renewed since; and when it looks next for what is
--- to be reaped. It is read only where the server leads.
+-- those sessions were made whose end it proposed and that were not renewed since, the last one first too; and when it
+-- looks next for what is to be reaped. It is read only where the server leads.
 pub record Office : Type 0 where
   pub since : ℕ
   pub renewals : List Renewal
@@ -74,7 +74,7 @@ over_now commands clocks o now = sorted_by (over_at clocks o) (filter (is_over c
 
 -- their ends are proposed
 abbrev pub ended_too : List SessionRow → Office → Office
-ended_too rows o = record o { ended = map (λ (s : SessionRow). s.create) rows ++ o.ended }
+ended_too rows o = record o { ended = reverse (map (λ (s : SessionRow). s.create) rows) ++ o.ended }
 
 -- a session lives anew, and its end is to be proposed again
 abbrev pub renew_in : Option SessionRow → ℕ → Office → Office
