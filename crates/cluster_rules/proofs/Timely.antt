@@ -1,7 +1,10 @@
 -- Nothing that a server noted lies ahead of its clock.
-use Rattle.std.proofs.Common.{◌≡◌, ℕ, zero, suc, ◌+◌, ◌≤◌, Bool, true, false, cond, List, [], ◌∷◌, length, take, refl, sym, ap, subst, arith, Option, Some, None}
+use Rattle.std.proofs.Common.{◌≡◌, ℕ, zero, suc, ◌+◌, ◌≤◌, Bool, true, false, cond, List, [], ◌∷◌, filter, length, take, refl, sym, ap, subst, arith, Option, Some, None}
 use Rattle.std.specs.List.{AllByRecursion as Each}
+use Rattle.std.specs.Ordering.{is_gt, is_lt, nat_cmp}
+use Rattle.cat_model.proofs.TableLemmas.{All-filter}
 use Rattle.cat_model.specs.Delays.{Start as Renewal}
+use Rattle.cat_model.specs.Tables.{put}
 use Rattle.cat_model.specs.declared.command.Command.{Command}
 use Rattle.cat_model.specs.declared.command.Entry.{Entry}
 use Rattle.cat_model.specs.declared.request.AgentOp.{AgentOp}
@@ -17,7 +20,7 @@ use Rattle.raft_model.specs.World.{World, Acts as NodeActs}
 use Rattle.raft_model.proofs.Tests.{at_bool}
 use Rattle.cluster_rules.specs.Replies.{Question}
 use Rattle.agent_rules.specs.Agents.{Agent, change}
-use Rattle.office_rules.specs.Offices.{Office, office_from, ended_too, looks_on, renew_in, reap_pause}
+use Rattle.office_rules.specs.Offices.{Office, office_from, ended_too, looks_on, renew_in, renewal_id, reap_pause}
 use Rattle.cluster_rules.specs.Cluster.{Server, Cluster, item_of, no_server, node_of, server_of, applied_of, clock_of, agent_of, office_of, with_office, took_office, seated, started}
 use Rattle.cluster_rules.specs.Due.{Work, Replies, Holds, Closes, Applies, applies_entry, did, Works, none, work}
 use Rattle.cluster_rules.specs.Requests.{moved, session_of, Handles, unready, full, proposes, stops, delays, probes, reads, renews}
@@ -109,9 +112,15 @@ syncs_timely i a own c c' whole (plans n c₁ r p e) t = subst AreTimely (sym e)
 syncs_timely i a own c c' whole (breaks_off n some r p) t = proposals_timely i _ (adopted a i c) n c' false p t
 syncs_timely i a own c c' whole (cut_first mine r e) t = subst AreTimely (sym e) t
 
+put_timely : (now : ℕ) (new : Renewal) (rs : List Renewal) → new.clock ≤ now → Each (λ (r : Renewal). r.clock ≤ now) rs → Each (λ (r : Renewal). r.clock ≤ now) (put nat_cmp renewal_id new rs)
+unfolding put
+put_timely now new rs l t = each_append (λ (r : Renewal). r.clock ≤ now) (filter (λ r. is_lt (nat_cmp r.session new.session)) rs) (new ∷ filter (λ r. is_gt (nat_cmp r.session new.session)) rs)
+    (All-filter (λ (r : Renewal). r.clock ≤ now) (λ r. is_lt (nat_cmp r.session new.session)) rs t)
+    (l, All-filter (λ (r : Renewal). r.clock ≤ now) (λ r. is_gt (nat_cmp r.session new.session)) rs t)
+
 renewed_timely : (c : Cluster) → AreTimely c → (i : ℕ) (row : Option SessionRow) → AreTimely (with_office i (renew_in row (clock_of c.world i) (office_of c i)) c)
 renewed_timely c t i None = office_timely c t i (office_of c i) (t i).since (t i).renewals
-renewed_timely c t i (Some s) = office_timely c t i (renew_in (Some s) (clock_of c.world i) (office_of c i)) (t i).since (omega arith, (t i).renewals)
+renewed_timely c t i (Some s) = office_timely c t i (renew_in (Some s) (clock_of c.world i) (office_of c i)) (t i).since (put_timely (clock_of c.world i) (record { session = s.id; clock = clock_of c.world i }) (office_of c i).renewals (omega arith) (t i).renewals)
 
 handles_timely : (c : Cluster) → AreTimely c → (i : ℕ) (q : Question) (c' : Cluster) → Handles c i q c' → AreTimely c'
 handles_timely c t i q c' (unready st r e) = subst AreTimely (sym e) t

@@ -1,11 +1,18 @@
 -- What a server notes of its time in office agrees with the TTLs of its sessions.
-use Rattle.std.proofs.Common.{◌≡◌, ◌≢◌, ℕ, zero, suc, ◌-◌, ◌<◌, ◌≤◌, Bool, true, false, cond, not, max, List, [], ◌∷◌, ◌++◌, length, get_or, filter, refl, ◌∙◌, ap, arith}
+use Rattle.std.proofs.Common.{◌≡◌, ◌≢◌, ℕ, zero, suc, ◌-◌, ◌<◌, ◌≤◌, Bool, true, false, cond, not, max, List, [], ◌∷◌, ◌++◌, length, get_or, filter, refl, sym, ◌∙◌, ap, arith}
 use Rattle.std.specs.Prelude.{◌==◌, nat_eq, ◌&&◌, ◌||◌}
 use Rattle.std.specs.List.{AllByRecursion as Each, list_any}
+use Rattle.std.specs.Ordering.{is_gt, is_lt, nat_cmp}
+use Rattle.std.specs.declared.cmp.Ordering.{Ordering}
+use Rattle.std.specs.declared.cmp.Ordering.TheVariants.{Less, Equal, Greater}
+use Rattle.std.proofs.lemmas.Bool.{true≢false}
 use Rattle.std.proofs.lemmas.Bool.Decides.{nat_tests}
+use Rattle.std.proofs.lemmas.Cmp.{nat_cmp_total, tied_itself}
+use Rattle.std.proofs.lemmas.Map.Lookups.{exact_unsigned}
 use Rattle.cat_model.specs.Delays.{Start as Renewal, ttl_start}
+use Rattle.cat_model.specs.Tables.{put}
 use Rattle.cat_model.specs.declared.row.SessionRow.{SessionRow}
-use Rattle.office_rules.specs.Offices.{Office, applied_at}
+use Rattle.office_rules.specs.Offices.{Office, applied_at, renewal_id}
 use Rattle.office_rules.specs.Leases.{IsTimely, TtlLaw}
 
 at_bool : (P : Bool → Type 0) (b : Bool) → (b ≡ true → P true) → (b ≡ false → P false) → P b
@@ -50,13 +57,75 @@ start_bound now id since [] l x = l
 start_bound now id since (r ∷ rs) l x = at_bool (λ b. cond b (max r.clock (ttl_start id since rs)) (ttl_start id since rs) ≤ now) (nat_eq r.session id)
     (λ _. max_bound r.clock (ttl_start id since rs) now x.0 (start_bound now id since rs l x.1)) (λ _. start_bound now id since rs l x.1)
 
-start_renewed : (now id since : ℕ) (rs : List Renewal) → ttl_start id since rs ≤ now → ttl_start id since (record { session = id; clock = now } ∷ rs) ≡ now
+-- what is put at a session is the last renewal of it alone
+start_append : (id since : ℕ) (xs ys : List Renewal) → ttl_start id since (xs ++ ys) ≡ ttl_start id (ttl_start id since ys) xs
 unfolding ttl_start
-start_renewed now id since rs l = ap (λ b. cond b (max now (ttl_start id since rs)) (ttl_start id since rs)) (nat_eq_self id) ∙ max_same now (ttl_start id since rs) l
+start_append id since [] ys = refl
+start_append id since (x ∷ xs) ys = ap (λ z. cond (nat_eq x.session id) (max x.clock z) z) (start_append id since xs ys)
 
-start_other : (now id other since : ℕ) (rs : List Renewal) → other ≢ id → ttl_start id since (record { session = other; clock = now } ∷ rs) ≡ ttl_start id since rs
+eq_is : (a b : ℕ) → nat_eq a b ≡ true → a ≡ b
+eq_is a b e = grind (arith, nat_tests)
+
+-- a filter by sessions that keeps this one
+start_kept : (id since : ℕ) (p : ℕ → Bool) → p id ≡ true → (rs : List Renewal) → ttl_start id since (filter (λ (r : Renewal). p r.session) rs) ≡ ttl_start id since rs
 unfolding ttl_start
-start_other now id other since rs d = ap (λ b. cond b (max now (ttl_start id since rs)) (ttl_start id since rs)) (nat_eq_not other id d)
+start_kept id since p keeps [] = refl
+start_kept id since p keeps (r ∷ rs) = go (p r.session) refl (nat_eq r.session id) refl (start_kept id since p keeps rs)
+  where
+    rest : List Renewal
+    rest = filter (λ (s : Renewal). p s.session) rs
+
+    go : (b : Bool) → p r.session ≡ b → (e : Bool) → nat_eq r.session id ≡ e → ttl_start id since rest ≡ ttl_start id since rs
+        → ttl_start id since (cond b (r ∷ rest) rest) ≡ cond e (max r.clock (ttl_start id since rs)) (ttl_start id since rs)
+    go true pb e ee same = ap (λ x. cond x (max r.clock (ttl_start id since rest)) (ttl_start id since rest)) ee ∙ ap (λ z. cond e (max r.clock z) z) same
+    go false pb true ee same = absurd (true≢false (sym keeps ∙ ap p (sym (eq_is r.session id ee)) ∙ pb))
+    go false pb false ee same = same
+
+-- and one that drops it
+start_dropped : (id since : ℕ) (p : ℕ → Bool) → p id ≡ false → (rs : List Renewal) → ttl_start id since (filter (λ (r : Renewal). p r.session) rs) ≡ since
+unfolding ttl_start
+start_dropped id since p drops [] = refl
+start_dropped id since p drops (r ∷ rs) = go (p r.session) refl (nat_eq r.session id) refl (start_dropped id since p drops rs)
+  where
+    rest : List Renewal
+    rest = filter (λ (s : Renewal). p s.session) rs
+
+    go : (b : Bool) → p r.session ≡ b → (e : Bool) → nat_eq r.session id ≡ e → ttl_start id since rest ≡ since → ttl_start id since (cond b (r ∷ rest) rest) ≡ since
+    go true pb true ee none = absurd (true≢false (sym pb ∙ ap p (eq_is r.session id ee) ∙ drops))
+    go true pb false ee none = ap (λ x. cond x (max r.clock (ttl_start id since rest)) (ttl_start id since rest)) ee ∙ none
+    go false pb e ee none = none
+
+below : ℕ → List Renewal → List Renewal
+below other rs = filter (λ (r : Renewal). is_lt (nat_cmp r.session other)) rs
+
+above : ℕ → List Renewal → List Renewal
+above other rs = filter (λ (r : Renewal). is_gt (nat_cmp r.session other)) rs
+
+start_put : (now id other since : ℕ) (rs : List Renewal) → ttl_start id since (put nat_cmp renewal_id (record { session = other; clock = now }) rs)
+    ≡ ttl_start id (cond (nat_eq other id) (max now (ttl_start id since (above other rs))) (ttl_start id since (above other rs))) (below other rs)
+unfolding put ttl_start below above
+start_put now id other since rs = start_append id since (below other rs) (record { session = other; clock = now } ∷ above other rs)
+
+start_renewed : (now id since : ℕ) (rs : List Renewal) → since ≤ now → ttl_start id since (put nat_cmp renewal_id (record { session = id; clock = now }) rs) ≡ now
+unfolding below above
+start_renewed now id since rs l =
+    start_put now id id since rs
+    ∙ start_dropped id _ (λ q. is_lt (nat_cmp q id)) (ap is_lt (tied_itself nat_cmp_total id)) rs
+    ∙ ap (λ b. cond b (max now (ttl_start id since (above id rs))) (ttl_start id since (above id rs))) (nat_eq_self id)
+    ∙ ap (max now) (start_dropped id since (λ q. is_gt (nat_cmp q id)) (ap is_gt (tied_itself nat_cmp_total id)) rs)
+    ∙ max_same now since l
+
+start_other : (now id other since : ℕ) (rs : List Renewal) → other ≢ id → ttl_start id since (put nat_cmp renewal_id (record { session = other; clock = now }) rs) ≡ ttl_start id since rs
+unfolding below above
+start_other now id other since rs d =
+    start_put now id other since rs
+    ∙ ap (λ b. ttl_start id (cond b (max now (ttl_start id since (above other rs))) (ttl_start id since (above other rs))) (below other rs)) (nat_eq_not other id d)
+    ∙ go (nat_cmp id other) refl
+  where
+    go : (o : Ordering) → nat_cmp id other ≡ o → ttl_start id (ttl_start id since (above other rs)) (below other rs) ≡ ttl_start id since rs
+    go Less o = ap (λ z. ttl_start id z (below other rs)) (start_dropped id since (λ q. is_gt (nat_cmp q other)) (ap is_gt o) rs) ∙ start_kept id since (λ q. is_lt (nat_cmp q other)) (ap is_lt o) rs
+    go Equal o = absurd (d (sym (exact_unsigned id other o)))
+    go Greater o = start_dropped id _ (λ q. is_lt (nat_cmp q other)) (ap is_lt o) rs ∙ start_kept id since (λ q. is_gt (nat_cmp q other)) (ap is_gt o) rs
 
 start_none : (id since : ℕ) → ttl_start id since [] ≡ since
 unfolding ttl_start
@@ -72,7 +141,7 @@ pub ttl_law : (now : ℕ) (clocks : List ℕ) (o : Office) → IsTimely now cloc
 ttl_law now clocks o t row = record {
   office = ap (max (applied_at clocks row.create)) (start_none row.id now) ∙ max_le (applied_at clocks row.create) now (get_bound now clocks (row.create - 1) t.positions);
   created = λ e. ap (λ z. max z (ttl_start row.id o.since o.renewals)) (at_last e) ∙ max_same now (ttl_start row.id o.since o.renewals) started;
-  renewed = ap (max (applied_at clocks row.create)) (start_renewed now row.id o.since o.renewals started) ∙ max_le (applied_at clocks row.create) now (get_bound now clocks (row.create - 1) t.positions);
+  renewed = ap (max (applied_at clocks row.create)) (start_renewed now row.id o.since o.renewals t.since) ∙ max_le (applied_at clocks row.create) now (get_bound now clocks (row.create - 1) t.positions);
   again = λ d. ap (λ b. not b && not (list_any (λ p. p == row.create) (filter (λ p. not (p == row.create)) o.ended))) (has_ttl d) ∙ ap not (gone row.create o.ended);
   applied = λ d l. ap (λ z. max z (ttl_start row.id o.since o.renewals)) (get_front clocks now (row.create - 1) (omega (arith, d)));
   others = λ other d. ap (max (applied_at clocks row.create)) (start_other now row.id other.id o.since o.renewals d);

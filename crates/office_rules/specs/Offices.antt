@@ -3,17 +3,19 @@
 -- Consul, Sessions: "Session Design" (lock-delay; the TTL, after which a session may be invalidated, at the latest after twice the TTL).
 use Rattle.std.specs.Prelude.{ℕ, ◌+◌, ◌-◌, ◌==◌, nat_le, not, ◌&&◌, ◌||◌, Bool, false, if◌then◌else◌, List, [], ◌∷◌, ◌++◌, filter, get_or, is_some, map, reverse, Option, Some, None}
 use Rattle.std.specs.List.{list_any}
+use Rattle.std.specs.Ordering.{nat_cmp}
 use Rattle.std.proofs.Common.{max}
 use Rattle.cat_model.specs.Catalog.{kv_at}
 use Rattle.cat_model.specs.Delays.{Timed, Start as Renewal, delay_until, ttl_start, ttl_end}
 use Rattle.cat_model.specs.Indexes.{is_reap}
 use Rattle.cat_model.specs.Machine.{at_past, catalog_at}
+use Rattle.cat_model.specs.Tables.{put}
 use Rattle.cat_model.specs.declared.command.Command.{Command}
 use Rattle.cat_model.specs.declared.row.SessionRow.{SessionRow}
 
--- A server's time in office: since when, by its clock; the renewals in it, the last one first; the positions at which
--- those sessions were made whose end it proposed and that were not renewed since, the last one first too; and when it
--- looks next for what is to be reaped. It is read only where the server leads.
+-- A server's time in office: since when, by its clock; of each session the last renewal in it, in the order of their IDs;
+-- the positions at which those sessions were made whose end it proposed and that were not renewed since, the last one
+-- first; and when it looks next for what is to be reaped. It is read only where the server leads.
 pub record Office : Type 0 where
   pub since : ℕ
   pub renewals : List Renewal
@@ -76,10 +78,13 @@ over_now commands clocks o now = sorted_by (over_at clocks o) (filter (is_over c
 abbrev pub ended_too : List SessionRow → Office → Office
 ended_too rows o = record o { ended = reverse (map (λ (s : SessionRow). s.create) rows) ++ o.ended }
 
+abbrev pub renewal_id : Renewal → ℕ
+renewal_id r = r.session
+
 -- a session lives anew, and its end is to be proposed again
 abbrev pub renew_in : Option SessionRow → ℕ → Office → Office
 renew_in None now o = o
-renew_in (Some s) now o = record o { renewals = record { session = s.id; clock = now } ∷ o.renewals; ended = filter (λ p. not (p == s.create)) o.ended }
+renew_in (Some s) now o = record o { renewals = put nat_cmp renewal_id (record { session = s.id; clock = now }) o.renewals; ended = filter (λ p. not (p == s.create)) o.ended }
 
 -- Reaps: the command removes a key.
 abbrev pub removes : Command → List Command → Bool
