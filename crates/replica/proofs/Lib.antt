@@ -1,3 +1,4 @@
 pub mod Gone
 pub mod Replying
 pub mod Standing
+pub mod Making
