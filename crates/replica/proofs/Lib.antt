@@ -1,4 +1,6 @@
+pub mod Delaying
 pub mod Gone
 pub mod Replying
 pub mod Standing
 pub mod Making
+pub mod Waiting
