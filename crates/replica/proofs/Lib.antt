@@ -4,3 +4,4 @@ pub mod Replying
 pub mod Standing
 pub mod Making
 pub mod Waiting
+pub mod Quieting

@@ -1,5 +1,5 @@
 -- Until when no session is over, as commands are applied, sessions are renewed and their ends proposed.
-use Rattle.std.proofs.Common.{◌≡◌, ℕ, zero, suc, ◌+◌, ◌-◌, ◌*◌, ◌<◌, ◌≤◌, max, Bool, true, false, cond, not, List, [], ◌∷◌, ◌++◌, length, get_or, filter, map, reverse, refl, sym, ◌∙◌, ap, arith, Some}
+use Rattle.std.proofs.Common.{◌≡◌, ◌≢◌, ℕ, zero, suc, ◌+◌, ◌-◌, ◌*◌, ◌<◌, ◌≤◌, max, Bool, true, false, cond, not, List, [], ◌∷◌, ◌++◌, length, get_or, filter, map, reverse, refl, sym, ◌∙◌, ap, subst, arith, Some}
 use Rattle.std.specs.Prelude.{◌==◌, ◌&&◌, ◌||◌, nat_le}
 use Rattle.std.specs.List.{AllByRecursion as Each, list_any}
 use Rattle.std.specs.Ordering.{is_eq, nat_cmp}
@@ -16,6 +16,9 @@ use Rattle.cat_model.proofs.InOrder.{own_rows}
 use Rattle.cat_model.proofs.Lookups.{row_at-put}
 use Rattle.cat_model.proofs.TableLemmas.{All-weaker, Ascends-put, eq_is}
 use Rattle.office_rules.specs.Offices.{Office, applied_at, ended_too, is_over, is_pending, looks_on, over_at, reap_pause, renew_in, renewal_id}
+use Rattle.cat_model.specs.declared.row.Behavior.TheVariants.{Release}
+use Rattle.session_ttl.specs.declared.ending.Ending.{Ending}
+use Rattle.session_ttl.specs.Endings.{ending_of}
 use Rattle.session_ttl.specs.Quiet.{IsQuiet}
 use Rattle.session_ttl.proofs.Starts.{latest, start_is}
 
@@ -61,12 +64,16 @@ quiet_applied until now clocks o rows q =
     All-weaker (λ s. is_pending o s ≡ true → until ≤ over_at clocks o s) (λ s. is_pending o s ≡ true → until ≤ over_at (clocks ++ now ∷ []) o s)
     (λ s f p. let m = f p in let g = max_grows (applied_at clocks s.create) (applied_at (clocks ++ now ∷ []) s.create) (ttl_start s.id o.since o.renewals) (2 * s.ttl_ms) (get_grows clocks now (s.create - 1)) in omega (arith, m, g)) rows q
 
+has_ttl : (t : ℕ) (b : Bool) → (not (t == 0) && b) ≡ true → t ≢ 0
+has_ttl t b e z = absurd (false≢true (sym (ap (λ n. not (n == 0) && b) z) ∙ e))
+
 -- which makes the session
-pub quiet_made : (until now : ℕ) (clocks : List ℕ) (o : Office) (s : SessionRow) → s.create ≡ length clocks + 1 → until ≤ now + 2 * s.ttl_ms → until ≤ over_at (clocks ++ now ∷ []) o s
-quiet_made until now clocks o s e l =
+pub quiet_made : (until now : ℕ) (clocks : List ℕ) (o : Office) (s : SessionRow) → s.create ≡ length clocks + 1 → (s.ttl_ms ≢ 0 → until ≤ now + 2 * s.ttl_ms) → is_pending o s ≡ true → until ≤ over_at (clocks ++ now ∷ []) o s
+quiet_made until now clocks o s e within p =
     let at : applied_at (clocks ++ now ∷ []) s.create ≡ now = ap (λ n. get_or (clocks ++ now ∷ []) n 0) (less e) ∙ get_last clocks now in
     let g = over_made (applied_at (clocks ++ now ∷ []) s.create) (ttl_start s.id o.since o.renewals) (2 * s.ttl_ms) in
-    let h = ap (λ n. n + 2 * s.ttl_ms) at in omega (arith, g, h, l)
+    let h = ap (λ n. n + 2 * s.ttl_ms) at in
+    let l = within (has_ttl s.ttl_ms (not (list_any (λ p. p == s.create) o.ended)) p) in omega (arith, g, h, l)
   where
     less : s.create ≡ length clocks + 1 → s.create - 1 ≡ length clocks
     less e = omega (arith, e)
@@ -106,8 +113,8 @@ some_is a b e = cc
 
 -- a session is renewed whose end was not proposed
 pub quiet_renewed : (until earlier now : ℕ) (clocks : List ℕ) (o : Office) (rows : List SessionRow) (row : SessionRow) → Ascends nat_cmp session_key rows → Ascends nat_cmp renewal_id o.renewals
-    → session_at row.id rows ≡ Some row → list_any (λ p. p == row.create) o.ended ≡ false → earlier ≤ until → earlier ≤ now + 2 * row.ttl_ms → IsQuiet until clocks o rows → IsQuiet earlier clocks (renew_in (Some row) now o) rows
-quiet_renewed until earlier now clocks o rows row asc in_order found unended l m q = each rows q (own_rows nat_cmp session_key nat_cmp_total exact_unsigned rows asc)
+    → session_at row.id rows ≡ Some row → list_any (λ p. p == row.create) o.ended ≡ false → earlier ≤ until → (row.ttl_ms ≢ 0 → earlier ≤ now + 2 * row.ttl_ms) → IsQuiet until clocks o rows → IsQuiet earlier clocks (renew_in (Some row) now o) rows
+quiet_renewed until earlier now clocks o rows row asc in_order found unended l within q = each rows q (own_rows nat_cmp session_key nat_cmp_total exact_unsigned rows asc)
   where
     renewal : Renewal
     renewal = record { session = row.id; clock = now }
@@ -128,6 +135,7 @@ quiet_renewed until earlier now clocks o rows row asc in_order found unended l m
         let over = ap (λ n. max (applied_at clocks s.create) n + 2 * s.ttl_ms) start in
         let more = over_more (applied_at clocks s.create) now o.since (2 * s.ttl_ms) in
         let ttl = ap (λ (r : SessionRow). now + 2 * r.ttl_ms) is in
+        let m = within (subst (λ (r : SessionRow). r.ttl_ms ≢ 0) is (has_ttl s.ttl_ms (not (list_any (λ p. p == s.create) o.ended)) (still s p))) in
         omega (arith, over, more, ttl, m)
     one s f own false e p =
         let start : ttl_start s.id o.since (put nat_cmp renewal_id renewal o.renewals) ≡ ttl_start s.id o.since o.renewals =
@@ -139,3 +147,16 @@ quiet_renewed until earlier now clocks o rows row asc in_order found unended l m
     each : (ss : List SessionRow) → IsQuiet until clocks o ss → Each (λ s. session_at s.id rows ≡ Some s) ss → IsQuiet earlier clocks (renew_in (Some row) now o) ss
     each [] f own = tt
     each (s ∷ ss) f own = (one s f.0 own.0 (is_eq (nat_cmp s.id row.id)) refl, each ss f.1 own.1)
+
+-- a session of this end
+row_of : Ending → SessionRow
+row_of e = record { id = e.id; name = []; node = []; checks = []; behavior = Release; delay_ms = 0; ttl_ms = 0; create = e.create; modify = 0 }
+
+ends_are : (endings : List Ending) → endings ≡ map ending_of (map row_of endings)
+unfolding row_of
+ends_are [] = refl
+ends_are (e ∷ endings) = ap (λ l. e ∷ l) (ends_are endings)
+
+-- the ends of these are proposed, whichever sessions they are
+pub quiet_after_ends : (until : ℕ) (clocks : List ℕ) (o new : Office) (endings : List Ending) (rows : List SessionRow) → ((gone : List SessionRow) → endings ≡ map ending_of gone → new ≡ ended_too gone o) → IsQuiet until clocks o rows → IsQuiet until clocks new rows
+quiet_after_ends until clocks o new endings rows made q = subst (λ (w : Office). IsQuiet until clocks w rows) (sym (made (map row_of endings) (ends_are endings))) (quiet_ended until clocks o (map row_of endings) rows q)
