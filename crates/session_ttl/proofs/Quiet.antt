@@ -149,10 +149,10 @@ quiet_renewed until earlier now clocks o rows row asc in_order found unended l w
     each (s ∷ ss) f own = (one s f.0 own.0 (is_eq (nat_cmp s.id row.id)) refl, each ss f.1 own.1)
 
 -- a session of this end
-row_of : Ending → SessionRow
+pub row_of : Ending → SessionRow
 row_of e = record { id = e.id; name = []; node = []; checks = []; behavior = Release; delay_ms = 0; ttl_ms = 0; create = e.create; modify = 0 }
 
-ends_are : (endings : List Ending) → endings ≡ map ending_of (map row_of endings)
+pub ends_are : (endings : List Ending) → endings ≡ map ending_of (map row_of endings)
 unfolding row_of
 ends_are [] = refl
 ends_are (e ∷ endings) = ap (λ l. e ∷ l) (ends_are endings)
