@@ -1,4 +1,4 @@
-use Rattle.std.proofs.Common.{ap, length, map, sym, ◌∙◌, arith}
+use Rattle.std.proofs.Common.{ap, length, map, sym, arith}
 use Rattle.session_ttl.proofs.Quiet.{ends_are, row_of}
 use Rattle.cluster_servers.specs.Servers.{Servers}
 use Rattle.cluster_servers.proofs.Following.{same_length}
