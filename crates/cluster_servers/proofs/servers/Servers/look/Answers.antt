@@ -1,4 +1,4 @@
-use Rattle.std.proofs.Common.{ap, length, sym, ◌∙◌, arith, ℕ}
+use Rattle.std.proofs.Common.{ap, length, sym, arith}
 use Rattle.cluster_servers.specs.Servers.{Servers}
 use Rattle.cluster_servers.proofs.Following.{same_length}
 use Rattle.cluster_servers.proofs.Leading.{look_it}
