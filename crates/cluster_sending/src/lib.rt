@@ -11,6 +11,7 @@ ghost use Rattle.table_index.specs.contracts.index.TableIndex as indexes;
 ghost use Rattle.cat_model.specs.contracts.command.Command as command;
 ghost use Rattle.catalog_store.specs.contracts.store.Store as store;
 ghost use Rattle.cat_model.specs.contracts.applied.Applied as applied;
+ghost use Rattle.lock_delay.specs.contracts.table.LockDelay as delays;
 ghost use Rattle.replica.specs.contracts.replica.Replica as replica;
 ghost use Rattle.open_requests.specs.contracts.requests.Requests as requests;
 ghost use Rattle.cat_outside.specs.contracts.mem_keeper.MemKeeper as mem_keeper;
@@ -26,6 +27,7 @@ use catalog_table::CatalogTable;
 use cluster::Cluster;
 use cluster_servers::Servers;
 use kv_table::KvTable;
+use lock_delay::LockDelay;
 use open_requests::Requests;
 use query_table::QueryTable;
 use raft_world::World;
@@ -92,11 +94,18 @@ fn applieds_send()
     sends::<Applied>();
 }
 
+fn delays_send()
+    ensures { IsSend delays.the_row }
+{
+    sends::<LockDelay>();
+}
+
 fn replicas_send()
     ensures { IsSend replica.the_row }
 {
     stores_send();
     applieds_send();
+    delays_send();
     sends::<Replica>();
 }
 

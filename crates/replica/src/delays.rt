@@ -1,6 +1,6 @@
 //! A server's lock delays, as far as it has applied.
 
-ghost use Rattle.std.specs.Prelude.{◌≡◌, ◌++◌, [], ℕ, IfOk, List as Items, OnOk, map};
+ghost use Rattle.std.specs.Prelude.{◌≡◌, [], ℕ, IfOk, List as Items, OnOk, map};
 ghost use Rattle.std.proofs.Common.{max};
 ghost use Rattle.cat_model.specs.Delays.{freed_until};
 ghost use Rattle.lock_delay.specs.Ends.{end_of};
