@@ -12,6 +12,7 @@ ghost use Rattle.cat_model.specs.contracts.command.Command as command;
 ghost use Rattle.catalog_store.specs.contracts.store.Store as store;
 ghost use Rattle.cat_model.specs.contracts.applied.Applied as applied;
 ghost use Rattle.lock_delay.specs.contracts.table.LockDelay as delays;
+ghost use Rattle.session_ttl.specs.contracts.office.Office as office;
 ghost use Rattle.replica.specs.contracts.replica.Replica as replica;
 ghost use Rattle.open_requests.specs.contracts.requests.Requests as requests;
 ghost use Rattle.cat_outside.specs.contracts.mem_keeper.MemKeeper as mem_keeper;
@@ -33,6 +34,7 @@ use query_table::QueryTable;
 use raft_world::World;
 use replica::Replica;
 use session_table::SessionTable;
+use session_ttl::Office;
 use table_index::TableIndex;
 
 // What may go to another thread, as clauses name it.
@@ -100,11 +102,18 @@ fn delays_send()
     sends::<LockDelay>();
 }
 
+fn offices_send()
+    ensures { IsSend office.the_row }
+{
+    sends::<Office>();
+}
+
 fn replicas_send()
     ensures { IsSend replica.the_row }
 {
     stores_send();
     applieds_send();
+    offices_send();
     delays_send();
     sends::<Replica>();
 }
