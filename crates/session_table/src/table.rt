@@ -8,7 +8,7 @@ ghost use Rattle.session_table.specs.Nodes.{is_of_node, is_on};
 use crate::nodes::OnNode;
 use crate::rows::{add, ids_on, remove, rows_on};
 use cat_model::{List, Memory, SessionRow};
-use row_table::{ById, RowTable};
+use row_table::{ById, RowTable, Rows};
 use std::alloc::Global;
 use std::marker::Model;
 
@@ -76,6 +76,13 @@ impl SessionTable {
         ensures { IfOk result (λ v. v.items ≡ map session_key (filter (is_on node.now check.now) self.now.now)) }
     {
         ids_on(alloc, &self.rows, &self.nodes, node, check)
+    }
+
+    /// The rows one after another, in the order of their identifiers.
+    pub fn rows(&self) -> Rows<'_, SessionRow>
+        ensures { result ≡ self.now.now }
+    {
+        self.rows.rows()
     }
 
     /// Copies of all rows.
