@@ -98,7 +98,6 @@ stands_officed i o w servers r s = record {
   proposed = s.proposed;
   ascends = s.ascends;
   held = all_officed w servers i o r.asked r.held s.held;
-  no_ttl = each_set servers i (record (server_of servers i) { office = o }) s.no_ttl (each_item servers i s.no_ttl);
 }
 
 stands_seated : (w w' : World) (i : ℕ) (servers : List Server) (r : Requests) → Stands w' servers r → Stands w' (seated_servers w w' i servers) r

@@ -8,11 +8,7 @@ use Rattle.cluster_rules.specs.Sound.{ServerIsSound}
 use Rattle.open_requests.specs.Requests as own
 use Rattle.cluster_servers.proofs.Beginning.{as_many_start}
 use Rattle.cluster.specs.Beginning.{MayBegin}
-use Rattle.cluster.specs.Standing.{AppliesNoTtl, Stands}
-
-idle_no_ttl : (count : ℕ) → Each AppliesNoTtl (replicate count no_server)
-idle_no_ttl zero = tt
-idle_no_ttl (suc count) = (refl, idle_no_ttl count)
+use Rattle.cluster.specs.Standing.{Stands}
 
 replicated : {A : Type 0} (count : ℕ) (x : A) → length (replicate count x) ≡ count
 replicated zero x = refl
@@ -42,5 +38,4 @@ begun_stands stores agents count w servers may begins some size idle =
       proposed = omega (arith, begins.greatest);
       ascends = tt;
       held = tt;
-      no_ttl = subst (λ (ss : List Server). Each AppliesNoTtl ss) (sym idle) (idle_no_ttl count);
     }

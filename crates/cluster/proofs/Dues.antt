@@ -164,7 +164,6 @@ module _ (w : World) (servers : List Server) (r : Requests) (s : Stands w server
     proposed = s.proposed;
     ascends = subst Ascends (sym restood_is) (ascends_with h r.held s.ascends);
     held = subst (Each (IsHeld w servers r.asked)) (sym restood_is) (each_with (IsHeld w servers r.asked) h r.held on.held s.held);
-    no_ttl = s.no_ttl;
   }
 
 pub restand_stands : (w : World) (servers : List Server) (r new : Requests) (c : Cluster) (number : ℕ) (stand : Stand) → Stands w servers r → cluster_of w servers r ≡ c

@@ -9,8 +9,9 @@ use Rattle.cat_model.specs.declared.request.Mode.{Mode}
 use Rattle.cat_model.specs.declared.request.Asked.{Asked}
 use Rattle.cat_model.specs.declared.request.Asked.TheVariants.{Good, Bad}
 use Rattle.cat_model.specs.declared.request.Request.TheVariants.{Read, Execute, Write, Renew, Agent}
-use Rattle.cat_model.specs.declared.reply.Kind.TheVariants.{At, Refused}
+use Rattle.cat_model.specs.declared.reply.Kind.TheVariants.{At, Refused, Seen}
 use Rattle.cat_model.specs.declared.reply.Refusal.TheVariants as refusal
+use Rattle.cat_model.specs.Executions.{execution}
 use Rattle.cat_model.specs.Indexes.{index_of}
 use Rattle.cat_model.specs.Log.{commands_of}
 use Rattle.cat_model.specs.Machine.{catalog_at}
@@ -20,7 +21,7 @@ use Rattle.raft_model.specs.declared.message.Round.{Round}
 use Rattle.raft_model.specs.World.{World}
 use Rattle.script_runs.specs.Taken.{IsTakenAsked}
 use Rattle.cluster_rules.proofs.Tools.{both}
-use Rattle.cluster_rules.specs.Replies.{shown_read}
+use Rattle.cluster_rules.specs.Replies.{Question, Runs, id_in, shown, shown_read, shown_seen}
 use Rattle.cluster_rules.specs.Cluster.{Cluster, Pending, Server, Stand, AtPlace, InRound, ForIndex, Ended, applied_of, clock_of, node_of}
 use Rattle.cluster_rules.specs.Due as rules
 use Rattle.cluster_rules.specs.Due.{asks, asks_read, due, early_stand, early_work, first_work, is_ended, is_new, late_work, next_work, or_work, was_seen}
@@ -29,7 +30,7 @@ use Rattle.open_requests.specs.Contents.{read_content, stand_of as own_stand}
 use Rattle.open_requests.specs.Requests.{Requests, cluster_of}
 use Rattle.cluster.specs.declared.work.Work.{Work}
 use Rattle.cluster.specs.declared.work.Work.TheVariants.{Hold}
-use Rattle.cluster.specs.Looking.{is_early, is_late, is_look_due, is_read, is_round_over, is_stand_due, is_stand_late, waits_on}
+use Rattle.cluster.specs.Looking.{is_early, is_late, is_look_due, is_round_over, is_stand_due, is_stand_late, waits_on}
 use Rattle.cluster.specs.Standing.{IsAwaited, IsHeld, IsLookedFor, Stands}
 use Rattle.cluster.specs.Working.{IsFound, IsWork}
 
@@ -45,6 +46,13 @@ pub read_whole : (asked : Asked) (query : Query) (mode : Mode) (least wait : ℕ
 read_whole asked query mode least wait raw log e =
     subst (λ a. read_content a (answer query (catalog_at (commands_of log))) ≡ shown_read a (length log) log) (sym e)
     (ap (λ l. read_content (Good (Read query mode least wait raw)) (answer query (catalog_at (commands_of l)))) (sym (taken_whole log)))
+
+-- an execution at all that is applied
+pub run_whole : (q : Question) (name : List ℕ) (limit : ℕ) (mode : Mode) (log : List Entry) → q.asked ≡ Good (Execute name limit mode) → Runs (execution (catalog_at (commands_of log)) (id_in name) name limit) ≡ shown q (Seen mode (length log)) log
+unfolding shown
+run_whole q name limit mode log e =
+    subst (λ a. Runs (execution (catalog_at (commands_of log)) (id_in name) name limit) ≡ shown_seen a (length log) log) (sym e)
+    (ap (λ l. Runs (execution (catalog_at (commands_of l)) (id_in name) name limit)) (sym (taken_whole log)))
 
 -- A query that is looked for, by whether it is answered.
 pub asks_when : (c : Cluster) (i : ℕ) (h : Pending) (others deadline : ℕ) (seen : Option ℕ) (query : Query) (mode : Mode) (least : ℕ) (b : Bool)
@@ -98,14 +106,14 @@ not_there applied deadline None query mode least wait raw l e = clash (sym e)
 not_there applied deadline (Some n) query mode least wait raw l e = not_above least (index_of query (commands_of applied)) (l.1 (eq_tells n (length applied) e))
 
 read_due : (c : Cluster) (i : ℕ) (h : Pending) (others deadline : ℕ) (seen : Option ℕ) (asked : Asked) → IsTakenAsked asked → IsLookedFor (applied_of c i) asked (ForIndex deadline seen)
-    → (is_read asked && is_look_due c i deadline seen) ≡ is_some (asks_read h others (clock_of c.world i) (applied_of c i) deadline seen asked)
+    → is_look_due c i deadline seen asked ≡ is_some (asks_read h others (clock_of c.world i) (applied_of c i) deadline seen asked)
 read_due c i h others deadline seen (Good (Read query mode least wait raw)) t l =
     asks_some (nat_lt least (index_of query (commands_of (applied_of c i)))) (nat_le deadline (clock_of c.world i)) (was_seen seen (length (applied_of c i))) (is_new seen && nat_le 4096 others)
     (rules.Replies h.question (At mode (length (applied_of c i)) (index_of query (commands_of (applied_of c i))) (clock_of c.world i) deadline))
     (rules.Replies h.question (Refused (refusal.TooMany others)))
     (rules.Holds (record h { stand = ForIndex deadline (Some (length (applied_of c i))) }))
     (not_there (applied_of c i) deadline seen query mode least wait raw l)
-read_due c i h others deadline seen (Good (Execute name limit mode)) t l = absurd cc
+read_due c i h others deadline seen (Good (Execute name limit mode)) t l = refl
 read_due c i h others deadline seen (Good (Write command)) t l = refl
 read_due c i h others deadline seen (Good (Renew id)) t l = refl
 read_due c i h others deadline seen (Good (Agent op)) t l = refl

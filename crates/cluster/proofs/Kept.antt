@@ -15,24 +15,22 @@ use Rattle.cluster_rules.specs.Cluster.{AtPlace, Cluster, Ended, ForIndex, InRou
 use Rattle.cluster_rules.specs.Due.{applies_entry}
 use Rattle.cluster_rules.specs.Replies.{Content, Question}
 use Rattle.cluster_rules.specs.Sound.{ServerIsSound}
-use Rattle.cluster.specs.Ttls.{has_no_ttl}
 use Rattle.cluster_rules.proofs.Entries.{agree_entry, take_next}
 use Rattle.cluster_rules.proofs.Tools.{at_item, eq_self, le_tells_not, length_set_server}
 use Rattle.cluster_rules.proofs.Works.{ascends_without, commit_agrees, each_kept}
 use Rattle.open_requests.specs.Requests.{Requests, answered_with, closed_with, cluster_of}
 use Rattle.cluster_servers.specs.Servers.{Servers, applies_next}
 use Rattle.cluster.specs.Looking.{is_early, is_stand_due}
-use Rattle.cluster.specs.Standing.{AppliesNoTtl, IsAwaited, IsHeld, IsLookedFor, Stands}
-use Rattle.cluster.specs.Working.{entry_has_no_ttl}
+use Rattle.cluster.specs.Standing.{IsAwaited, IsHeld, IsLookedFor, Stands}
 use Rattle.cluster.proofs.Carried.{sound_with}
 
 pub answer_stands : (w : World) (servers : List Server) (r : Requests) (number : ℕ) (kind : Kind) (known : Bool) (contact : ℕ) (content : Content) → Stands w servers r → Stands w servers (answered_with number kind known contact content r)
 answer_stands w servers r number kind known contact content s =
-    record { reached = s.reached; some = s.some; count = s.count; sound = s.sound; joined = s.joined; proposed = s.proposed; ascends = ascends_without number r.held s.ascends; held = each_kept (IsHeld w servers r.asked) number r.held s.held; no_ttl = s.no_ttl }
+    record { reached = s.reached; some = s.some; count = s.count; sound = s.sound; joined = s.joined; proposed = s.proposed; ascends = ascends_without number r.held s.ascends; held = each_kept (IsHeld w servers r.asked) number r.held s.held }
 
 closing_stands : (w : World) (servers : List Server) (r : Requests) (number event : ℕ) → Stands w servers r → Stands w servers (closed_with number event r)
 closing_stands w servers r number event s =
-    record { reached = s.reached; some = s.some; count = s.count; sound = s.sound; joined = s.joined; proposed = s.proposed; ascends = ascends_without number r.held s.ascends; held = each_kept (IsHeld w servers r.asked) number r.held s.held; no_ttl = s.no_ttl }
+    record { reached = s.reached; some = s.some; count = s.count; sound = s.sound; joined = s.joined; proposed = s.proposed; ascends = ascends_without number r.held s.ascends; held = each_kept (IsHeld w servers r.asked) number r.held s.held }
 
 -- after a call that did something or nothing
 pub call_stands : {A B : Type 0} (w : World) (servers : List Server) (r done new : Requests) (result : Result A B) → Stands w servers r → Stands w servers done → OnOk result (new ≡ done) → OnErr result (new ≡ r) → Stands w servers new
@@ -46,39 +44,6 @@ answer_call w servers r new number kind known contact content result s ok err = 
 pub close_call : {A B : Type 0} (w : World) (servers : List Server) (r new : Requests) (number event : ℕ) (result : Result A B) → Stands w servers r
     → OnOk result (new ≡ closed_with number event r) → OnErr result (new ≡ r) → Stands w servers new
 close_call w servers r new number event result s ok err = call_stands w servers r (closed_with number event r) new result s (closing_stands w servers r number event s) ok err
-
--- one more command that has no TTL
-both_hold : (a b : Bool) → a ≡ true → b ≡ true → (a && b) ≡ true
-both_hold true true x y = refl
-both_hold true b x y = y
-both_hold a b x y = absurd (cc x)
-
-no_ttl_more : (cs : List Command) (c : Command) → list_all has_no_ttl cs ≡ true → has_no_ttl c ≡ true → list_all has_no_ttl (cs ++ c ∷ []) ≡ true
-no_ttl_more [] c a e = both_hold (has_no_ttl c) true e refl
-no_ttl_more (d ∷ cs) c a e = both_hold (has_no_ttl d) (list_all has_no_ttl (cs ++ c ∷ [])) (first (has_no_ttl d) (list_all has_no_ttl cs) a) (no_ttl_more cs c (second (has_no_ttl d) (list_all has_no_ttl cs) a) e) where
-  first : (x y : Bool) → (x && y) ≡ true → x ≡ true
-  first true y t = refl
-  first x y t = absurd (cc t)
-
-  second : (x y : Bool) → (x && y) ≡ true → y ≡ true
-  second true y t = t
-  second x y t = absurd (cc t)
-
-no_ttl_entry : (clock : ℕ) (s : Server) (e : Option Entry) → AppliesNoTtl s → true ≡ entry_has_no_ttl e → AppliesNoTtl (applies_entry clock s e)
-no_ttl_entry clock s None a t = a
-no_ttl_entry clock s (Some e) a t = ap (list_all has_no_ttl) (map-append (λ (x : Entry). x.command) s.applied (e ∷ [])) ∙ no_ttl_more (commands_of s.applied) e.command a (sym t)
-
-pub each_item : (ss : List Server) (i : ℕ) → Each AppliesNoTtl ss → AppliesNoTtl (server_of ss i)
-each_item ss zero a = refl
-each_item [] (suc i) a = refl
-each_item (s ∷ ss) (suc zero) a = a.0
-each_item (s ∷ ss) (suc (suc i)) a = each_item ss (suc i) a.1
-
-pub each_set : (ss : List Server) (i : ℕ) (x : Server) → Each AppliesNoTtl ss → AppliesNoTtl x → Each AppliesNoTtl (set_server ss i x)
-each_set ss zero x a t = a
-each_set [] (suc i) x a t = tt
-each_set (s ∷ ss) (suc zero) x a t = (t, a.1)
-each_set (s ∷ ss) (suc (suc i)) x a t = (a.0, each_set ss (suc i) x a.1 t)
 
 -- one more position of a server
 next_sound : (agreed log : Log) (commit clock : ℕ) (s : Server) → take commit log ≡ take commit agreed → length s.applied < commit → ServerIsSound agreed commit s →
@@ -153,13 +118,11 @@ module _ (c : Cluster) (i : ℕ) (x : Server) (more : length x.applied ≤ suc (
   all_held (h ∷ held) none all = one_more h held (is_early c i h) refl all.0 (λ n. all_held held n all.1) none
 
 -- a server's next position is applied, where nothing is due before
-applying_stands : (s : Servers) (r : Requests) (i : ℕ) → Stands s.world s.servers r → true ≡ entry_has_no_ttl (entry_at (length (server_of s.servers i).applied + 1) (node_of s.world i).log)
+applying_stands : (s : Servers) (r : Requests) (i : ℕ) → Stands s.world s.servers r
     → length (server_of s.servers i).applied < (node_of s.world i).commit → find (is_early (cluster_of s.world s.servers r) i) r.held ≡ None → Stands (applies_next i s).world (applies_next i s).servers r
-applying_stands s r i a t more none =
-    let one : length (server_of s.servers i).applied + 1 ≡ suc (length (server_of s.servers i).applied) = omega arith in
+applying_stands s r i a more none =
     let o = entry_at (suc (length (server_of s.servers i).applied)) (node_of s.world i).log in
     let x = applies_entry (clock_of s.world i) (server_of s.servers i) o in
-    let no_ttl = no_ttl_entry (clock_of s.world i) (server_of s.servers i) o (each_item s.servers i a.no_ttl) (t ∙ ap (λ k. entry_has_no_ttl (entry_at k (node_of s.world i).log)) one) in
     let sound = next_sound s.world.agreed (node_of s.world i).log (node_of s.world i).commit (clock_of s.world i) (server_of s.servers i) (commit_agrees s.world a.reached i) more (a.sound i) o refl in
     record {
       reached = a.reached;
@@ -170,11 +133,10 @@ applying_stands s r i a t more none =
       proposed = a.proposed;
       ascends = a.ascends;
       held = all_held (cluster_of s.world s.servers r) i x (one_longer (clock_of s.world i) (server_of s.servers i) o) (grows_to (clock_of s.world i) (server_of s.servers i) o) r.held none a.held;
-      no_ttl = each_set s.servers i x a.no_ttl no_ttl;
     }
 
-pub apply_call : {A B : Type 0} (s new : Servers) (r : Requests) (i : ℕ) (result : Result A B) → Stands s.world s.servers r → true ≡ entry_has_no_ttl (entry_at (length (server_of s.servers i).applied + 1) (node_of s.world i).log)
+pub apply_call : {A B : Type 0} (s new : Servers) (r : Requests) (i : ℕ) (result : Result A B) → Stands s.world s.servers r
     → length (server_of s.servers i).applied < (node_of s.world i).commit → find (is_early (cluster_of s.world s.servers r) i) r.held ≡ None
     → OnOk result (new ≡ applies_next i s) → OnErr result (new ≡ s) → Stands new.world new.servers r
-apply_call s new r i (Ok a) stands t more none ok err = subst (λ (q : Servers). Stands q.world q.servers r) (sym ok) (applying_stands s r i stands t more none)
-apply_call s new r i (Err b) stands t more none ok err = subst (λ (q : Servers). Stands q.world q.servers r) (sym err) stands
+apply_call s new r i (Ok a) stands more none ok err = subst (λ (q : Servers). Stands q.world q.servers r) (sym ok) (applying_stands s r i stands more none)
+apply_call s new r i (Err b) stands more none ok err = subst (λ (q : Servers). Stands q.world q.servers r) (sym err) stands

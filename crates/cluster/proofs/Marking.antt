@@ -30,7 +30,6 @@ with_notes w w' servers r notes room s reached goes greatest joined = record {
   proposed = greatest;
   ascends = s.ascends;
   held = all_later w w' servers r.asked r.asked r.held goes.on (omega arith) s.held;
-  no_ttl = s.no_ttl;
 }
 
 -- the same requests in a world that went on, of which no more is agreed

@@ -71,7 +71,7 @@ forgotten_is w servers r made c s e =
 pub forgotten_stands : (w : World) (servers : List Server) (r : Requests) (made : Event) (c : Cluster) → Stands w servers r → cluster_of w servers r ≡ noted made c → Stands w servers (forgotten r)
 forgotten_stands w servers r made c s e =
     let kept = (made_last w.agreed r.notes made c.past (omega (arith, s.joined)) (noted_past w servers r made c e)).1 in
-    record { reached = s.reached; some = s.some; count = s.count; sound = s.sound; joined = kept ∙ s.joined; proposed = s.proposed; ascends = s.ascends; held = s.held; no_ttl = s.no_ttl }
+    record { reached = s.reached; some = s.some; count = s.count; sound = s.sound; joined = kept ∙ s.joined; proposed = s.proposed; ascends = s.ascends; held = s.held }
 
 -- The request that was noted last takes its number.
 come_head : (agent : ℕ) (asked : Asked) (draw : Draw) (past : List Mark) → IsCome agent asked draw past → is_entry_first past ≡ false

@@ -64,7 +64,7 @@ joined_taken (Some number) notes = refl
 taken_stands : (w : World) (servers : List Server) (old new : Requests) (out : Out) → own.Takes out old new → Stands w servers old → Stands w servers new
 taken_stands w servers old new out t s =
     subst (λ (r : Requests). Stands w servers r) (sym t.is)
-    record { reached = s.reached; some = s.some; count = s.count; sound = s.sound; joined = joined_taken (number_of out) old.notes ∙ s.joined; proposed = s.proposed; ascends = s.ascends; held = s.held; no_ttl = s.no_ttl }
+    record { reached = s.reached; some = s.some; count = s.count; sound = s.sound; joined = joined_taken (number_of out) old.notes ∙ s.joined; proposed = s.proposed; ascends = s.ascends; held = s.held }
 
 same_stands : (w : World) (servers : List Server) (old new : Requests) → new ≡ old → Stands w servers old → Stands w servers new
 same_stands w servers old new same s = subst (λ (r : Requests). Stands w servers r) (sym same) s

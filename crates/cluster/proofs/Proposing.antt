@@ -1,5 +1,5 @@
 -- A write that was just noted is proposed: it is held at its place, or refused by what the proposal answered.
-use Rattle.std.proofs.Common.{◌≡◌, inl, inr, ℕ, suc, ◌+◌, ◌-◌, ◌≤◌, Bool, true, false, cond, not, length, List, [], ◌∷◌, ◌++◌, Result, Ok, Err, refl, sym, ap, ◌∙◌, subst, arith}
+use Rattle.std.proofs.Common.{◌≡◌, inl, inr, ℕ, suc, ◌+◌, ◌-◌, ◌≤◌, Bool, true, false, cond, not, length, List, [], ◌∷◌, ◌++◌, None, Result, Ok, Err, refl, sym, ap, ◌∙◌, subst, arith}
 use Rattle.std.specs.Prelude.{OnOk, OnErr, ◌&&◌, ◌<◌}
 use Rattle.std.specs.List.{AllByRecursion as Each}
 use Rattle.std.proofs.lemmas.List.{length-append}
@@ -27,7 +27,7 @@ use Rattle.script_runs.specs.Taken.{IsTakenAsked, is_command_taken}
 use Rattle.cluster_rules.specs.Cluster.{AtPlace, Cluster, Pending, Proposed, Server, node_of, runs_leading, server_of}
 use Rattle.cluster_rules.specs.Lasting.{IsWrite}
 use Rattle.cluster_rules.specs.Replies.{Question, Says, entered}
-use Rattle.cluster_rules.specs.Requests.{full, holding, is_ready, log_with, moved, proposes, refused, stops}
+use Rattle.cluster_rules.specs.Requests.{delayed_at, full, holding, is_ready, log_with, moved, proposes, refused, stops}
 use Rattle.cluster_rules.proofs.Boundary.{acts_greatest, acts_server, commit_within, leader_there, leading_tells, proposed as placed_by}
 use Rattle.cluster_rules.proofs.Tools.{is_node}
 use Rattle.cluster_turns.specs.Turns.{HandlesNewest, IsCome, newest, numbered}
@@ -41,7 +41,7 @@ use Rattle.cluster.specs.Standing.{HasPlace, IsAwaited, Stands}
 use Rattle.cluster.proofs.Carried.{carries, proposing_goes}
 use Rattle.cluster.proofs.Handled.{Comes, below_next, hold_stands, holds_as, numbered_cluster, numbered_stands, refusal_stands, refuses_as}
 use Rattle.cluster.proofs.Marking.{cluster_marked, stands_proposed, with_room}
-use Rattle.cluster.proofs.Taken.{is_counted, is_free}
+use Rattle.cluster.proofs.Taken.{is_counted}
 
 -- the entry of a write that was taken, at its place
 awaits : (w w' : World) (servers : List Server) (i index term : ℕ) (q : Question) (command : Command) → q.asked ≡ Good (Writes command) → index ≡ suc (length (node_of w i).log) → term ≡ (node_of w i).term
@@ -75,6 +75,7 @@ pub record IsProposing (w : World) (servers : List Server) (r : Requests) (i : �
   pub taken : IsTakenAsked write.asked
   pub leads : runs_leading w i ≡ true
   pub ready : is_ready (cluster_of w servers r) i ≡ true
+  pub free : delayed_at (cluster_of w servers r) i command ≡ None
 
 module _ (w w' : World) (servers : List Server) (r r' : Requests) (i : ℕ) (write : Write) (command : Command) (is : IsProposing w servers r i write command) (keeps : KeepsAgreement w w') where
   agent : ℕ
@@ -145,7 +146,7 @@ module _ (w w' : World) (servers : List Server) (r r' : Requests) (i : ℕ) (wri
     held_so place here room up e =
         let at : place ≡ record { index = suc (length (node_of w i).log); term = (node_of w i).term } = here ∙ ap (λ (n : Node). record { index = suc (length n.log); term = n.term }) (sym same_node) in
         let done = holds_as w' servers mid r' write.question i (AtPlace place.index place.term) (Proposed place.index write.entry) (moved i w' c₁) moved_cluster e in (
-          proposes command w' is.asked (is_free c₁ i command taken_write) (inr is.ready) (room_is true room) acts_now (ap (λ (n : Node). n.halted) (acts_server w i (Propose write.question.number enters) w' a) ∙ up)
+          proposes command w' is.asked is.free (inr is.ready) (room_is true room) acts_now (ap (λ (n : Node). n.halted) (acts_server w i (Propose write.question.number enters) w' a) ∙ up)
               (done ∙ ap (λ (x : Question). holding x i (AtPlace place.index place.term) (Proposed place.index write.entry) (moved i w' c₁)) question_is
               ∙ ap (λ (x : Entry). holding q i (AtPlace place.index place.term) (Proposed place.index x) (moved i w' c₁)) entry_is
               ∙ ap (λ (p : Place). holding q i (AtPlace p.index p.term) (Proposed p.index (proposal (node_of w i) q.number (entered q command))) (moved i w' c₁)) at),
@@ -196,7 +197,7 @@ module _ (w w' : World) (servers : List Server) (r r' : Requests) (i : ℕ) (wri
         let bytes : write.bytes ≡ log_bytes (log_with (node_of w i) q command) =
         is.copied.bytes ∙ ap (λ (z : Question). log_bytes log + command_bytes (entered z command)) question_is ∙ sym (bytes_more log (proposal (node_of w i) q.number (entered q command)) counts) in
         let done = refused_so (refusal.LogFull write.entries write.bytes) e in (
-          full command w' is.asked (is_free c₁ i command taken_write) (inr is.ready) (room_is false room) acts_now
+          full command w' is.asked is.free (inr is.ready) (room_is false room) acts_now
               (done.0 ∙ ap (λ k. refused q (refusal.LogFull k write.bytes) (moved i w' c₁)) entries ∙ ap (λ k. refused q (refusal.LogFull (length (log_with (node_of w i) q command)) k) (moved i w' c₁)) bytes),
           done.1,
         )
@@ -207,7 +208,7 @@ module _ (w w' : World) (servers : List Server) (r r' : Requests) (i : ℕ) (wri
         let step : NodeStep LogFails a.old (Propose write.question.number enters) a.new a.sent = subst (λ (o : Outcome). NodeStep o a.old (Propose write.question.number enters) a.new a.sent) fails a.step in
         let down : (node_of w' i).halted ≡ true = ap (λ (n : Node). n.halted) (acts_server w i (Propose write.question.number enters) w' a ∙ step.4) in
         let done = refused_so (refusal.Halted i) e in
-        (stops command w' is.asked (is_free c₁ i command taken_write) (inr is.ready) (room_is true room) acts_now down done.0, done.1)
+        (stops command w' is.asked is.free (inr is.ready) (room_is true room) acts_now down done.0, done.1)
 
   -- what comes of it
   abbrev Ended : Result Unit memory.Memory → Type 0
@@ -241,12 +242,12 @@ module _ (w w' : World) (servers : List Server) (r r' : Requests) (i : ℕ) (wri
 -- the same for a cluster that is seen so
 pub done_write : (s s' : Servers) (r p r' : Requests) (i : ℕ) (write : Write) (enters : Command) (c : Cluster) (before now : Seen) (number : ℕ) (proposed : Result Place ProposeFault) (result : Result Unit memory.Memory) →
     Stands s.world s.servers r → cluster_of s.world s.servers r ≡ c → IsCome write.question.agent write.asked write.question.draw c.past → IsTakenWrite c i write → enters ≡ write.entry.command
-    → runs_leading c.world i ≡ true → is_ready c i ≡ true
+    → runs_leading c.world i ≡ true → is_ready c i ≡ true → ((asks : Command) → write.asked ≡ Good (Writes asks) → delayed_at c i asks ≡ None)
     → p ≡ record r { room = 4 } → number ≡ write.question.number → before ≡ seen_of s.world i → now ≡ seen_of s'.world i
     → Proposes s.world i number enters s'.world proposed → KeepsAgreement s.world s'.world → s'.servers ≡ s.servers → EndsWrite write before now i proposed result p r'
     → OnOk result (HandlesNewest i write.question.agent write.asked write.question.draw c (cluster_of s'.world s'.servers r'))
     × OnErr result (cluster_of s'.world s'.servers r' ≡ c) × Stands s'.world s'.servers r'
-done_write s s' r p r' i write enters c before now number proposed result stands view come taken own leads ready prepared n was seen made keeps same ends =
+done_write s s' r p r' i write enters c before now number proposed result stands view come taken own leads ready free prepared n was seen made keeps same ends =
     let command = taken.command in
     let Goal : Cluster → List Server → Type 0 = λ d ss.
     OnOk result (HandlesNewest i write.question.agent write.asked write.question.draw d (cluster_of s'.world ss r')) × OnErr result (cluster_of s'.world ss r' ≡ d) × Stands s'.world ss r' in
@@ -257,6 +258,7 @@ done_write s s' r p r' i write enters c before now number proposed result stands
       taken = taken.taken;
       leads = subst (λ (d : Cluster). runs_leading d.world i ≡ true) (sym view) leads;
       ready = subst (λ (d : Cluster). is_ready d i ≡ true) (sym view) ready;
+      free = subst (λ (d : Cluster). delayed_at d i taken.command ≡ None) (sym view) (free taken.command taken.asked);
     } in
     let enters_is : enters ≡ entered write.question command = own ∙ ap (λ (e : Entry). e.command) taken.copied.entry in
     subst (λ (ss : List Server). Goal c ss) (sym same) (subst (λ (d : Cluster). Goal d s.servers) view
@@ -267,10 +269,10 @@ done_write s s' r p r' i write enters c before now number proposed result stands
 -- Each part of it, for a cluster that is seen so afterwards.
 pub write_handled : (s s' : Servers) (r p r' : Requests) (i : ℕ) (write : Write) (enters : Command) (c c' : Cluster) (before now : Seen) (number : ℕ) (proposed : Result Place ProposeFault) (result : Result Unit memory.Memory) →
     Stands s.world s.servers r → cluster_of s.world s.servers r ≡ c → IsCome write.question.agent write.asked write.question.draw c.past → IsTakenWrite c i write → enters ≡ write.entry.command
-    → runs_leading c.world i ≡ true → is_ready c i ≡ true
+    → runs_leading c.world i ≡ true → is_ready c i ≡ true → ((asks : Command) → write.asked ≡ Good (Writes asks) → delayed_at c i asks ≡ None)
     → p ≡ record r { room = 4 } → number ≡ write.question.number → before ≡ seen_of s.world i → now ≡ seen_of s'.world i
     → Proposes s.world i number enters s'.world proposed → KeepsAgreement s.world s'.world → s'.servers ≡ s.servers → EndsWrite write before now i proposed result p r' → cluster_of s'.world s'.servers r' ≡ c'
     → OnOk result (HandlesNewest i write.question.agent write.asked write.question.draw c c') × OnErr result (c' ≡ c)
-write_handled s s' r p r' i write enters c c' before now number proposed result stands view come taken own leads ready prepared n was seen made keeps same ends shown =
-    let t = done_write s s' r p r' i write enters c before now number proposed result stands view come taken own leads ready prepared n was seen made keeps same ends in
+write_handled s s' r p r' i write enters c c' before now number proposed result stands view come taken own leads ready free prepared n was seen made keeps same ends shown =
+    let t = done_write s s' r p r' i write enters c before now number proposed result stands view come taken own leads ready free prepared n was seen made keeps same ends in
     subst (λ (d : Cluster). OnOk result (HandlesNewest i write.question.agent write.asked write.question.draw c d) × OnErr result (d ≡ c)) shown (t.0, t.1)

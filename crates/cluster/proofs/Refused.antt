@@ -43,7 +43,6 @@ came_stands w servers r agent asked draw s = record {
   proposed = omega (arith, s.proposed);
   ascends = s.ascends;
   held = all_more w servers r.asked (r.asked + 1) r.held (omega arith) s.held;
-  no_ttl = s.no_ttl;
 }
 
 pub refused_stands : {A B : Type 0} (w : World) (servers : List Server) (r new : Requests) (agent : ℕ) (asked : Asked) (draw : Draw) (why : Refusal) (result : Result A B) → Stands w servers r

@@ -19,7 +19,7 @@ use Rattle.open_requests.specs.Notes.{events_noted}
 use Rattle.open_requests.specs.Requests.{Requests, cluster_of, ended_all}
 use Rattle.cluster.specs.declared.moving.Seen.{Seen}
 use Rattle.cluster.specs.Moving.{IsMarked, seen_of}
-use Rattle.cluster.specs.Standing.{AppliesNoTtl, IsHeld, Stands}
+use Rattle.cluster.specs.Standing.{IsHeld, Stands}
 use Rattle.cluster.proofs.Acts.{ActedWhole, whole_with}
 use Rattle.cluster.proofs.Carried.{AreSound, Carries, held_same, server_later, sound_with}
 use Rattle.cluster.proofs.Marking.{cluster_marked, stands_marked, with_room}
@@ -47,15 +47,6 @@ held_kept w servers i made asked (h ∷ held) all = (is_held w servers i made as
 nothing_sound : (agreed : Log) (commit : ℕ) → ServerIsSound agreed commit no_server
 nothing_sound agreed commit = record { front = refl; within = omega arith; clocks = refl }
 
-no_ttl_set : (l : List Server) → Each AppliesNoTtl l → (at : ℕ) → Each AppliesNoTtl (set l at no_server)
-no_ttl_set [] all at = tt
-no_ttl_set (x ∷ l) all zero = (refl, all.1)
-no_ttl_set (x ∷ l) all (suc at) = (all.0, no_ttl_set l all.1 at)
-
-no_ttl_kept : (servers : List Server) → Each AppliesNoTtl servers → (i : ℕ) → Each AppliesNoTtl (set_server servers i no_server)
-no_ttl_kept servers all zero = all
-no_ttl_kept servers all (suc at) = no_ttl_set servers all at
-
 -- what server i holds is to be closed
 abbrev ended_with : ℕ → ℕ → Requests → Requests
 ended_with i made r = record r { held = map (ended i made) r.held }
@@ -71,7 +62,6 @@ stands_ended i made w servers r s = record {
   proposed = s.proposed;
   ascends = ascends_kept i made r.held s.ascends;
   held = held_kept w servers i made r.asked r.held s.held;
-  no_ttl = no_ttl_kept servers s.no_ttl i;
 }
 
 ended_marked : (failed : Bool) (i made count : ℕ) (r r' : Requests) → IsMarked failed i count r r' → IsMarked failed i count (ended_with i made r) (ended_with i made r')

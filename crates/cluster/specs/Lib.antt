@@ -5,7 +5,7 @@ pub mod Going
 pub mod Looking
 pub mod Moving
 pub mod Playing
+pub mod Proposing
 pub mod Standing
 pub mod Tending
-pub mod Ttls
 pub mod Working
