@@ -1,9 +1,9 @@
--- Which requests a cluster takes so far, of those that a target and a body can ask for.
+-- Which requests a cluster takes: all that a target and a body can ask for.
 use Rattle.std.specs.Prelude.{◌≡◌, nat_le, Bool, true, false, length}
 use Rattle.cat_model.specs.declared.command.Command.{Command}
 use Rattle.cat_model.specs.declared.command.Command.TheVariants.{Noop, Txn, Reap}
 use Rattle.cat_model.specs.declared.request.Request.{Request}
-use Rattle.cat_model.specs.declared.request.Request.TheVariants.{Write, Agent}
+use Rattle.cat_model.specs.declared.request.Request.TheVariants.{Write}
 use Rattle.cat_model.specs.declared.request.Asked.{Asked}
 use Rattle.cat_model.specs.declared.request.Asked.TheVariants.{Good, Bad}
 
@@ -15,10 +15,8 @@ is_command_taken (Txn ops) = nat_le (length ops) 64
 is_command_taken Reap = false
 is_command_taken other = true
 
--- each request but an agent's
 abbrev pub is_taken : Request → Bool
 is_taken (Write command) = is_command_taken command
-is_taken (Agent op) = false
 is_taken other = true
 
 -- what is no request is taken too: it is refused

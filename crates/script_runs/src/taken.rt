@@ -13,14 +13,14 @@ fn is_command_taken(command: &Command) -> bool
     }
 }
 
-/// Whether a cluster takes the request so far: each but an agent's, and of transactions those of at most 64 operations,
-/// which are all that a body can ask for.
+/// Whether a cluster takes the request: each one, but that a write has to be one that a body can ask for, no Noop and no
+/// Reap, and a transaction of at most 64 operations.
 pub fn is_taken(request: &Request) -> bool
     ensures { result ≡ spec.is_taken request.now }
 {
     match request {
         Request::Write { command } => is_command_taken(command),
-        Request::Agent(_) => false,
-        _ => true,
+        Request::Read { .. } | Request::Execute { .. } => true,
+        Request::Renew { .. } | Request::Agent(_) => true,
     }
 }
