@@ -1,8 +1,10 @@
 -- A cluster that has just begun.
-use Rattle.std.proofs.Common.{◌≡◌, inl, inr, ℕ, zero, suc, ◌<◌, get_or, length, replicate, List, refl, sym, ap, ◌∙◌, subst, arith}
+use Rattle.std.proofs.Common.{◌≡◌, inl, inr, ℕ, zero, suc, ◌<◌, get_or, length, replicate, List, [], ◌∷◌, refl, sym, ap, ◌∙◌, subst, arith}
 use Rattle.std.specs.List.{AllByRecursion as Each}
+use Rattle.cat_outside.specs.declared.faults.KeepFail.TheVariants.{Memory}
 use Rattle.raft_model.specs.Node.{Store}
 use Rattle.raft_model.specs.World.{World, Begins, IsReached, empty, again}
+use Rattle.raft_world.specs.Starting.{AreGivenBack}
 use Rattle.cluster_rules.specs.Cluster.{Server, no_server, node_of, server_of}
 use Rattle.cluster_rules.specs.Sound.{ServerIsSound}
 use Rattle.open_requests.specs.Requests as own
@@ -27,8 +29,8 @@ idle_server : (count i : ℕ) → server_of (replicate count no_server) i ≡ no
 idle_server count zero = refl
 idle_server count (suc at) = idle_item count at
 
-pub begun_stands : (stores : List Store) (agents count : ℕ) (w : World) (servers : List Server) → MayBegin stores → Begins stores w → 0 < count → length stores ≡ count → servers ≡ replicate count no_server → Stands w servers (own.empty agents)
-begun_stands stores agents count w servers may begins some size idle =
+pub begun_stands : (stores : List Store) (count : ℕ) (w : World) (servers : List Server) → MayBegin stores → Begins stores w → 0 < count → length stores ≡ count → servers ≡ replicate count no_server → Stands w servers own.empty
+begun_stands stores count w servers may begins some size idle =
     record {
       reached = reached stores w may begins;
       some = omega (arith, some, ap length idle, replicated count no_server);
@@ -39,3 +41,8 @@ begun_stands stores agents count w servers may begins some size idle =
       ascends = tt;
       held = tt;
     }
+
+-- where memory is short before any store is read, each is as it was
+pub none_read : (stores : List Store) → 0 < length stores → AreGivenBack Memory stores stores
+none_read [] some = absurd (omega (arith, some))
+none_read (s ∷ stores) some = inl (refl, refl)

@@ -2,11 +2,14 @@
 #![tactic(auto)]
 
 mod acting;
+mod agents;
 mod asking;
 mod cluster;
 mod contact;
+mod delaying;
 mod early;
 mod entering;
+mod executing;
 mod fitting;
 mod handling;
 mod late;
@@ -17,8 +20,10 @@ mod noting;
 mod parts;
 mod playing;
 mod probing;
+mod proposing;
 mod reading;
 mod refusing;
+mod renewing;
 mod starting;
 mod stepping;
 mod taking;
