@@ -1,7 +1,7 @@
 ghost use Rattle.std.specs.Prelude.{◌≡◌, ◌+◌, ◌<◌, ◌^◌, OnErr, OnOk, IfOk};
 ghost use Rattle.agent_rules.specs.Agents as rules;
 
-use crate::checks::expired_checks;
+use crate::checks::{any_turns, expired_checks};
 use crate::watched::Watched;
 use cat_model::{List, Memory, ServiceRow};
 use std::alloc::Global;
@@ -62,6 +62,7 @@ impl Agent {
 
     /// So many milliseconds are over: a check whose TTL is over turns critical, and after a sync whose time has come the
     /// next one comes a minute later. After want of memory all is as before.
+    #[tactic(auto, using(crate::proofs::Turning::none_turns))]
     pub fn tick(&mut self, alloc: Global, ms: u64) -> Result<(), Memory>
         requires { self.old.clock + ms < 2 ^ 64 }
         ensures ok { OnOk result (self.new ≡ rules.ticked ms self.old) }
@@ -69,7 +70,9 @@ impl Agent {
     {
         let is_due = self.wants_sync(ms);
         let now = self.clock + ms;
-        self.checks = expired_checks(alloc, now, self.checks.as_slice())?;
+        if any_turns(now, self.checks.as_slice()) {
+            self.checks = expired_checks(alloc, now, self.checks.as_slice())?;
+        }
         self.clock = now;
         if is_due {
             self.synced = now;

@@ -7,6 +7,7 @@ ghost use Rattle.cat_model.specs.Keys.{pair_cmp, same_text};
 ghost use Rattle.cat_model.specs.Tables.{put, row_at, without};
 ghost use Rattle.cat_model.specs.Syncs.{serf_id};
 ghost use Rattle.agent_rules.specs.Agents.{agent_node, expired, noted_check, watched_key};
+ghost use Rattle.agent_state.specs.Expiring.{says_expired, turns};
 
 use crate::names::{compare_own, compare_pairs, is_same};
 use crate::watched::Watched;
@@ -154,6 +155,19 @@ fn expired(alloc: Global, now: u64, w: &Watched) -> Result<Watched, Memory>
     } else {
         copy_of(w)
     }
+}
+
+fn says_expired(w: &Watched) -> bool
+    ensures { result ≡ says_expired w.now }
+{
+    matches!(w.row.status, Status::Critical) && w.row.output.as_str() == TTL_EXPIRED
+}
+
+/// Whether the TTL of some check is over, and it does not say so yet.
+pub(crate) fn any_turns(now: u64, checks: &[Watched]) -> bool
+    ensures { result ≡ list_any (turns now) checks.now }
+{
+    checks.iter().any(|w| is_over(now, w) && !says_expired(w))
 }
 
 /// The checks at this time by the agent's clock: those whose TTL is over are critical.
