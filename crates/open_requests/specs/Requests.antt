@@ -67,6 +67,10 @@ forgotten r = record r { notes = before_made r.notes }
 abbrev pub reply_with : ℕ → Kind → Bool → ℕ → Content → Reply
 reply_with number kind known contact content = record { number = number; index = index_shown kind; content = content; known = known; contact = contact; kind = kind }
 
+-- the reply names its kind's index, and its mark says what it rests on
+abbrev pub IsMarked : Reply → Kind → Type 0
+IsMarked reply marked = (reply.index ≡ index_shown reply.kind) × (marked ≡ reply.kind)
+
 -- a request is let go of for its reply
 abbrev pub given_with : Reply → Mark → Requests → Requests
 given_with reply m r = record r { held = without reply.number r.held; fresh = put_out (Replied reply) r.fresh; notes = Marked m ∷ r.notes }

@@ -11,7 +11,7 @@ ghost use Rattle.cat_model.specs.declared.reply.Mark.TheVariants as mark;
 ghost use Rattle.cat_model.specs.declared.reply.Refusal.{Refusal};
 ghost use Rattle.raft_model.specs.Log.{Log};
 ghost use Rattle.raft_model.specs.World.{World};
-ghost use Rattle.cluster_rules.specs.Replies.{Out, Question, Says, number_of, shown};
+ghost use Rattle.cluster_rules.specs.Replies.{Out, Question, Reply, Says, number_of, reply_of, shown};
 ghost use Rattle.cluster_rules.specs.Cluster.{Cluster, Pending, Server, Stand, Start};
 ghost use Rattle.cluster_rules.specs.Due.{answered, put_out, with_held, without};
 ghost use Rattle.cluster_rules.specs.Replies.{Closed};
@@ -28,6 +28,7 @@ ghost use Rattle.open_requests.specs.Taking.{Takes};
 /// An answer is one of the rules, where its content is what they show.
 pub fn answers_lift()
     ensures held { (w : World) (servers : List Server) (r : Requests) (q : Question) (kind : Kind) (known : Bool) (contact : ℕ) (log : Log) → cluster_of w servers (answered_with q.number kind known contact (shown q kind log) r) ≡ answered q kind known contact log (cluster_of w servers r) }
+    ensures given { (w : World) (servers : List Server) (r : Requests) (q : Question) (kind : Kind) (known : Bool) (contact : ℕ) (log : Log) (reply : Reply) → reply ≡ reply_of q kind known contact log → cluster_of w servers (answered_with reply.number reply.kind reply.known reply.contact reply.content r) ≡ answered q kind known contact log (cluster_of w servers r) }
     ensures refused { (w : World) (servers : List Server) (r : Requests) (q : Question) (why : Refusal) → cluster_of w servers (answered_with q.number (Refused why) false 0 (Says why) r) ≡ refused q why (cluster_of w servers r) }
 {}
 
@@ -39,6 +40,11 @@ pub fn closings_lift()
 /// To hold a request is to hold it by the rules.
 pub fn holdings_lift()
     ensures { (w : World) (servers : List Server) (r : Requests) (q : Question) (i : ℕ) (stand : Stand) (start : Start) → cluster_of w servers (holding_with q i stand start r) ≡ holding q i stand start (cluster_of w servers r) }
+{}
+
+/// What an act did is kept by the rules.
+pub fn starts_lift()
+    ensures { (w : World) (servers : List Server) (r : Requests) (start : Start) → let c = cluster_of w servers r in cluster_of w servers (record r { starts = start ∷ r.starts }) ≡ record c { starts = start ∷ c.starts } }
 {}
 
 /// A held request that waits for something else does so by the rules.
