@@ -1,0 +1,11 @@
+//! A server's time in office: which sessions it renewed, which are over by its clock, whose ends it proposed, and when it
+//! looks for removed keys that are to be reaped.
+#![tactic(auto)]
+
+mod ending;
+mod office;
+mod over;
+mod renewal;
+
+pub use ending::Ending;
+pub use office::Office;
