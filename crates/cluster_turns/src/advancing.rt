@@ -1,10 +1,10 @@
 //! An advance: the clock of each server goes on, and then that of each agent.
 
-ghost use Rattle.std.specs.Prelude.{◌+◌, ◌^◌, ◌<◌, OnOk, OnErr, length, true};
+ghost use Rattle.std.specs.Prelude.{◌≡◌, ◌+◌, ◌^◌, ◌<◌, OnOk, OnErr, length, true};
 ghost use Rattle.cluster_rules.specs.Reached.{Fits};
 ghost use Rattle.cluster_rules.specs.Step.{ClusterStep};
 ghost use Rattle.cluster_turns.specs.Turns.{FindsNoMemory};
-ghost use Rattle.cluster_turns.specs.Advances.{AllFit, IsAdvanced, IsPartlyAdvanced, nth_tick};
+ghost use Rattle.cluster_turns.specs.Advances.{AllFit, IsAdvanced, IsPartlyAdvanced, advanced, nth_tick};
 
 use crate::agent_event::AgentEvent;
 use crate::parts::Parts;
@@ -12,6 +12,22 @@ use crate::syncing::happen;
 use crate::ticking::tick;
 use cat_model::Memory;
 use std::alloc::Global;
+
+/// What holds a cluster of which all clocks go on together.
+pub trait AllClocks: Parts {
+    /// How many servers there are.
+    fn servers(&self) -> u32
+        ensures { result ≡ length (Self.state self.now).servers };
+
+    /// How many agents there are.
+    fn agents(&self) -> u32
+        ensures { result ≡ length (Self.state self.now).agents };
+
+    /// Marks an advance of so many events.
+    fn advanced(&mut self, alloc: Global, ms: u64, made: u32) -> Result<(), Memory>
+        ensures ok { OnOk result (Self.state self.new ≡ advanced ms made (Self.state self.old)) }
+        ensures err { OnErr result (Self.state self.new ≡ Self.state self.old) };
+}
 
 // Makes the event of an advance before which there are `nth`.
 fn make_nth<P: Parts>(
@@ -36,7 +52,7 @@ fn make_nth<P: Parts>(
 
 /// The clock of each server goes on by so many milliseconds, the first server's first, and then that of each agent.
 #[tactic(none)]
-pub fn advance<P: Parts>(parts: &mut P, alloc: Global, ms: u64) -> Result<(), Memory>
+pub fn advance<P: AllClocks>(parts: &mut P, alloc: Global, ms: u64) -> Result<(), Memory>
     requires few { length (P.state parts.old).servers + length (P.state parts.old).agents < 2 ^ 32 }
     requires fits { AllFit ms (P.state parts.old) }
     ensures whole { OnOk result (IsAdvanced ms (P.state parts.old) (P.state parts.new)) }

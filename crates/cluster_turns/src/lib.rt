@@ -15,7 +15,7 @@ mod syncing;
 mod ticking;
 mod turns;
 
-pub use advancing::advance;
+pub use advancing::{AllClocks, advance};
 pub use agent_event::AgentEvent;
 pub use asking::ask;
 pub use cut::Cut;
