@@ -30,7 +30,6 @@ const CALLS: u64 = 4;
 /// Some calls take no memory, so that they can follow what can't be undone. `prepare` takes the room for four of them.
 #[derive(Drop)]
 pub struct Requests {
-    pub(crate) agents: u32,
     pub(crate) asked: u64,
     pub(crate) events: u64,
     pub(crate) held: Vec<Pending>,
@@ -51,7 +50,6 @@ impl Model for Requests {
     ghost use Rattle.open_requests.specs.Contents.{start_of};
 
     ghost view = { λ r. record {
-      agents = r.agents;
       asked = r.asked;
       held = r.held.items;
       starts = reverse (map start_of r.starts.items);
@@ -67,12 +65,11 @@ impl Model for Requests {
 }
 
 impl Requests {
-    /// No requests, in a cluster of so many agents.
-    pub fn new(alloc: Global, agents: u32) -> Requests
-        ensures { result ≡ empty agents }
+    /// No requests.
+    pub fn new(alloc: Global) -> Requests
+        ensures { result ≡ empty }
     {
         Requests {
-            agents,
             asked: 0,
             events: 0,
             held: Vec::new(alloc),
@@ -132,12 +129,6 @@ impl Requests {
             Some(room) => self.make_room(room),
             None => Err(Memory),
         }
-    }
-
-    pub fn agents(&self) -> u32
-        ensures { result ≡ self.now.agents }
-    {
-        self.agents
     }
 
     /// How many requests were asked.
