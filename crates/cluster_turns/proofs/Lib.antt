@@ -4,4 +4,3 @@ pub mod Clocked
 pub mod Numbering
 pub mod Pairing
 pub mod AgentSteps
-pub mod AllTicks

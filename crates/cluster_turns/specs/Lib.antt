@@ -1,4 +1,3 @@
 pub mod Turns
 pub mod AgentEvents
 pub mod Pairs
-pub mod Advances

@@ -2,7 +2,6 @@
 //! makes up again, and its outs join the tray.
 #![tactic(auto)]
 
-mod advancing;
 mod agent_event;
 mod asking;
 mod cut;
@@ -15,7 +14,6 @@ mod syncing;
 mod ticking;
 mod turns;
 
-pub use advancing::advance;
 pub use agent_event::AgentEvent;
 pub use asking::ask;
 pub use cut::Cut;

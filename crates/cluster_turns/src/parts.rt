@@ -13,7 +13,6 @@ ghost use Rattle.cluster_rules.specs.Step.{goes_to, marked, noted, receiver, she
 ghost use Rattle.cluster_turns.specs.Turns.{Turned, Ticks, TendsInPart, ActsWhole, ActsCut, event_of, way_of, GoesBy, IsCome, HandlesNewest, IsTaken, Loses, newest};
 ghost use Rattle.cluster_turns.specs.AgentEvents.{IsAlone, IsNoted, SyncsAt, SyncsInPart, SyncsThere, alone, event_of_agent, is_for_agent, sync_way};
 ghost use Rattle.cluster_turns.specs.Pairs.{HasLowest, settled};
-ghost use Rattle.cluster_turns.specs.Advances.{advanced};
 
 use crate::agent_event::AgentEvent;
 use crate::cut::Cut;
@@ -188,19 +187,6 @@ pub trait Parts {
         requires made_up { due server (state self.old) ≡ None }
         ensures whole { OnOk result (SyncsAt server (event_of_agent event.now) (state self.old) (state self.new) true) }
         ensures cut { IfErr result (λ cut. SyncsInPart server (event_of_agent event.now) cut (state self.old) (state self.new)) };
-
-    /// How many servers there are.
-    fn servers(&self) -> u32
-        ensures { result ≡ length (state self.now).servers };
-
-    /// How many agents there are.
-    fn agents(&self) -> u32
-        ensures { result ≡ length (state self.now).agents };
-
-    /// Marks an advance of so many events.
-    fn advanced(&mut self, alloc: Global, ms: u64, made: u32) -> Result<(), Memory>
-        ensures ok { OnOk result (state self.new ≡ advanced ms made (state self.old)) }
-        ensures err { OnErr result (state self.new ≡ state self.old) };
 
     /// How many requests were asked.
     fn asked(&self) -> u64
