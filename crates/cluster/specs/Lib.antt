@@ -8,5 +8,6 @@ pub mod Moving
 pub mod Playing
 pub mod Proposing
 pub mod Standing
+pub mod Syncing
 pub mod Tending
 pub mod Working

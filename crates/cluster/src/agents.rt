@@ -1,12 +1,12 @@
 //! The agents of a cluster.
 
 ghost use Rattle.std.specs.Prelude.{◌≡◌, ◌+◌, ◌<◌, ◌≤◌, IfOk, OnErr, OnOk, is_some, length, replicate, vec_len};
-ghost use Rattle.agent_rules.specs.Agents.{agent_body, change, local_of, new_agent, ticked, wants_sync};
+ghost use Rattle.agent_rules.specs.Agents.{agent_body, agent_node, change, local_of, new_agent, ticked, wants_sync};
 ghost use Rattle.raft_model.specs.Node.{set_server};
 ghost use Rattle.cluster.specs.Agents.{IsThere, agent_at, agents_with};
 
-use agent_state::{Agent, ChangeFault};
-use cat_model::{AgentOp, Bytes, List, Local, Memory, ServiceRow};
+use agent_state::{Agent, ChangeFault, agent_node};
+use cat_model::{AgentOp, Bytes, List, Local, Memory, ServiceRow, Text};
 use std::alloc::Global;
 use std::marker::Model;
 
@@ -63,6 +63,15 @@ impl Agents {
         ensures few { number < 100 }
     {
         &self.agents[place(number)]
+    }
+
+    /// The name of an agent's node.
+    pub(crate) fn node(&self, alloc: Global, number: u32) -> Result<Text, Memory>
+        requires { IsThere self.now number }
+        ensures { IfOk result (λ name. name ≡ agent_node number) }
+    {
+        let _agent = self.agent(number);
+        agent_node(alloc, number)
     }
 
     /// Once so many milliseconds are over, the time of an agent's next sync has come.
