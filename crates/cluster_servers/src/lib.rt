@@ -1,6 +1,7 @@
 //! The cluster of several servers: their world, and what each has applied.
 #![tactic(auto)]
 
+mod deciding;
 mod messages;
 mod servers;
 mod starting;

@@ -1,3 +1,5 @@
+pub mod Delaying
 pub mod Gone
 pub mod Replying
 pub mod Standing
+pub mod Waiting

@@ -1,2 +1,3 @@
+pub mod Delays
 pub mod Removing
 pub mod States

@@ -2,7 +2,9 @@
 #![tactic(auto)]
 
 mod copies;
+mod delays;
 pub mod laws;
+mod locking;
 mod office;
 mod removing;
 mod replica;
