@@ -1,4 +1,5 @@
 pub mod Acts
+pub mod AgentPlaces
 pub mod Beginning
 pub mod Carried
 pub mod Dues

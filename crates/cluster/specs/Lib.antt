@@ -1,3 +1,4 @@
+pub mod Agents
 pub mod Asking
 pub mod Beginning
 pub mod Fitting

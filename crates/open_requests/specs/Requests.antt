@@ -1,6 +1,6 @@
 -- The requests of a cluster: what the rules' cluster has beside its world, its servers and its agents. `room` is how many
 -- calls may still come that take no memory; the rules know nothing of it.
-use Rattle.std.specs.Prelude.{◌≡◌, ℕ, ◌+◌, ◌*◌, ◌-◌, ◌^◌, ◌≤◌, ◌==◌, Bool, true, false, List, [], ◌∷◌, ◌++◌, map, if◌then◌else◌}
+use Rattle.std.specs.Prelude.{◌≡◌, ℕ, ◌+◌, ◌*◌, ◌-◌, ◌^◌, ◌≤◌, ◌==◌, Bool, true, false, List, [], ◌∷◌, ◌++◌, map, if◌then◌else◌, Option}
 use Rattle.cat_model.specs.declared.request.Asked.{Asked}
 use Rattle.cat_model.specs.declared.request.Draw.{Draw}
 use Rattle.cat_model.specs.declared.request.Event.{Event}
@@ -8,7 +8,7 @@ use Rattle.cat_model.specs.declared.reply.Kind.{Kind}
 use Rattle.cat_model.specs.declared.reply.Mark.{Mark}
 use Rattle.cat_model.specs.declared.reply.Mark.TheVariants as mark
 use Rattle.agent_rules.specs.Agents.{Agent}
-use Rattle.cluster_rules.specs.Replies.{Question, Content, Reply, Out, Replied, Closed, index_shown}
+use Rattle.cluster_rules.specs.Replies.{Question, Content, Reply, Out, Replied, Closed, Synced, index_shown}
 use Rattle.cluster_rules.specs.Cluster.{Cluster, Pending, Server, Stand, Start}
 use Rattle.cluster_rules.specs.Due.{without, put_out}
 use Rattle.cluster_rules.specs.Step.{ended}
@@ -86,6 +86,10 @@ answered_with number kind known contact content r =
 -- the request of this number is closed
 abbrev pub closed_with : ℕ → ℕ → Requests → Requests
 closed_with number event r = record r { held = without number r.held; fresh = put_out (Closed number event) r.fresh }
+
+-- it is told how many commands an agent's sync proposed, or that it found no leader
+abbrev pub told_sync : ℕ → Option ℕ → Requests → Requests
+told_sync agent count r = record r { fresh = put_out (Synced agent count) r.fresh }
 
 -- server i begins to hold the request
 abbrev pub holding_with : Question → ℕ → Stand → Start → Requests → Requests

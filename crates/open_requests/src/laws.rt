@@ -1,6 +1,6 @@
 //! How the requests' calls are steps of the rules' cluster, each the contract of a function with an empty body.
 
-ghost use Rattle.std.specs.Prelude.{Bool, List, Some, None, false, length, map, ℕ, suc, ◌+◌, ◌≡◌, ◌≤◌, ◌∷◌, ◌++◌};
+ghost use Rattle.std.specs.Prelude.{Bool, List, Option, Some, None, false, length, map, ℕ, suc, ◌+◌, ◌≡◌, ◌≤◌, ◌∷◌, ◌++◌};
 ghost use Rattle.cat_model.specs.declared.request.Asked.{Asked};
 ghost use Rattle.cat_model.specs.declared.request.Draw.{Draw};
 ghost use Rattle.cat_model.specs.declared.request.Event.{Event};
@@ -16,6 +16,7 @@ ghost use Rattle.cluster_rules.specs.Replies.{Out, Question, Reply, Says, number
 ghost use Rattle.cluster_rules.specs.Cluster.{Cluster, Pending, Server, Stand, Start};
 ghost use Rattle.cluster_rules.specs.Due.{answered, put_out, with_held, without};
 ghost use Rattle.cluster_rules.specs.Replies.{Closed};
+ghost use Rattle.cluster_rules.specs.Proposals.{synced};
 ghost use Rattle.cluster_rules.specs.Requests.{holding, moved_with, refused};
 ghost use Rattle.cluster_rules.specs.Sound.{Ascends, IsAmong};
 ghost use Rattle.cluster_rules.specs.Step.{ended, events_in, marked, noted, shelved};
@@ -23,7 +24,7 @@ ghost use Rattle.open_requests.specs.declared.note.Note.{Note};
 ghost use Rattle.open_requests.specs.declared.note.Note.TheVariants.{Joined, Marked};
 ghost use Rattle.open_requests.specs.Notes.{joined_in, marked_in, past_of};
 ghost use Rattle.open_requests.specs.Requests as own;
-ghost use Rattle.open_requests.specs.Requests.{Requests, answered_with, came_with, closed_with, cluster_of, ended_all, halted_with, holding_with, restood, shelved_all, used, with_note};
+ghost use Rattle.open_requests.specs.Requests.{Requests, answered_with, came_with, closed_with, cluster_of, ended_all, halted_with, holding_with, restood, shelved_all, told_sync, used, with_note};
 ghost use Rattle.open_requests.specs.Taking.{Takes};
 
 /// An answer is one of the rules, where its content is what they show.
@@ -46,6 +47,11 @@ pub fn holdings_lift()
 /// What an act did is kept by the rules.
 pub fn starts_lift()
     ensures { (w : World) (servers : List Server) (agents : List Agent) (r : Requests) (start : Start) → let c = cluster_of w servers agents r in cluster_of w servers agents (record r { starts = start ∷ r.starts }) ≡ record c { starts = start ∷ c.starts } }
+{}
+
+/// A sync's out is one of the rules.
+pub fn syncs_lift()
+    ensures { (w : World) (servers : List Server) (agents : List Agent) (r : Requests) (agent : ℕ) (count : Option ℕ) → cluster_of w servers agents (told_sync agent count r) ≡ synced agent count (cluster_of w servers agents r) }
 {}
 
 /// A held request that waits for something else does so by the rules.

@@ -19,6 +19,7 @@ mod plain;
 mod question;
 mod requests;
 mod room;
+mod syncs;
 
 pub use collected::{Awaits, Collected};
 pub use content::Content;
