@@ -2,6 +2,7 @@
 #![tactic(auto)]
 
 mod deciding;
+mod ending;
 mod messages;
 mod servers;
 mod starting;

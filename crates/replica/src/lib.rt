@@ -6,6 +6,7 @@ mod delays;
 pub mod laws;
 mod locking;
 mod office;
+mod quiet;
 mod removing;
 mod replica;
 

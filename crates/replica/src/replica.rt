@@ -1,4 +1,4 @@
-ghost use Rattle.std.specs.Prelude.{◌≡◌, ◌+◌, ◌<◌, ◌≤◌, ◌++◌, [], ◌∷◌, Option, IfOk, OnOk, OnErr, length, nat_le, true};
+ghost use Rattle.std.specs.Prelude.{◌≡◌, ◌+◌, ◌<◌, ◌≤◌, ◌++◌, [], ◌∷◌, Option, IfOk, OnOk, OnErr, length, true};
 ghost use Rattle.std.specs.Option.{option_copied};
 ghost use Rattle.cat_model.specs.Catalog.{session_at};
 ghost use Rattle.cat_model.specs.Machine.{catalog_at};
@@ -9,17 +9,17 @@ ghost use Rattle.cat_model.specs.Indexes.{index_of};
 ghost use Rattle.key_commands.specs.Firing.{FiresJust};
 ghost use Rattle.catalog_query.specs.Standing.{Stands};
 ghost use Rattle.catalog_store.specs.Taken.{is_taken};
-ghost use Rattle.office_rules.specs.Offices.{delay_over, has_removed, looks_on, office_from};
-ghost use Rattle.replica.specs.States.{nothing_applied, applied_at, in_office, last_reply};
+ghost use Rattle.office_rules.specs.Offices.{delay_over, has_removed};
+ghost use Rattle.replica.specs.States.{nothing_applied, applied_at, last_reply};
 
 use crate::delays::Delays;
-use crate::office::{Office, is_look_due, looks_on};
-use crate::{copies, removing};
+use crate::{copies, quiet, removing};
 use cat_model::{
     Answer, Applied, Chan, Command, Fired, List, Memory, Query, Ran, SessionRow, Steps,
 };
 use catalog_query::{ExecuteFault, View};
 use catalog_store::Store;
+use session_ttl::Office;
 use std::alloc::Global;
 use std::marker::Model;
 use std::sync::ledger::Ledger;
@@ -28,11 +28,13 @@ use std::sync::ledger::Ledger;
 /// milliseconds; and its time in office, if it led since then. A restarted server begins with a new one.
 #[derive(Drop)]
 pub struct Replica {
-    store: Store,
-    clocks: Vec<u64>,
+    pub(crate) store: Store,
+    pub(crate) clocks: Vec<u64>,
     reply: Option<Applied>,
     removed: bool,
-    office: Option<Office>,
+    pub(crate) office: Office,
+    /// Before this clock no session is over whose end is still to be proposed.
+    pub(crate) quiet_until: u128,
     delays: Delays,
 }
 
@@ -40,13 +42,15 @@ impl Model for Replica {
     ghost use Rattle.std.specs.Prelude.{◌≡◌, ◌≤◌, ℕ, List, length};
     ghost use Rattle.office_rules.specs.Offices.{delay_over, has_removed};
     ghost use Rattle.replica.specs.Delays.{delay_end};
-    ghost use Rattle.replica.specs.States.{ReplicaState, last_reply, office_kept};
+    ghost use Rattle.replica.specs.States.{ReplicaState, last_reply};
+    ghost use Rattle.session_ttl.specs.Quiet.{IsQuiet};
+    ghost use Rattle.cat_model.specs.Machine.{catalog_at};
 
     ghost Value = { ReplicaState };
 
-    ghost view = { λ r. record { commands = r.store; clocks = r.clocks.items; office = office_kept r.office } };
+    ghost view = { λ r. record { commands = r.store; clocks = r.clocks.items; office = r.office } };
 
-    ghost invariant = { λ r. (length r.clocks.items ≡ length r.store) × (length r.store ≤ 262144) × (r.reply ≡ last_reply r.store) × (r.removed ≡ has_removed r.store) × ((key : List ℕ) → delay_end r.delays key ≡ delay_over r.store r.clocks.items key) };
+    ghost invariant = { λ r. (length r.clocks.items ≡ length r.store) × (length r.store ≤ 262144) × (r.reply ≡ last_reply r.store) × (r.removed ≡ has_removed r.store) × ((key : List ℕ) → delay_end r.delays key ≡ delay_over r.store r.clocks.items key) × IsQuiet r.quiet_until r.clocks.items r.office (catalog_at r.store).sessions };
 }
 
 // The tables of a store, read together.
@@ -72,7 +76,8 @@ impl Replica {
             clocks: Vec::new(alloc),
             reply: None,
             removed: false,
-            office: None,
+            office: Office::new(alloc),
+            quiet_until: 0,
             delays: Delays::new(alloc)?,
         })
     }
@@ -145,6 +150,7 @@ impl Replica {
                     &self.store,
                 );
                 self.delays.note(freed, now);
+                self.quiet_until = quiet::applied(self.quiet_until, command, now);
                 Ok(chans)
             }
             Err(memory) => {
@@ -152,31 +158,6 @@ impl Replica {
                 Err(memory)
             }
         }
-    }
-
-    /// The server takes office, at this time of its clock.
-    pub fn lead(&mut self, now: u64)
-        ensures { self.new ≡ in_office (office_from now) self.old }
-    {
-        self.office = Some(Office {
-            since: now,
-            looked: now,
-        });
-    }
-
-    /// A server in office looks for removed keys that are to be reaped, where the time of its next look has come, and
-    /// the look after that comes 900,000 milliseconds later.
-    pub fn look(&mut self, now: u64)
-        ensures { self.new ≡ in_office (looks_on now self.old.office) self.old }
-    {
-        self.office = looks_on(self.office, now);
-    }
-
-    /// The time of a server's next look for removed keys has come.
-    pub fn is_look_due(&self, now: u64) -> bool
-        ensures { result ≡ nat_le self.now.office.reap now }
-    {
-        is_look_due(self.office, now)
     }
 
     /// The clock at which the lock delay of the key is over, in milliseconds, or 0 where none began.
