@@ -20,7 +20,7 @@ mod noting;
 mod parts;
 mod playing;
 mod probing;
-mod proposing;
+mod proposals;
 mod reading;
 mod refusing;
 mod renewing;

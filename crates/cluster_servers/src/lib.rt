@@ -1,6 +1,8 @@
 //! The cluster of several servers: their world, and what each has applied.
 #![tactic(auto)]
 
+mod deciding;
+mod ending;
 mod messages;
 mod servers;
 mod starting;

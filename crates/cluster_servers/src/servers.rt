@@ -86,7 +86,7 @@ impl<K: Keeper> Servers<K> {
     }
 
     // What a server has applied.
-    fn replica(&self, s: u32) -> &Replica
+    pub(crate) fn replica(&self, s: u32) -> &Replica
         requires { IsNumber s self.now.world }
         ensures commands { result.now.commands ≡ commands_of (server_of self.now.servers s).applied }
         ensures clocks { result.now.clocks ≡ (server_of self.now.servers s).clocks }
@@ -188,6 +188,7 @@ impl<K: Keeper> Servers<K> {
         let leader = &mut self.replicas[at];
         leader.look(clock);
     }
+
     /// A server in office has a reap to propose: by its clock the time of its next look has come, and a key was removed
     /// after the last reap that it applied.
     pub fn is_reap_due(&self, s: u32) -> bool

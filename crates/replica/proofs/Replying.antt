@@ -1,5 +1,5 @@
 -- The last reply after one more command.
-use Rattle.std.proofs.Common.{◌≡◌, ◌∙◌, List, [], ◌∷◌, ◌++◌, Option, Some, ap, reverse}
+use Rattle.std.proofs.Common.{◌≡◌, ◌∙◌, List, [], ◌∷◌, ◌++◌, Some, ap}
 use Rattle.std.proofs.lemmas.List.{reverse-append, reverse-reverse}
 use Rattle.cat_model.specs.Machine.{reply_to}
 use Rattle.cat_model.specs.declared.command.Command.{Command}

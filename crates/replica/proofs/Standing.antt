@@ -1,6 +1,5 @@
 -- What the store's tables keep stands for its log.
-use Rattle.std.proofs.Common.{◌≡◌, ◌∙◌, ℕ, List, ap, sym}
-use Rattle.cat_model.specs.Catalog.{Catalog}
+use Rattle.std.proofs.Common.{◌≡◌, ◌∙◌, List, ap, sym}
 use Rattle.cat_model.specs.Machine.{catalog_at}
 use Rattle.cat_model.specs.Indexes.{has_name, has_node}
 use Rattle.cat_model.specs.declared.command.Command.{Command}

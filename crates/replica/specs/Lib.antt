@@ -1,2 +1,4 @@
+pub mod Delays
 pub mod Removing
 pub mod States
+pub mod Making

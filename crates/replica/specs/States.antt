@@ -1,10 +1,9 @@
 -- What a server has applied since it last started. (Extended Raft paper, figure 2, "State": lastApplied.)
-use Rattle.std.specs.Prelude.{ℕ, ◌+◌, List, [], ◌∷◌, ◌++◌, Option, None, Some, reverse}
+use Rattle.std.specs.Prelude.{ℕ, List, [], ◌∷◌, ◌++◌, Option, None, Some, reverse}
 use Rattle.cat_model.specs.Machine.{reply_to}
 use Rattle.cat_model.specs.declared.applied.Applied.{Applied}
 use Rattle.cat_model.specs.declared.command.Command.{Command}
-use Rattle.office_rules.specs.Offices.{Office, no_office, reap_pause}
-use Rattle.replica.specs.declared.office.Office.{Office as Kept}
+use Rattle.office_rules.specs.Offices.{Office, no_office}
 
 -- the commands, the first one first, the server's clock at each of them, in milliseconds, and its time in office
 pub record ReplicaState : Type 0 where
@@ -22,11 +21,6 @@ applied_at command clock s = record s { commands = s.commands ++ command ∷ [];
 -- with another time in office
 abbrev pub in_office : Office → ReplicaState → ReplicaState
 in_office o s = record s { office = o }
-
--- The time in office that a server keeps: no session with a TTL is taken so far, so none is renewed or ended.
-abbrev pub office_kept : Option Kept → Office
-office_kept None = no_office
-office_kept (Some k) = record { since = k.since; renewals = []; ended = []; reap = k.looked + reap_pause }
 
 -- the catalog's answer to the last command, looking back over the log
 abbrev pub reply_back : List Command → Option Applied

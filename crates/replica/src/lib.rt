@@ -2,8 +2,11 @@
 #![tactic(auto)]
 
 mod copies;
+mod delays;
 pub mod laws;
+mod locking;
 mod office;
+mod quiet;
 mod removing;
 mod replica;
 

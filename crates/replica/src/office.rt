@@ -1,55 +1,97 @@
-//! A server's time in office, as far as the program keeps it.
+//! A server's time in office.
 
-ghost use Rattle.std.specs.Prelude.{◌≡◌, ◌+◌, nat_le};
-ghost use Rattle.office_rules.specs.Offices.{looks_on, reap_pause};
-ghost use Rattle.replica.specs.States.{office_kept};
+ghost use Rattle.std.specs.Prelude.{◌≡◌, ◌≤◌, IfOk, List, OnErr, OnOk, length, map, nat_le, take};
+ghost use Rattle.cat_model.specs.Catalog.{session_at};
+ghost use Rattle.cat_model.specs.Machine.{catalog_at};
+ghost use Rattle.cat_model.specs.declared.row.SessionRow.{SessionRow as SpecSession};
+ghost use Rattle.office_rules.specs.Offices.{Office as SpecOffice, ended_too, looks_on, office_from, over_now, renew_in};
+ghost use Rattle.replica.specs.States.{in_office};
+ghost use Rattle.session_ttl.specs.Endings.{ending_of};
 
-// How long after a look for what is to be reaped the next one comes, in milliseconds.
-const REAP_PAUSE: u64 = 900_000;
+use crate::quiet;
+use crate::replica::Replica;
+use cat_model::Memory;
+use session_ttl::Ending;
+use std::alloc::Global;
 
-/// Since when a server leads, and when it looked last for removed keys that are to be reaped, which at first is then
-/// too. Both are times of its clock, in milliseconds.
-#[derive(Clone, Copy)]
-pub(crate) struct Office {
-    pub(crate) since: u64,
-    pub(crate) looked: u64,
-}
-
-// The time of the next look has come.
-fn is_due(looked: u64, now: u64) -> bool
-    ensures { result ≡ nat_le (looked + reap_pause) now }
-{
-    now >= REAP_PAUSE && looked <= now - REAP_PAUSE
-}
-
-/// The time in office behind a look, where the time of one has come.
-pub(crate) fn looks_on(office: Option<Office>, now: u64) -> Option<Office>
-    ensures { office_kept result ≡ looks_on now (office_kept office) }
-{
-    match office {
-        None => Some(Office {
-            since: 0,
-            looked: now,
-        }),
-        Some(office) => {
-            if is_due(office.looked, now) {
-                Some(Office {
-                    since: office.since,
-                    looked: now,
-                })
-            } else {
-                Some(office)
-            }
-        }
+impl Replica {
+    /// The server takes office, at this time of its clock.
+    pub fn lead(&mut self, now: u64)
+        ensures { self.new ≡ in_office (office_from now) self.old }
+    {
+        self.office.lead(now);
+        self.quiet_until = 0;
     }
-}
 
-/// The time of the next look has come. It has where the server is in no office.
-pub(crate) fn is_look_due(office: Option<Office>, now: u64) -> bool
-    ensures { result ≡ nat_le (office_kept office).reap now }
-{
-    match office {
-        None => true,
-        Some(office) => is_due(office.looked, now),
+    /// A server in office renews the session of this identifier, if there is one, at this time of its clock: it lives
+    /// anew, and its end is to be proposed again.
+    pub fn renew(&mut self, id: u128, now: u64) -> Result<(), Memory>
+        ensures ok { OnOk result (self.new ≡ in_office (renew_in (session_at id (catalog_at self.old.commands).sessions) now self.old.office) self.old) }
+        ensures err { OnErr result (self.new ≡ self.old) }
+    {
+        let Some(row) = self.store.sessions().get(id) else {
+            return Ok(());
+        };
+        self.office.in_order();
+        let until = if self.office.is_ended(row.create) {
+            0
+        } else {
+            quiet::renewed(self.quiet_until, row.ttl_ms, now)
+        };
+        self.office.renew(row, now)?;
+        self.quiet_until = until;
+        Ok(())
+    }
+
+    /// The sessions that are over by this time of the server's clock, and whose ends are still to be proposed: by when
+    /// they were, and then by their identifiers.
+    pub fn over(&self, alloc: Global, now: u64) -> Result<Vec<Ending>, Memory>
+        ensures { IfOk result (λ v. v.items ≡ map ending_of (over_now self.now.commands self.now.clocks self.now.office now)) }
+    {
+        if u128::from(now) < self.quiet_until {
+            return Ok(Vec::new(alloc));
+        }
+        self.office
+            .over(alloc, self.clocks.as_slice(), self.store.sessions(), now)
+    }
+
+    /// The ends of these sessions are about to be proposed.
+    pub fn end(&mut self, endings: &[Ending]) -> Result<(), Memory>
+        ensures ok { (rows : List SpecSession) → endings.now ≡ map ending_of rows → OnOk result (self.new ≡ in_office (ended_too rows self.old.office) self.old) }
+        ensures err { OnErr result (self.new ≡ self.old) }
+    {
+        self.office.end(endings)?;
+        Ok(())
+    }
+
+    /// Of these sessions, whose ends were about to be proposed, only the ends of the first `kept` were. Takes no memory.
+    pub fn keep_first(&mut self, endings: &[Ending], kept: usize)
+        requires ended { (rows : List SpecSession) × (o : SpecOffice) × (endings.now ≡ map ending_of rows) × (self.old.office ≡ ended_too rows o) }
+        requires within { kept ≤ length endings.now }
+        ensures { (rows : List SpecSession) (o : SpecOffice) → endings.now ≡ map ending_of rows → self.old.office ≡ ended_too rows o → self.new ≡ in_office (ended_too (take kept rows) o) self.old }
+    {
+        self.office.keep_first(endings, kept);
+        self.quiet_until = 0;
+    }
+
+    /// The time of a server's next look for removed keys has come.
+    pub fn is_look_due(&self, now: u64) -> bool
+        ensures { result ≡ nat_le self.now.office.reap now }
+    {
+        self.office.is_look_due(now)
+    }
+
+    /// A server in office looks for removed keys that are to be reaped, where the time of its next look has come, and
+    /// the look after that comes 900,000 milliseconds later. It also looks when sessions are over next, where one may be
+    /// now.
+    pub fn look(&mut self, now: u64)
+        ensures { self.new ≡ in_office (looks_on now self.old.office) self.old }
+    {
+        self.office.look(now);
+        if self.quiet_until <= u128::from(now) {
+            self.quiet_until = self
+                .office
+                .quiet_until(self.clocks.as_slice(), self.store.sessions(), now);
+        }
     }
 }

@@ -1,19 +1,25 @@
-ghost use Rattle.std.specs.Prelude.{◌≡◌, ◌+◌, ◌<◌, ◌≤◌, ◌++◌, [], ◌∷◌, Option, IfOk, OnOk, OnErr, length, map, nat_le, true};
+ghost use Rattle.std.specs.Prelude.{◌≡◌, ◌+◌, ◌<◌, ◌≤◌, ◌++◌, [], ◌∷◌, Option, IfOk, OnOk, OnErr, length, true};
 ghost use Rattle.std.specs.Option.{option_copied};
-ghost use Rattle.cat_model.specs.Machine.{catalog_at, freed};
+ghost use Rattle.cat_model.specs.Catalog.{session_at};
+ghost use Rattle.cat_model.specs.Machine.{catalog_at};
 ghost use Rattle.cat_model.specs.Channels.{fires};
+ghost use Rattle.cat_model.specs.Executions.{execution};
 ghost use Rattle.cat_model.specs.Queries.{answer};
 ghost use Rattle.cat_model.specs.Indexes.{index_of};
 ghost use Rattle.key_commands.specs.Firing.{FiresJust};
+ghost use Rattle.catalog_query.specs.Standing.{Stands};
 ghost use Rattle.catalog_store.specs.Taken.{is_taken};
-ghost use Rattle.office_rules.specs.Offices.{has_removed, looks_on, office_from};
-ghost use Rattle.replica.specs.States.{nothing_applied, applied_at, in_office, last_reply};
+ghost use Rattle.office_rules.specs.Offices.{delay_over, has_removed};
+ghost use Rattle.replica.specs.States.{nothing_applied, applied_at, last_reply};
 
-use crate::office::{Office, is_look_due, looks_on};
-use crate::{copies, removing};
-use cat_model::{Answer, Applied, Command, Fired, Memory, Query, Steps};
-use catalog_query::View;
+use crate::delays::Delays;
+use crate::{copies, quiet, removing};
+use cat_model::{
+    Answer, Applied, Chan, Command, Fired, List, Memory, Query, Ran, SessionRow, Steps,
+};
+use catalog_query::{ExecuteFault, View};
 use catalog_store::Store;
+use session_ttl::Office;
 use std::alloc::Global;
 use std::marker::Model;
 use std::sync::ledger::Ledger;
@@ -22,23 +28,42 @@ use std::sync::ledger::Ledger;
 /// milliseconds; and its time in office, if it led since then. A restarted server begins with a new one.
 #[derive(Drop)]
 pub struct Replica {
-    store: Store,
-    clocks: Vec<u64>,
+    pub(crate) store: Store,
+    pub(crate) clocks: Vec<u64>,
     reply: Option<Applied>,
     removed: bool,
-    office: Option<Office>,
+    pub(crate) office: Office,
+    /// Before this clock no session is over whose end is still to be proposed.
+    pub(crate) quiet_until: u128,
+    delays: Delays,
 }
 
 impl Model for Replica {
-    ghost use Rattle.std.specs.Prelude.{◌≡◌, ◌≤◌, length};
-    ghost use Rattle.office_rules.specs.Offices.{has_removed};
-    ghost use Rattle.replica.specs.States.{ReplicaState, last_reply, office_kept};
+    ghost use Rattle.std.specs.Prelude.{◌≡◌, ◌≤◌, ℕ, List, length};
+    ghost use Rattle.office_rules.specs.Offices.{delay_over, has_removed};
+    ghost use Rattle.replica.specs.Delays.{delay_end};
+    ghost use Rattle.replica.specs.States.{ReplicaState, last_reply};
+    ghost use Rattle.session_ttl.specs.Quiet.{IsQuiet};
+    ghost use Rattle.cat_model.specs.Machine.{catalog_at};
 
     ghost Value = { ReplicaState };
 
-    ghost view = { λ r. record { commands = r.store; clocks = r.clocks.items; office = office_kept r.office } };
+    ghost view = { λ r. record { commands = r.store; clocks = r.clocks.items; office = r.office } };
 
-    ghost invariant = { λ r. (length r.clocks.items ≡ length r.store) × (length r.store ≤ 262144) × (r.reply ≡ last_reply r.store) × (r.removed ≡ has_removed r.store) };
+    ghost invariant = { λ r. (length r.clocks.items ≡ length r.store) × (length r.store ≤ 262144) × (r.reply ≡ last_reply r.store) × (r.removed ≡ has_removed r.store) × ((key : List ℕ) → delay_end r.delays key ≡ delay_over r.store r.clocks.items key) × IsQuiet r.quiet_until r.clocks.items r.office (catalog_at r.store).sessions };
+}
+
+// The tables of a store, read together.
+fn view_of(store: &Store) -> View<'_>
+    ensures { Stands result store.now }
+{
+    View {
+        kv: store.kv(),
+        catalog: store.catalog(),
+        sessions: store.sessions(),
+        queries: store.queries(),
+        indexes: store.indexes(),
+    }
 }
 
 impl Replica {
@@ -51,7 +76,9 @@ impl Replica {
             clocks: Vec::new(alloc),
             reply: None,
             removed: false,
-            office: None,
+            office: Office::new(alloc),
+            quiet_until: 0,
+            delays: Delays::new(alloc)?,
         })
     }
 
@@ -96,29 +123,35 @@ impl Replica {
     }
 
     /// Applies the command at the next position, at this time of the server's clock. The catalog's answer is then the
-    /// last reply. It gives the channels that the step fires and the keys that it frees. After want of memory all is as
-    /// before.
+    /// last reply. It gives the channels that the step fires. After want of memory all is as before.
     #[tactic(auto, using(crate::proofs::Replying::last_is))]
-    pub fn apply(&mut self, alloc: Global, command: &Command, now: u64) -> Result<Fired, Memory>
+    pub fn apply(
+        &mut self,
+        alloc: Global,
+        command: &Command,
+        now: u64,
+    ) -> Result<List<Chan>, Memory>
         requires room { length self.old.commands < 262144 }
         requires kind { is_taken command.now ≡ true }
         ensures ok { OnOk result (self.new ≡ applied_at command.now now self.old) }
-        ensures fired { IfOk result (λ f. FiresJust (fires (catalog_at self.old.commands) command.now (catalog_at (self.old.commands ++ command.now ∷ []))) f.chans) }
-        ensures freed { IfOk result (λ f. map (λ k. (k.key, k.delay_ms)) f.freed ≡ freed (length self.old.commands + 1) command.now (catalog_at self.old.commands)) }
+        ensures fired { IfOk result (λ chans. FiresJust (fires (catalog_at self.old.commands) command.now (catalog_at (self.old.commands ++ command.now ∷ []))) chans) }
         ensures err { OnErr result (self.new ≡ self.old) }
     {
+        self.delays.settle(alloc)?;
         self.clocks.push(now)?;
         let position = self.store.length() + 1;
         match self.store.apply(alloc, position, command) {
-            Ok((reply, fired)) => {
+            Ok((reply, Fired { chans, freed })) => {
                 self.reply = Some(reply);
                 self.removed = removing::has_removed(
                     self.removed,
                     command,
-                    fired.chans.as_slice(),
+                    chans.as_slice(),
                     &self.store,
                 );
-                Ok(fired)
+                self.delays.note(freed, now);
+                self.quiet_until = quiet::applied(self.quiet_until, command, now);
+                Ok(chans)
             }
             Err(memory) => {
                 self.clocks.pop();
@@ -127,29 +160,18 @@ impl Replica {
         }
     }
 
-    /// The server takes office, at this time of its clock.
-    pub fn lead(&mut self, now: u64)
-        ensures { self.new ≡ in_office (office_from now) self.old }
+    /// The clock at which the lock delay of the key is over, in milliseconds, or 0 where none began.
+    pub fn delay_over(&self, key: &str) -> u128
+        ensures { result ≡ delay_over self.now.commands self.now.clocks key.now }
     {
-        self.office = Some(Office {
-            since: now,
-            looked: now,
-        });
+        self.delays.until(key)
     }
 
-    /// A server in office looks for removed keys that are to be reaped, where the time of its next look has come, and
-    /// the look after that comes 900,000 milliseconds later.
-    pub fn look(&mut self, now: u64)
-        ensures { self.new ≡ in_office (looks_on now self.old.office) self.old }
+    /// The session of this identifier.
+    pub fn session(&self, id: u128) -> Option<&SessionRow>
+        ensures { option_copied result ≡ session_at id (catalog_at self.now.commands).sessions }
     {
-        self.office = looks_on(self.office, now);
-    }
-
-    /// The time of a server's next look for removed keys has come.
-    pub fn is_look_due(&self, now: u64) -> bool
-        ensures { result ≡ nat_le self.now.office.reap now }
-    {
-        is_look_due(self.office, now)
+        self.store.sessions().get(id)
     }
 
     /// The answer to the query at all that is applied, with its index. It is one step, also where memory fails.
@@ -162,13 +184,25 @@ impl Replica {
         ensures told { IfOk result (λ r. r ≡ (answer query.now (catalog_at self.now.commands), index_of query.now self.now.commands)) }
         ensures cost { steps.new ≡ steps.old + 1 }
     {
-        let view = View {
-            kv: self.store.kv(),
-            catalog: self.store.catalog(),
-            sessions: self.store.sessions(),
-            queries: self.store.queries(),
-            indexes: self.store.indexes(),
-        };
-        catalog_query::evaluate(alloc, &view, query, steps)
+        catalog_query::evaluate(alloc, &view_of(&self.store), query, steps)
+    }
+
+    /// What the prepared query that the name names gives at all that is applied: the one of the identifier that the name
+    /// spells, if it spells one and there is such a query, and else the one of this name. None where there is no such
+    /// query. A limit of 0 is none.
+    pub fn execute(
+        &self,
+        alloc: Global,
+        id: Option<u128>,
+        name: &str,
+        limit: u64,
+    ) -> Result<Option<Ran>, Memory>
+        ensures { IfOk result (λ ran. ran ≡ execution (catalog_at self.now.commands) id name.now limit) }
+    {
+        match catalog_query::execute(alloc, &view_of(&self.store), id, name, limit) {
+            Ok(ran) => Ok(Some(ran)),
+            Err(ExecuteFault::Unknown) => Ok(None),
+            Err(ExecuteFault::Memory) => Err(Memory),
+        }
     }
 }

@@ -1,3 +1,4 @@
 pub mod Starts
 pub mod Sorting
 pub mod Ends
+pub mod Quiet

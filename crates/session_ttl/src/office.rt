@@ -1,6 +1,8 @@
 ghost use Rattle.std.specs.Prelude.{◌≡◌, ◌==◌, ◌≤◌, ℕ, filter, length, map, not, take, nat_le, List, Some, OnErr, OnOk};
 ghost use Rattle.cat_model.specs.declared.row.SessionRow.{SessionRow as SpecSession};
-ghost use Rattle.office_rules.specs.Offices.{Office as SpecOffice, ended_too, looks_on, no_office, office_from, reap_pause, renew_in};
+ghost use Rattle.office_rules.specs.Offices.{Office as SpecOffice, ended_too, looks_on, no_office, office_from, reap_pause, renew_in, renewal_id};
+ghost use Rattle.cat_model.specs.Tables.{Ascends};
+ghost use Rattle.std.specs.Ordering.{nat_cmp};
 ghost use Rattle.session_ttl.specs.Endings.{ending_of};
 
 use crate::ending::{Ending, positions};
@@ -73,6 +75,13 @@ impl Office {
         renew(&mut self.renewals, row.id, now)?;
         forget(&mut self.ended, row.create);
         Ok(())
+    }
+
+    /// Tells a proof that the renewals are in the order of their sessions, one for each.
+    pub fn in_order(&self)
+        ensures { Ascends nat_cmp renewal_id self.now.renewals }
+    {
+        self.renewals.in_order();
     }
 
     /// The time of the next look for removed keys has come.

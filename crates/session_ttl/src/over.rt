@@ -1,8 +1,9 @@
 //! The sessions that are over by a server's clock.
 
-ghost use Rattle.std.specs.Prelude.{◌≡◌, ◌==◌, ◌++◌, ◌∷◌, [], filter, map, reverse, IfOk, OnOk};
+ghost use Rattle.std.specs.Prelude.{◌≡◌, ◌==◌, ◌≤◌, ◌++◌, ◌∷◌, [], true, filter, map, reverse, IfOk, OnOk};
 ghost use Rattle.std.specs.List.{list_any};
-ghost use Rattle.office_rules.specs.Offices.{applied_at, is_over, over_at, sorted_by};
+ghost use Rattle.office_rules.specs.Offices.{applied_at, is_over, is_pending, over_at, sorted_by};
+ghost use Rattle.session_ttl.specs.Quiet.{IsQuiet};
 ghost use Rattle.session_ttl.specs.Endings.{ending_of, overdue_of};
 
 use crate::ending::{Ending, Overdue, endings, sort};
@@ -36,8 +37,8 @@ impl Office {
         u128::from(applied_at(clocks, row.create).max(began)) + 2 * u128::from(row.ttl_ms)
     }
 
-    // The end of the session that was made at this position is proposed.
-    fn is_ended(&self, create: u64) -> bool
+    /// The end of the session that was made at this position was proposed, and it was not renewed since.
+    pub fn is_ended(&self, create: u64) -> bool
         ensures { result ≡ list_any (λ p. p == create) self.now.ended }
     {
         has(self.ended.as_slice(), create)
@@ -98,5 +99,30 @@ impl Office {
         let mut overdue = self.overdue(alloc, clocks, sessions, now)?;
         sort(&mut overdue)?;
         endings(alloc, &overdue)
+    }
+    // A clock before which the session is not over, if its end is still to be proposed.
+    fn quiet_for(&self, clocks: &[u64], row: &SessionRow, now: u64) -> u128
+        ensures { is_pending self.now row.now ≡ true → result ≤ over_at clocks.now self.now row.now }
+    {
+        if row.ttl_ms == 0 {
+            return u128::MAX;
+        }
+        let over_at = self.over_at(clocks, row);
+        if over_at <= u128::from(now) && self.is_ended(row.create) {
+            return u128::MAX;
+        }
+        over_at
+    }
+
+    /// A clock before which no session is over whose end is still to be proposed. At this time of the server's clock it
+    /// is the first at which one is over, or later than each clock. Takes no memory.
+    pub fn quiet_until(&self, clocks: &[u64], sessions: &SessionTable, now: u64) -> u128
+        ensures { IsQuiet result clocks.now self.now sessions.now.now }
+    {
+        let mut until = u128::MAX;
+        for row in sessions.rows() {
+            until = until.min(self.quiet_for(clocks, row, now));
+        }
+        until
     }
 }

@@ -1,0 +1,19 @@
+use Rattle.std.proofs.Common.{ap, sym, ◌∙◌, arith, ◌+◌}
+use Rattle.std.proofs.lemmas.Grind.{common_steps}
+use Rattle.office_rules.specs.Offices.{has_removed}
+use Rattle.replica.proofs.Delaying.{delays_next}
+use Rattle.replica.proofs.Quieting.{quiet_next}
+use Rattle.replica.proofs.Replying.{last_is}
+use Rattle.replica.proofs.replica.Replica.apply.Goals as goal
+
+pub invariant_of-self-in-Ok : goal.invariant_of-self-in-Ok
+invariant_of-self-in-Ok c = (
+  grind (arith, common_steps),
+  grind (arith, common_steps),
+  grind (arith, last_is),
+  c.has_removed-self-inside.ensures c.self.inside.store c.in-Ok.ensures.ok c.self.invariant.3 (rw c.as_slice.ensures c.in-Ok.ensures.fired) ∙ ap has_removed (sym c.in-Ok.ensures.ok),
+  delays_next c.self.inside.store c.self.inside.clocks.items c.self.invariant.0 c.args.command.now c.args.now (c.length-position.result + 1) (omega arith) _ c.in-Ok.ensures.freed c.settle.new.self c.note.new.self
+      (λ key. c.settle.ensures.same key ∙ c.self.invariant.4 key) c.note.ensures c.apply.new.self c.in-Ok.ensures.ok c.push.new.self.items c.in_ok-push.ensures.items,
+  quiet_next c.self.inside.store c.self.inside.clocks.items c.self.inside.office c.self.inside.quiet_until c.applied-self-inside.result c.args.now c.args.command.now c.self.invariant.0 c.applied-self-inside.ensures.earlier c.applied-self-inside.ensures.within c.self.invariant.5
+      c.apply.new.self c.in-Ok.ensures.ok c.push.new.self.items c.in_ok-push.ensures.items,
+)
