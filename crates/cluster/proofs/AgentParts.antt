@@ -1,6 +1,6 @@
 -- An agent's own part of an event, in the terms of the rules' cluster.
 use Rattle.std.proofs.Common.{◌≡◌, ℕ, suc, ◌+◌, ◌<◌, ◌≤◌, Bool, true, false, cond, not, nat_lt, List, [], ◌∷◌, length, Option, None, Some, Result, Ok, Err, refl, sym, ◌∙◌, ap, subst, arith}
-use Rattle.std.specs.Prelude.{OnOk, if◌then◌else◌, is_err}
+use Rattle.std.specs.Prelude.{OnErr, OnOk, if◌then◌else◌, is_err}
 use Rattle.cat_model.specs.declared.command.Command.TheVariants.{Reap}
 use Rattle.cat_model.specs.declared.reply.Kind.{Kind}
 use Rattle.cat_model.specs.declared.request.AgentOp.{AgentOp}
@@ -40,6 +40,11 @@ use Rattle.cluster.proofs.Kept.{answer_stands}
 pub when_ok : {A B P : Type 0} (r : Result A B) → is_err r ≡ false → OnOk r P → P
 when_ok (Ok a) e p = p
 when_ok (Err b) e p = absurd (cc e)
+
+-- and one that was an error, what it does then
+pub when_err : {A B P : Type 0} (r : Result A B) → is_err r ≡ true → OnErr r P → P
+when_err (Ok a) e p = absurd (cc e)
+when_err (Err b) e p = p
 
 -- what an agent's answer shows
 content_shown : (q : Question) (a : ℕ) (op : AgentOp) (g : Option Agent) → content_told (kind_told a op g) ≡ shown q (kind_told a op g) []
