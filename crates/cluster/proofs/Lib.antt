@@ -25,3 +25,5 @@ pub mod Taken
 pub mod Clocks
 pub mod Turns
 pub mod Notes
+pub mod AgentParts
+pub mod Syncs

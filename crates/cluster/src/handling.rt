@@ -141,9 +141,9 @@ fn with_question(
 }
 
 impl<K: Keeper + Drop> Cluster<K> {
-    // The server has applied an entry of its term.
+    /// The server has applied an entry of its term.
     #[tactic(auto, using(crate::proofs::Numbers::is_number))]
-    fn is_ready(&self, server: u32) -> bool
+    pub(crate) fn is_ready(&self, server: u32) -> bool
         requires { IsServerNumber self.now server }
         ensures { result ≡ is_ready self.now server }
     {

@@ -2,6 +2,7 @@
 #![tactic(auto)]
 
 mod acting;
+mod agent_parts;
 mod agents;
 mod asking;
 mod cluster;
@@ -23,9 +24,11 @@ mod probing;
 mod proposals;
 mod reading;
 mod refusing;
+mod remote_rows;
 mod renewing;
 mod starting;
 mod stepping;
+mod syncing;
 mod taking;
 mod ticking;
 mod travelling;
