@@ -3,6 +3,7 @@
 
 mod deciding;
 mod messages;
+mod remote;
 mod servers;
 mod starting;
 mod steps;
