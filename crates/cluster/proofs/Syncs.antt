@@ -97,18 +97,22 @@ module _ (i a n : ℕ) (commands : List Command) (whole : Bool) (c c₀ c₂ : C
 pub plans_whole : (i a n : ℕ) (p : SyncPlan) (whole : Bool) (c c₀ c₂ c₃ c₄ : Cluster) → whole ≡ true → c₀ ≡ synced a None c → Proposals i p.commands c₀ n c₂ whole → IsPlan i a c p
     → c₃ ≡ synced a (Some n) (record c₂ { fresh = c.fresh }) → c₄ ≡ with_agent a (record (agent_of c₃ a) { services = p.services }) c₃ → PlansWhole i a c c₄
 plans_whole i a n p whole c c₀ c₂ c₃ c₄ b told proposed is counts adopts =
-    let gs = others i a n p.commands whole c c₀ c₂ told proposed p.services is.services in
-    (n, beside gs c.fresh c₂,
-    subst (λ (commands : List Command). Proposals i commands (adopted a i c) n (beside gs c.fresh c₂) true) is.commands
-    (subst (λ (z : Bool). Proposals i p.commands (adopted a i c) n (beside gs c.fresh c₂) z) b (adopted_first i a n p.commands whole c c₀ c₂ told proposed p.services is.services)),
-    told_last i a n p.commands whole c c₀ c₂ told proposed p.services is.services c₃ c₄ (Some n) counts adopts)
+    let gs = others i a n p.commands whole c c₀ c₂ told proposed p.services is.services in (
+      n,
+      beside gs c.fresh c₂,
+      subst (λ (commands : List Command). Proposals i commands (adopted a i c) n (beside gs c.fresh c₂) true) is.commands
+          (subst (λ (z : Bool). Proposals i p.commands (adopted a i c) n (beside gs c.fresh c₂) z) b (adopted_first i a n p.commands whole c c₀ c₂ told proposed p.services is.services)),
+      told_last i a n p.commands whole c c₀ c₂ told proposed p.services is.services c₃ c₄ (Some n) counts adopts,
+    )
 
 pub plans_part : (i a n : ℕ) (p : SyncPlan) (whole : Bool) (c c₀ c₂ c₃ c₄ : Cluster) → whole ≡ false → 0 < n → c₀ ≡ synced a None c → Proposals i p.commands c₀ n c₂ whole → IsPlan i a c p
     → c₃ ≡ record c₂ { fresh = c.fresh } → c₄ ≡ with_agent a (record (agent_of c₃ a) { services = p.services }) c₃
     → (m : ℕ) × (0 < m) × Proposals i (plan (merged_at a i c) (remote_at a i c)) (adopted a i c) m c₄ false
 plans_part i a n p whole c c₀ c₂ c₃ c₄ b some told proposed is back adopts =
-    let gs = others i a n p.commands whole c c₀ c₂ told proposed p.services is.services in
-    (n, some,
-    subst (λ (d : Cluster). Proposals i (plan (merged_at a i c) (remote_at a i c)) (adopted a i c) n d false) (sym (told_not i a n p.commands whole c c₀ c₂ told proposed p.services is.services c₃ c₄ back adopts))
-    (subst (λ (commands : List Command). Proposals i commands (adopted a i c) n (beside gs c.fresh c₂) false) is.commands
-    (subst (λ (z : Bool). Proposals i p.commands (adopted a i c) n (beside gs c.fresh c₂) z) b (adopted_first i a n p.commands whole c c₀ c₂ told proposed p.services is.services))))
+    let gs = others i a n p.commands whole c c₀ c₂ told proposed p.services is.services in (
+      n,
+      some,
+      subst (λ (d : Cluster). Proposals i (plan (merged_at a i c) (remote_at a i c)) (adopted a i c) n d false) (sym (told_not i a n p.commands whole c c₀ c₂ told proposed p.services is.services c₃ c₄ back adopts))
+          (subst (λ (commands : List Command). Proposals i commands (adopted a i c) n (beside gs c.fresh c₂) false) is.commands
+          (subst (λ (z : Bool). Proposals i p.commands (adopted a i c) n (beside gs c.fresh c₂) z) b (adopted_first i a n p.commands whole c c₀ c₂ told proposed p.services is.services))),
+    )

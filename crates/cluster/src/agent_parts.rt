@@ -52,9 +52,7 @@ impl<K: Keeper> Cluster<K> {
         ensures { (draw : SpecDraw) → result ≡ sync_of self.now (event.Ask agent asked.now draw) }
     {
         match asked {
-            Asked::Good(Request::Agent(op))
-                if changes(op) && self.agents.can_change(agent, op) =>
-            {
+            Asked::Good(Request::Agent(op)) if changes(op) && self.agents.can_change(agent, op) => {
                 Some(agent)
             }
             _ => None,

@@ -107,12 +107,7 @@ impl Agents {
     }
 
     /// An agent does what it is asked. Where it can't, all stays as it is.
-    pub(crate) fn change(
-        &mut self,
-        alloc: Global,
-        number: u32,
-        op: &AgentOp,
-    ) -> Result<(), Memory>
+    pub(crate) fn change(&mut self, alloc: Global, number: u32, op: &AgentOp) -> Result<(), Memory>
         requires { IsThere self.old number }
         ensures ok { OnOk result (self.new ≡ agents_with number (change number op.now (agent_at self.old number)) self.old) }
         ensures err { OnErr result (self.new ≡ self.old) }

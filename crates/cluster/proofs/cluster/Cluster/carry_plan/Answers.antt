@@ -1,15 +1,16 @@
-use Rattle.std.proofs.Common.{◌≡◌, ◌<◌, List, None, Some, refl, subst, sym, ◌∙◌, rules, arith}
+use Rattle.std.proofs.Common.{◌≡◌, ◌<◌, List, Some, subst, sym, ◌∙◌, rules}
 use Rattle.cat_model.specs.declared.command.Command.{Command}
-use Rattle.cluster_rules.specs.Proposals.{Proposals, synced}
+use Rattle.cluster_rules.specs.Proposals.{Proposals}
 use Rattle.cluster.proofs.AgentParts.{when_ok}
 use Rattle.cluster.proofs.Syncs.{agent_back, agent_there, plans_part, plans_whole, still_told}
 use Rattle.cluster.proofs.cluster.Cluster.carry_plan.Goals as goal
 
 pub count_proposed-requires : goal.count_proposed-requires
-count_proposed-requires g c =
-    (record c.propose_all-proposed.new.self { fresh = c.args.self.now.fresh },
-    still_told c.args.server c.args.agent c.propose_all-proposed.result.entered _ c.propose_all-proposed.result.whole c.args.self.now c.tell_leaderless.new.self c.propose_all-proposed.new.self
-    (when_ok c.tell_leaderless.result (sym c.is_err.ensures.value ∙ c.if-is_err.false) c.tell_leaderless.ensures.ok) c.propose_all-proposed.ensures.proposals)
+count_proposed-requires g c = (
+  record c.propose_all-proposed.new.self { fresh = c.args.self.now.fresh },
+  still_told c.args.server c.args.agent c.propose_all-proposed.result.entered _ c.propose_all-proposed.result.whole c.args.self.now c.tell_leaderless.new.self c.propose_all-proposed.new.self
+      (when_ok c.tell_leaderless.result (sym c.is_err.ensures.value ∙ c.if-is_err.false) c.tell_leaderless.ensures.ok) c.propose_all-proposed.ensures.proposals,
+)
 
 pub adopt-requires : goal.adopt-requires
 adopt-requires g c =
@@ -32,10 +33,11 @@ returns-then-proposed-clause-whole g c =
     c.requires.plan (c.count_proposed.ensures (record c.propose_all-proposed.new.self { fresh = c.args.self.now.fresh }) still) c.adopt.ensures
 
 pub take_back-requires : goal.take_back-requires
-take_back-requires g c =
-    (record c.propose_all-proposed.new.self { fresh = c.args.self.now.fresh },
-    still_told c.args.server c.args.agent c.propose_all-proposed.result.entered _ c.propose_all-proposed.result.whole c.args.self.now c.tell_leaderless.new.self c.propose_all-proposed.new.self
-    (when_ok c.tell_leaderless.result (sym c.is_err.ensures.value ∙ c.if-is_err.false) c.tell_leaderless.ensures.ok) c.propose_all-proposed.ensures.proposals)
+take_back-requires g c = (
+  record c.propose_all-proposed.new.self { fresh = c.args.self.now.fresh },
+  still_told c.args.server c.args.agent c.propose_all-proposed.result.entered _ c.propose_all-proposed.result.whole c.args.self.now c.tell_leaderless.new.self c.propose_all-proposed.new.self
+      (when_ok c.tell_leaderless.result (sym c.is_err.ensures.value ∙ c.if-is_err.false) c.tell_leaderless.ensures.ok) c.propose_all-proposed.ensures.proposals,
+)
 
 pub adopt-requires-2 : goal.adopt-requires-2
 adopt-requires-2 g c =

@@ -5,9 +5,10 @@ use Rattle.cluster.proofs.Syncs.{counted, fresh_stands, told_there}
 use Rattle.cluster.proofs.cluster.Cluster.count_proposed.Goals as goal
 
 pub count_sync-requires : goal.count_sync-requires
-count_sync-requires g c =
-    (record c.self.inside.requests { fresh = c.requires.0.fresh },
-    told_there c.self.inside.agents c.self.inside.servers.world c.self.inside.servers.servers c.self.inside.requests c.args.agent c.requires.0 (c.self.view_is ∙ c.requires.1))
+count_sync-requires g c = (
+  record c.self.inside.requests { fresh = c.requires.0.fresh },
+  told_there c.self.inside.agents c.self.inside.servers.world c.self.inside.servers.servers c.self.inside.requests c.args.agent c.requires.0 (c.self.view_is ∙ c.requires.1),
+)
 
 pub invariant_of-self : goal.invariant_of-self
 invariant_of-self g c =
