@@ -10,10 +10,12 @@ mod finding;
 mod order;
 mod parts;
 mod same;
+mod syncing;
 mod tags;
 
 use cat_model::{Command, List, Local, Memory, Remote};
 use std::alloc::Global;
+pub use syncing::{SyncPlan, plan_sync};
 
 /// The commands by which an agent makes the catalog's rows of its node equal to its own, by IDs within each part. An
 /// agent without a node row plans nothing.

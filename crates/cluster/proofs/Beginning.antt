@@ -1,18 +1,16 @@
 -- A cluster that has just begun.
-use Rattle.std.proofs.Common.{◌≡◌, inl, inr, ℕ, zero, suc, ◌<◌, get_or, length, replicate, List, refl, sym, ap, ◌∙◌, subst, arith}
+use Rattle.std.proofs.Common.{◌≡◌, inl, inr, ℕ, zero, suc, ◌<◌, get_or, length, replicate, List, [], ◌∷◌, refl, sym, ap, ◌∙◌, subst, arith}
 use Rattle.std.specs.List.{AllByRecursion as Each}
+use Rattle.cat_outside.specs.declared.faults.KeepFail.TheVariants.{Memory}
 use Rattle.raft_model.specs.Node.{Store}
 use Rattle.raft_model.specs.World.{World, Begins, IsReached, empty, again}
+use Rattle.raft_world.specs.Starting.{AreGivenBack}
 use Rattle.cluster_rules.specs.Cluster.{Server, no_server, node_of, server_of}
 use Rattle.cluster_rules.specs.Sound.{ServerIsSound}
 use Rattle.open_requests.specs.Requests as own
 use Rattle.cluster_servers.proofs.Beginning.{as_many_start}
 use Rattle.cluster.specs.Beginning.{MayBegin}
-use Rattle.cluster.specs.Standing.{AppliesNoTtl, Stands}
-
-idle_no_ttl : (count : ℕ) → Each AppliesNoTtl (replicate count no_server)
-idle_no_ttl zero = tt
-idle_no_ttl (suc count) = (refl, idle_no_ttl count)
+use Rattle.cluster.specs.Standing.{Stands}
 
 replicated : {A : Type 0} (count : ℕ) (x : A) → length (replicate count x) ≡ count
 replicated zero x = refl
@@ -31,8 +29,8 @@ idle_server : (count i : ℕ) → server_of (replicate count no_server) i ≡ no
 idle_server count zero = refl
 idle_server count (suc at) = idle_item count at
 
-pub begun_stands : (stores : List Store) (agents count : ℕ) (w : World) (servers : List Server) → MayBegin stores → Begins stores w → 0 < count → length stores ≡ count → servers ≡ replicate count no_server → Stands w servers (own.empty agents)
-begun_stands stores agents count w servers may begins some size idle =
+pub begun_stands : (stores : List Store) (count : ℕ) (w : World) (servers : List Server) → MayBegin stores → Begins stores w → 0 < count → length stores ≡ count → servers ≡ replicate count no_server → Stands w servers own.empty
+begun_stands stores count w servers may begins some size idle =
     record {
       reached = reached stores w may begins;
       some = omega (arith, some, ap length idle, replicated count no_server);
@@ -42,5 +40,9 @@ begun_stands stores agents count w servers may begins some size idle =
       proposed = omega (arith, begins.greatest);
       ascends = tt;
       held = tt;
-      no_ttl = subst (λ (ss : List Server). Each AppliesNoTtl ss) (sym idle) (idle_no_ttl count);
     }
+
+-- where memory is short before any store is read, each is as it was
+pub none_read : (stores : List Store) → 0 < length stores → AreGivenBack Memory stores stores
+none_read [] some = absurd (omega (arith, some))
+none_read (s ∷ stores) some = inl (refl, refl)

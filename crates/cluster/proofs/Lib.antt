@@ -1,8 +1,10 @@
 pub mod Acts
+pub mod AgentPlaces
 pub mod Beginning
 pub mod Carried
 pub mod Dues
 pub mod Entered
+pub mod ProposedAll
 pub mod Finding
 pub mod Forgetting
 pub mod Going
@@ -13,7 +15,7 @@ pub mod Marking
 pub mod Numbers
 pub mod Outs
 pub mod Proposing
-pub mod Reaps
+pub mod Tending
 pub mod Refused
 pub mod Replying
 pub mod Rounds
@@ -23,4 +25,5 @@ pub mod Taken
 pub mod Clocks
 pub mod Turns
 pub mod Notes
-pub mod Ttls
+pub mod AgentParts
+pub mod Syncs

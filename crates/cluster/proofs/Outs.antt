@@ -8,69 +8,75 @@ use Rattle.raft_model.specs.Log.{Log}
 use Rattle.script_runs.specs.Plays.{taken}
 use Rattle.open_requests.specs.declared.note.Note.{Note}
 use Rattle.open_requests.specs.Notes.{joined_in, past_of, taken_note}
-use Rattle.open_requests.specs.Requests.{Requests, cluster_of}
+use Rattle.open_requests.specs.Requests.{Requests, cluster_of as whole_of}
 use Rattle.open_requests.specs.Taking as own
 use Rattle.open_requests.specs.declared.collected.Collected.{Collected}
 use Rattle.open_requests.specs.declared.collected.Collected.TheVariants as collected
 use Rattle.cluster.specs.Standing.{Stands}
 use Rattle.cluster_interface.specs.Interface.{TakesFirst}
 use Rattle.cluster_interface.specs.Taking.{Collects, Takes}
+use Rattle.agent_rules.specs.Agents.{Agent}
 
-noted_taken : (log : Log) (number : Option ℕ) (notes : List Note) → past_of log (taken_note number notes) ≡ taken number (past_of log notes)
-noted_taken log None notes = refl
-noted_taken log (Some number) notes = refl
+module _ (gs : List Agent) where
+  -- the cluster of these parts, with these agents
+  abbrev cluster_of : World → List Server → Requests → Cluster
+  cluster_of w servers r = whole_of w servers gs r
 
-taken_first : (w : World) (servers : List Server) (old new : Requests) (c : Cluster) (out : Out) → cluster_of w servers old ≡ c → own.TakesFirst out old new → TakesFirst c (cluster_of w servers new) (Some out)
-taken_first w servers old new c out view takes =
-    subst (λ (d : Cluster). TakesFirst d (cluster_of w servers new) (Some out)) view
-    (new.tray, takes.0, ap (λ (r : Requests). cluster_of w servers r) takes.1 ∙ ap (λ past. record (cluster_of w servers old) { tray = new.tray; past = past }) (noted_taken w.agreed (number_of out) old.notes))
+  noted_taken : (log : Log) (number : Option ℕ) (notes : List Note) → past_of log (taken_note number notes) ≡ taken number (past_of log notes)
+  noted_taken log None notes = refl
+  noted_taken log (Some number) notes = refl
 
-none_taken : (w : World) (servers : List Server) (old new : Requests) (c : Cluster) → cluster_of w servers old ≡ c → old.tray ≡ [] → new ≡ old → TakesFirst c (cluster_of w servers new) None
-none_taken w servers old new c view none same =
-    subst (λ (d : Cluster). TakesFirst d (cluster_of w servers new) None) view (none, ap (λ (r : Requests). cluster_of w servers r) same)
+  taken_first : (w : World) (servers : List Server) (old new : Requests) (c : Cluster) (out : Out) → cluster_of w servers old ≡ c → own.TakesFirst out old new → TakesFirst c (cluster_of w servers new) (Some out)
+  taken_first w servers old new c out view takes =
+      subst (λ (d : Cluster). TakesFirst d (cluster_of w servers new) (Some out)) view
+      (new.tray, takes.0, ap (λ (r : Requests). cluster_of w servers r) takes.1 ∙ ap (λ past. record (cluster_of w servers old) { tray = new.tray; past = past }) (noted_taken w.agreed (number_of out) old.notes))
 
-pub takes : (w : World) (servers : List Server) (old new : Requests) (c : Cluster) (taken : Option Out) → cluster_of w servers old ≡ c
-    → IfNone taken ((old.tray ≡ []) × (new ≡ old)) → IfSome taken (λ out. own.TakesFirst out old new) → TakesFirst c (cluster_of w servers new) taken
-takes w servers old new c None view none some = none_taken w servers old new c view none.0 none.1
-takes w servers old new c (Some out) view none some = taken_first w servers old new c out view some
+  none_taken : (w : World) (servers : List Server) (old new : Requests) (c : Cluster) → cluster_of w servers old ≡ c → old.tray ≡ [] → new ≡ old → TakesFirst c (cluster_of w servers new) None
+  none_taken w servers old new c view none same =
+      subst (λ (d : Cluster). TakesFirst d (cluster_of w servers new) None) view (none, ap (λ (r : Requests). cluster_of w servers r) same)
 
--- an out from anywhere in the tray
-taken_out : (w : World) (servers : List Server) (old new : Requests) (c : Cluster) (out : Out) → cluster_of w servers old ≡ c → own.Takes out old new → Takes out c (cluster_of w servers new)
-taken_out w servers old new c out view t =
-    subst (λ (d : Cluster). Takes out d (cluster_of w servers new)) view record {
-      before = t.before;
-      after = t.after;
-      there = t.there;
-      is = ap (λ (r : Requests). cluster_of w servers r) t.is ∙ ap (λ past. record (cluster_of w servers old) { tray = t.before ++ t.after; past = past }) (noted_taken w.agreed (number_of out) old.notes);
-    }
+  pub takes : (w : World) (servers : List Server) (old new : Requests) (c : Cluster) (taken : Option Out) → cluster_of w servers old ≡ c
+      → IfNone taken ((old.tray ≡ []) × (new ≡ old)) → IfSome taken (λ out. own.TakesFirst out old new) → TakesFirst c (cluster_of w servers new) taken
+  takes w servers old new c None view none some = none_taken w servers old new c view none.0 none.1
+  takes w servers old new c (Some out) view none some = taken_first w servers old new c out view some
 
--- nothing was taken
-same_cluster : (w : World) (servers : List Server) (old new : Requests) (c : Cluster) → cluster_of w servers old ≡ c → new ≡ old → cluster_of w servers new ≡ c
-same_cluster w servers old new c view same = ap (λ (r : Requests). cluster_of w servers r) same ∙ view
+  -- an out from anywhere in the tray
+  taken_out : (w : World) (servers : List Server) (old new : Requests) (c : Cluster) (out : Out) → cluster_of w servers old ≡ c → own.Takes out old new → Takes out c (cluster_of w servers new)
+  taken_out w servers old new c out view t =
+      subst (λ (d : Cluster). Takes out d (cluster_of w servers new)) view record {
+        before = t.before;
+        after = t.after;
+        there = t.there;
+        is = ap (λ (r : Requests). cluster_of w servers r) t.is ∙ ap (λ past. record (cluster_of w servers old) { tray = t.before ++ t.after; past = past }) (noted_taken w.agreed (number_of out) old.notes);
+      }
 
-pub collects : (w : World) (servers : List Server) (old new : Requests) (c : Cluster) (number : ℕ) (got : Collected) → cluster_of w servers old ≡ c → own.IsCollected number got old new → Collects number got c (cluster_of w servers new)
-collects w servers old new c number (collected.Ready reply) view is = (taken_out w servers old new c (Replied reply) view is.0, is.1)
-collects w servers old new c number (collected.Closed event) view is = taken_out w servers old new c (Closed number event) view is
-collects w servers old new c number (collected.NotYet wanted) view is =
-    (same_cluster w servers old new c view is.0, rw (ap (λ (d : Cluster). d.tray) view) at is.1, rw (ap (λ (d : Cluster). d.held) view) at is.2)
-collects w servers old new c number collected.Gone view is =
-    (same_cluster w servers old new c view is.0, rw (ap (λ (d : Cluster). d.tray) view) at is.1, rw (ap (λ (d : Cluster). d.held) view) at is.2)
+  -- nothing was taken
+  same_cluster : (w : World) (servers : List Server) (old new : Requests) (c : Cluster) → cluster_of w servers old ≡ c → new ≡ old → cluster_of w servers new ≡ c
+  same_cluster w servers old new c view same = ap (λ (r : Requests). cluster_of w servers r) same ∙ view
 
--- what stands of a cluster, stands once an out was taken
-joined_taken : (number : Option ℕ) (notes : List Note) → joined_in (taken_note number notes) ≡ joined_in notes
-joined_taken None notes = refl
-joined_taken (Some number) notes = refl
+  pub collects : (w : World) (servers : List Server) (old new : Requests) (c : Cluster) (number : ℕ) (got : Collected) → cluster_of w servers old ≡ c → own.IsCollected number got old new → Collects number got c (cluster_of w servers new)
+  collects w servers old new c number (collected.Ready reply) view is = (taken_out w servers old new c (Replied reply) view is.0, is.1)
+  collects w servers old new c number (collected.Closed event) view is = taken_out w servers old new c (Closed number event) view is
+  collects w servers old new c number (collected.NotYet wanted) view is =
+      (same_cluster w servers old new c view is.0, rw (ap (λ (d : Cluster). d.tray) view) at is.1, rw (ap (λ (d : Cluster). d.held) view) at is.2)
+  collects w servers old new c number collected.Gone view is =
+      (same_cluster w servers old new c view is.0, rw (ap (λ (d : Cluster). d.tray) view) at is.1, rw (ap (λ (d : Cluster). d.held) view) at is.2)
 
-taken_stands : (w : World) (servers : List Server) (old new : Requests) (out : Out) → own.Takes out old new → Stands w servers old → Stands w servers new
-taken_stands w servers old new out t s =
-    subst (λ (r : Requests). Stands w servers r) (sym t.is)
-    record { reached = s.reached; some = s.some; count = s.count; sound = s.sound; joined = joined_taken (number_of out) old.notes ∙ s.joined; proposed = s.proposed; ascends = s.ascends; held = s.held; no_ttl = s.no_ttl }
+  -- what stands of a cluster, stands once an out was taken
+  joined_taken : (number : Option ℕ) (notes : List Note) → joined_in (taken_note number notes) ≡ joined_in notes
+  joined_taken None notes = refl
+  joined_taken (Some number) notes = refl
 
-same_stands : (w : World) (servers : List Server) (old new : Requests) → new ≡ old → Stands w servers old → Stands w servers new
-same_stands w servers old new same s = subst (λ (r : Requests). Stands w servers r) (sym same) s
+  taken_stands : (w : World) (servers : List Server) (old new : Requests) (out : Out) → own.Takes out old new → Stands w servers old → Stands w servers new
+  taken_stands w servers old new out t s =
+      subst (λ (r : Requests). Stands w servers r) (sym t.is)
+      record { reached = s.reached; some = s.some; count = s.count; sound = s.sound; joined = joined_taken (number_of out) old.notes ∙ s.joined; proposed = s.proposed; ascends = s.ascends; held = s.held }
 
-pub collect_stands : (w : World) (servers : List Server) (old new : Requests) (number : ℕ) (got : Collected) → own.IsCollected number got old new → Stands w servers old → Stands w servers new
-collect_stands w servers old new number (collected.Ready reply) is s = taken_stands w servers old new (Replied reply) is.0 s
-collect_stands w servers old new number (collected.Closed event) is s = taken_stands w servers old new (Closed number event) is s
-collect_stands w servers old new number (collected.NotYet wanted) is s = same_stands w servers old new is.0 s
-collect_stands w servers old new number collected.Gone is s = same_stands w servers old new is.0 s
+  same_stands : (w : World) (servers : List Server) (old new : Requests) → new ≡ old → Stands w servers old → Stands w servers new
+  same_stands w servers old new same s = subst (λ (r : Requests). Stands w servers r) (sym same) s
+
+  pub collect_stands : (w : World) (servers : List Server) (old new : Requests) (number : ℕ) (got : Collected) → own.IsCollected number got old new → Stands w servers old → Stands w servers new
+  collect_stands w servers old new number (collected.Ready reply) is s = taken_stands w servers old new (Replied reply) is.0 s
+  collect_stands w servers old new number (collected.Closed event) is s = taken_stands w servers old new (Closed number event) is s
+  collect_stands w servers old new number (collected.NotYet wanted) is s = same_stands w servers old new is.0 s
+  collect_stands w servers old new number collected.Gone is s = same_stands w servers old new is.0 s

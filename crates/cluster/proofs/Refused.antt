@@ -14,45 +14,50 @@ use Rattle.cluster_rules.specs.Requests.{refused}
 use Rattle.cluster_rules.specs.Step.{marked}
 use Rattle.cluster_turns.specs.Turns.{newest}
 use Rattle.open_requests.specs.declared.note.Note.TheVariants.{Marked}
-use Rattle.open_requests.specs.Requests.{Requests, answered_with, came_with, cluster_of}
+use Rattle.open_requests.specs.Requests.{Requests, answered_with, came_with, cluster_of as whole_of}
 use Rattle.cluster.specs.Standing.{Stands}
 use Rattle.cluster.proofs.Carried.{all_more}
 use Rattle.cluster.proofs.Kept.{answer_stands, call_stands}
+use Rattle.agent_rules.specs.Agents.{Agent}
 
--- the requests with it
-abbrev pub with_refused : ℕ → Asked → Draw → Refusal → Requests → Requests
-with_refused agent asked draw why r = answered_with (r.asked + 1) (Refused why) false 0 (Says why) (came_with agent asked draw r)
+module _ (gs : List Agent) where
+  -- the cluster of these parts, with these agents
+  abbrev cluster_of : World → List Server → Requests → Cluster
+  cluster_of w servers r = whole_of w servers gs r
 
--- the cluster with it
-abbrev pub refused_new : ℕ → Asked → Draw → Refusal → Cluster → Cluster
-refused_new agent asked draw why c = let come = marked (event.Ask agent asked draw) c in refused (newest agent asked draw come) why come
+  -- the requests with it
+  abbrev pub with_refused : ℕ → Asked → Draw → Refusal → Requests → Requests
+  with_refused agent asked draw why r = answered_with (r.asked + 1) (Refused why) false 0 (Says why) (came_with agent asked draw r)
 
-refused_is : (w : World) (servers : List Server) (r : Requests) (agent : ℕ) (asked : Asked) (draw : Draw) (why : Refusal) → cluster_of w servers (with_refused agent asked draw why r) ≡ refused_new agent asked draw why (cluster_of w servers r)
-unfolding shown
-refused_is w servers r agent asked draw why =
-    let next : r.asked + 1 ≡ suc r.asked = omega arith in
-    ap (λ k. cluster_of w servers (answered_with k (Refused why) false 0 (Says why) (record r { asked = k; notes = Marked (mark.Asked k agent asked draw) ∷ r.notes }))) next
+  -- the cluster with it
+  abbrev pub refused_new : ℕ → Asked → Draw → Refusal → Cluster → Cluster
+  refused_new agent asked draw why c = let come = marked (event.Ask agent asked draw) c in refused (newest agent asked draw come) why come
 
-came_stands : (w : World) (servers : List Server) (r : Requests) (agent : ℕ) (asked : Asked) (draw : Draw) → Stands w servers r → Stands w servers (came_with agent asked draw r)
-came_stands w servers r agent asked draw s = record {
-  reached = s.reached;
-  some = s.some;
-  count = s.count;
-  sound = s.sound;
-  joined = s.joined;
-  proposed = omega (arith, s.proposed);
-  ascends = s.ascends;
-  held = all_more w servers r.asked (r.asked + 1) r.held (omega arith) s.held;
-  no_ttl = s.no_ttl;
-}
+  refused_is : (w : World) (servers : List Server) (r : Requests) (agent : ℕ) (asked : Asked) (draw : Draw) (why : Refusal) → cluster_of w servers (with_refused agent asked draw why r) ≡ refused_new agent asked draw why (cluster_of w servers r)
+  unfolding shown
+  refused_is w servers r agent asked draw why =
+      let next : r.asked + 1 ≡ suc r.asked = omega arith in
+      ap (λ k. cluster_of w servers (answered_with k (Refused why) false 0 (Says why) (record r { asked = k; notes = Marked (mark.Asked k agent asked draw) ∷ r.notes }))) next
 
-pub refused_stands : {A B : Type 0} (w : World) (servers : List Server) (r new : Requests) (agent : ℕ) (asked : Asked) (draw : Draw) (why : Refusal) (result : Result A B) → Stands w servers r
-    → OnOk result (new ≡ with_refused agent asked draw why r) → OnErr result (new ≡ r) → Stands w servers new
-refused_stands w servers r new agent asked draw why result s ok err =
-    call_stands w servers r (with_refused agent asked draw why r) new result s
-    (answer_stands w servers (came_with agent asked draw r) (r.asked + 1) (Refused why) false 0 (Says why) (came_stands w servers r agent asked draw s)) ok err
+  came_stands : (w : World) (servers : List Server) (r : Requests) (agent : ℕ) (asked : Asked) (draw : Draw) → Stands w servers r → Stands w servers (came_with agent asked draw r)
+  came_stands w servers r agent asked draw s = record {
+    reached = s.reached;
+    some = s.some;
+    count = s.count;
+    sound = s.sound;
+    joined = s.joined;
+    proposed = omega (arith, s.proposed);
+    ascends = s.ascends;
+    held = all_more w servers r.asked (r.asked + 1) r.held (omega arith) s.held;
+  }
 
-pub refused_done : {A B : Type 0} (w : World) (servers : List Server) (r new : Requests) (c : Cluster) (agent : ℕ) (asked : Asked) (draw : Draw) (why : Refusal) (result : Result A B) → cluster_of w servers r ≡ c
-    → OnOk result (new ≡ with_refused agent asked draw why r) → OnOk result (cluster_of w servers new ≡ refused_new agent asked draw why c)
-refused_done w servers r new c agent asked draw why (Err b) view ok = tt
-refused_done w servers r new c agent asked draw why (Ok a) view ok = ap (cluster_of w servers) ok ∙ refused_is w servers r agent asked draw why ∙ ap (refused_new agent asked draw why) view
+  pub refused_stands : {A B : Type 0} (w : World) (servers : List Server) (r new : Requests) (agent : ℕ) (asked : Asked) (draw : Draw) (why : Refusal) (result : Result A B) → Stands w servers r
+      → OnOk result (new ≡ with_refused agent asked draw why r) → OnErr result (new ≡ r) → Stands w servers new
+  refused_stands w servers r new agent asked draw why result s ok err =
+      call_stands gs w servers r (with_refused agent asked draw why r) new result s
+      (answer_stands gs w servers (came_with agent asked draw r) (r.asked + 1) (Refused why) false 0 (Says why) (came_stands w servers r agent asked draw s)) ok err
+
+  pub refused_done : {A B : Type 0} (w : World) (servers : List Server) (r new : Requests) (c : Cluster) (agent : ℕ) (asked : Asked) (draw : Draw) (why : Refusal) (result : Result A B) → cluster_of w servers r ≡ c
+      → OnOk result (new ≡ with_refused agent asked draw why r) → OnOk result (cluster_of w servers new ≡ refused_new agent asked draw why c)
+  refused_done w servers r new c agent asked draw why (Err b) view ok = tt
+  refused_done w servers r new c agent asked draw why (Ok a) view ok = ap (cluster_of w servers) ok ∙ refused_is w servers r agent asked draw why ∙ ap (refused_new agent asked draw why) view

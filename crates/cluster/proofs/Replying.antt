@@ -23,74 +23,80 @@ use Rattle.cluster_rules.proofs.Entries.{agree_entry, take_next}
 use Rattle.cluster_rules.proofs.Grows.{write_map}
 use Rattle.open_requests.specs.Contents.{write_content}
 use Rattle.cluster.specs.Looking.{IsAppliedLast, RepliesLast}
-use Rattle.open_requests.specs.Requests.{Requests, cluster_of}
+use Rattle.open_requests.specs.Requests.{Requests, cluster_of as whole_of}
 use Rattle.cluster.specs.Standing.{HasPlace, IsAwaited, Stands}
+use Rattle.agent_rules.specs.Agents.{Agent}
 
-reply_last : (log : Log) (k : ℕ) (e : Entry) → length log ≡ suc k → entry_at (suc k) log ≡ Some e → last_reply (commands_of log) ≡ Some (reply_to (commands_of (take k log)) e.command)
-reply_last log k e size there =
-    let whole : log ≡ take k log ++ e ∷ [] = sym (take_all (suc k) log (omega (arith, size))) ∙ take_next k log e there in
-    ap (λ (l : Log). last_reply (commands_of l)) whole
-    ∙ ap last_reply (map-append (λ (x : Entry). x.command) (take k log) (e ∷ []))
-    ∙ last_is (commands_of (take k log)) e.command
+module _ (gs : List Agent) where
+  -- the cluster of these parts, with these agents
+  abbrev cluster_of : World → List Server → Requests → Cluster
+  cluster_of w servers r = whole_of w servers gs r
 
-reply_at : (log : Log) (index : ℕ) (e : Entry) → 0 < index → length log ≡ index → entry_at index log ≡ Some e → last_reply (commands_of log) ≡ Some (reply_to (commands_of (take (index - 1) log)) e.command)
-reply_at log zero e some size there = absurd (omega (arith, some))
-reply_at log (suc k) e some size there =
-    let one : suc k - 1 ≡ k = omega arith in
-    reply_last log k e size there ∙ ap (λ n. Some (reply_to (commands_of (take n log)) e.command)) (sym one)
+  reply_last : (log : Log) (k : ℕ) (e : Entry) → length log ≡ suc k → entry_at (suc k) log ≡ Some e → last_reply (commands_of log) ≡ Some (reply_to (commands_of (take k log)) e.command)
+  reply_last log k e size there =
+      let whole : log ≡ take k log ++ e ∷ [] = sym (take_all (suc k) log (omega (arith, size))) ∙ take_next k log e there in
+      ap (λ (l : Log). last_reply (commands_of l)) whole
+      ∙ ap last_reply (map-append (λ (x : Entry). x.command) (take k log) (e ∷ []))
+      ∙ last_is (commands_of (take k log)) e.command
 
--- an entry that keeps its place is the one that was applied there, if its term is found there
-module _ (w : World) (s : Server) (commit : ℕ) (q : Question) (index term : ℕ) (sound : ServerIsSound w.agreed commit s) (awaited : IsAwaited w (length s.applied) q (AtPlace index term)) (reached : index ≤ length s.applied) (same : term_at index s.applied ≡ term) where
-  size : length s.applied ≡ index
-  size = let k = awaited.1 in omega (arith, reached)
+  reply_at : (log : Log) (index : ℕ) (e : Entry) → 0 < index → length log ≡ index → entry_at index log ≡ Some e → last_reply (commands_of log) ≡ Some (reply_to (commands_of (take (index - 1) log)) e.command)
+  reply_at log zero e some size there = absurd (omega (arith, some))
+  reply_at log (suc k) e some size there =
+      let one : suc k - 1 ≡ k = omega arith in
+      reply_last log k e size there ∙ ap (λ n. Some (reply_to (commands_of (take n log)) e.command)) (sym one)
 
-  within : index ≤ length w.agreed
-  within = let k = ap length sound.front in omega (arith, k, size, length-take (length s.applied) w.agreed)
+  -- an entry that keeps its place is the one that was applied there, if its term is found there
+  module _ (w : World) (s : Server) (commit : ℕ) (q : Question) (index term : ℕ) (sound : ServerIsSound w.agreed commit s) (awaited : IsAwaited w (length s.applied) q (AtPlace index term)) (reached : index ≤ length s.applied) (same : term_at index s.applied ≡ term) where
+    size : length s.applied ≡ index
+    size = let k = awaited.1 in omega (arith, reached)
 
-  agree : take (length s.applied) s.applied ≡ take (length s.applied) w.agreed
-  agree = take_all (length s.applied) s.applied (omega arith) ∙ sound.front
+    within : index ≤ length w.agreed
+    within = let k = ap length sound.front in omega (arith, k, size, length-take (length s.applied) w.agreed)
 
-  agreed_term : term_at index w.agreed ≡ term
-  agreed_term = sym (agree_term index (length s.applied) s.applied w.agreed reached agree) ∙ same
+    agree : take (length s.applied) s.applied ≡ take (length s.applied) w.agreed
+    agree = take_all (length s.applied) s.applied (omega arith) ∙ sound.front
 
-  own_reply : (command : Command) → HasPlace w index term q command → RepliesLast q index s.applied command
-  own_reply command placed =
-      let e : Entry = record { term = term; number = q.number; command = entered q command } in
-      let there : entry_at index s.applied ≡ Some e = agree_entry index (length s.applied) s.applied w.agreed reached agree ∙ (placed w here).0 within agreed_term in
-      reply_at s.applied index e awaited.0 size there
+    agreed_term : term_at index w.agreed ≡ term
+    agreed_term = sym (agree_term index (length s.applied) s.applied w.agreed reached agree) ∙ same
 
-  pub applied_last : IsAppliedLast q index s.applied
-  applied_last = write_map q.asked (HasPlace w index term q) (RepliesLast q index s.applied) own_reply awaited.2
+    own_reply : (command : Command) → HasPlace w index term q command → RepliesLast q index s.applied command
+    own_reply command placed =
+        let e : Entry = record { term = term; number = q.number; command = entered q command } in
+        let there : entry_at index s.applied ≡ Some e = agree_entry index (length s.applied) s.applied w.agreed reached agree ∙ (placed w here).0 within agreed_term in
+        reply_at s.applied index e awaited.0 size there
 
--- What a write shows then.
-some_is : {A : Type 0} (x y : A) → Some x ≡ Some y → x ≡ y
-some_is x y e = cc e
+    pub applied_last : IsAppliedLast q index s.applied
+    applied_last = write_map q.asked (HasPlace w index term q) (RepliesLast q index s.applied) own_reply awaited.2
 
-write_shown : (q : Question) (asked : Asked) (position : ℕ) (log : Log) (applied : Applied) → IsWrite asked (RepliesLast q position log) → Some applied ≡ last_reply (commands_of log) → write_content q asked applied ≡ shown_write q asked position log
-write_shown q (Good (Write command)) position log applied last e = ap (Tells (entered q command)) (some_is applied (reply_to (commands_of (take (position - 1) log)) (entered q command)) (e ∙ last))
-write_shown q (Good (Read query mode least wait raw)) position log applied last e = absurd last
-write_shown q (Good (Execute name limit mode)) position log applied last e = absurd last
-write_shown q (Good (Renew id)) position log applied last e = absurd last
-write_shown q (Good (Agent op)) position log applied last e = absurd last
-write_shown q (Bad why) position log applied last e = absurd last
+  -- What a write shows then.
+  some_is : {A : Type 0} (x y : A) → Some x ≡ Some y → x ≡ y
+  some_is x y e = cc e
 
--- what a write shows that stands where it was proposed, and was applied last
-pub written_shown : (q : Question) (position : ℕ) (log : Log) (applied : Applied) → IsAppliedLast q position log → Some applied ≡ last_reply (commands_of log) → write_content q q.asked applied ≡ shown q (Acked position) log
-unfolding shown
-written_shown q position log applied last e = write_shown q q.asked position log applied last e
+  write_shown : (q : Question) (asked : Asked) (position : ℕ) (log : Log) (applied : Applied) → IsWrite asked (RepliesLast q position log) → Some applied ≡ last_reply (commands_of log) → write_content q asked applied ≡ shown_write q asked position log
+  write_shown q (Good (Write command)) position log applied last e = ap (Tells (entered q command)) (some_is applied (reply_to (commands_of (take (position - 1) log)) (entered q command)) (e ∙ last))
+  write_shown q (Good (Read query mode least wait raw)) position log applied last e = absurd last
+  write_shown q (Good (Execute name limit mode)) position log applied last e = absurd last
+  write_shown q (Good (Renew id)) position log applied last e = absurd last
+  write_shown q (Good (Agent op)) position log applied last e = absurd last
+  write_shown q (Bad why) position log applied last e = absurd last
 
-no_reply : (asked : Asked) (q : Question) (position : ℕ) (log : Log) → IsWrite asked (RepliesLast q position log) → None ≡ last_reply (commands_of log) → ⊥
-no_reply (Good (Write command)) q position log last e = cc (e, last)
-no_reply (Good (Read query mode least wait raw)) q position log last e = absurd last
-no_reply (Good (Execute name limit mode)) q position log last e = absurd last
-no_reply (Good (Renew id)) q position log last e = absurd last
-no_reply (Good (Agent op)) q position log last e = absurd last
-no_reply (Bad why) q position log last e = absurd last
+  -- what a write shows that stands where it was proposed, and was applied last
+  pub written_shown : (q : Question) (position : ℕ) (log : Log) (applied : Applied) → IsAppliedLast q position log → Some applied ≡ last_reply (commands_of log) → write_content q q.asked applied ≡ shown q (Acked position) log
+  unfolding shown
+  written_shown q position log applied last e = write_shown q q.asked position log applied last e
 
--- there is a last reply
-pub some_reply : (q : Question) (position : ℕ) (log : Log) → IsAppliedLast q position log → None ≡ last_reply (commands_of log) → ⊥
-some_reply q position log last e = no_reply q.asked q position log last e
+  no_reply : (asked : Asked) (q : Question) (position : ℕ) (log : Log) → IsWrite asked (RepliesLast q position log) → None ≡ last_reply (commands_of log) → ⊥
+  no_reply (Good (Write command)) q position log last e = cc (e, last)
+  no_reply (Good (Read query mode least wait raw)) q position log last e = absurd last
+  no_reply (Good (Execute name limit mode)) q position log last e = absurd last
+  no_reply (Good (Renew id)) q position log last e = absurd last
+  no_reply (Good (Agent op)) q position log last e = absurd last
+  no_reply (Bad why) q position log last e = absurd last
 
--- what a server has applied is a front of the agreed log
-pub sound_in : (w : World) (servers : List Server) (r : Requests) (c : Cluster) (i : ℕ) → Stands w servers r → cluster_of w servers r ≡ c → ServerIsSound c.world.agreed (node_of c.world i).commit (server_of c.servers i)
-sound_in w servers r c i stands view = subst (λ (d : Cluster). ServerIsSound d.world.agreed (node_of d.world i).commit (server_of d.servers i)) view (stands.sound i)
+  -- there is a last reply
+  pub some_reply : (q : Question) (position : ℕ) (log : Log) → IsAppliedLast q position log → None ≡ last_reply (commands_of log) → ⊥
+  some_reply q position log last e = no_reply q.asked q position log last e
+
+  -- what a server has applied is a front of the agreed log
+  pub sound_in : (w : World) (servers : List Server) (r : Requests) (c : Cluster) (i : ℕ) → Stands w servers r → cluster_of w servers r ≡ c → ServerIsSound c.world.agreed (node_of c.world i).commit (server_of c.servers i)
+  sound_in w servers r c i stands view = subst (λ (d : Cluster). ServerIsSound d.world.agreed (node_of d.world i).commit (server_of d.servers i)) view (stands.sound i)

@@ -18,7 +18,7 @@ use Rattle.cluster_rules.proofs.Boundary.{acts_greatest}
 use Rattle.cluster_rules.proofs.Tools.{is_node, one_of}
 use Rattle.cluster_turns.specs.Turns.{HandlesNewest, IsCome, newest, numbered}
 use Rattle.cluster_servers.specs.Servers.{Servers}
-use Rattle.open_requests.specs.Requests.{Requests, cluster_of, holding_with, numbered_with, used}
+use Rattle.open_requests.specs.Requests.{Requests, cluster_of as whole_of, holding_with, numbered_with, used}
 use Rattle.cluster.specs.declared.moving.Seen.{Seen}
 use Rattle.cluster.specs.declared.probing.NewRead.{NewRead}
 use Rattle.cluster.specs.Asking.{EndsProbe, IsNewRead}
@@ -28,122 +28,128 @@ use Rattle.cluster.proofs.Carried.{carries, probing_goes}
 use Rattle.cluster.proofs.Handled.{Comes, below_next, hold_stands, holds_as, numbered_cluster, numbered_stands}
 use Rattle.cluster.proofs.Marking.{cluster_marked, stands_proposed, with_room}
 use Rattle.cluster.proofs.Proposing.{marked_asked, marked_held}
+use Rattle.agent_rules.specs.Agents.{Agent}
 
--- the next round fits
-pub rounds_fit : (w : World) (i : ℕ) → (node_of w i).round < 2 ^ 64 - 1 → (n : Node) → IsServer w i n → n.round < 2 ^ 64 - 1
-rounds_fit w i l n at = subst (λ (m : Node). m.round < 2 ^ 64 - 1) (is_node w i n at) l
+module _ (gs : List Agent) where
+  -- the cluster of these parts, with these agents
+  abbrev cluster_of : World → List Server → Requests → Cluster
+  cluster_of w servers r = whole_of w servers gs r
 
--- what is known of a read for which a round is begun
-pub record IsProbing (w : World) (servers : List Server) (r : Requests) (i : ℕ) (read : NewRead) (deadline : ℕ) : Type 0 where
-  pub at : Comes w servers r (cluster_of w servers r) read.question.agent read.asked read.question.draw
-  pub new : IsNewRead (cluster_of w servers r) i read deadline
-  pub taken : IsTakenAsked read.asked
-  pub go : (is_stale_read read.asked || is_ready (cluster_of w servers r) i) ≡ true
+  -- the next round fits
+  pub rounds_fit : (w : World) (i : ℕ) → (node_of w i).round < 2 ^ 64 - 1 → (n : Node) → IsServer w i n → n.round < 2 ^ 64 - 1
+  rounds_fit w i l n at = subst (λ (m : Node). m.round < 2 ^ 64 - 1) (is_node w i n at) l
 
-module _ (w w' : World) (servers : List Server) (r r' : Requests) (i : ℕ) (read : NewRead) (deadline : ℕ) (is : IsProbing w servers r i read deadline) (keeps : KeepsAgreement w w') where
-  abbrev r₁ : Requests
-  r₁ = used (numbered_with read.question.agent read.asked read.question.draw (record r { room = 4 }))
+  -- what is known of a read for which a round is begun
+  pub record IsProbing (w : World) (servers : List Server) (r : Requests) (i : ℕ) (read : NewRead) (deadline : ℕ) : Type 0 where
+    pub at : Comes gs w servers r (cluster_of w servers r) read.question.agent read.asked read.question.draw
+    pub new : IsNewRead (cluster_of w servers r) i read deadline
+    pub taken : IsTakenAsked read.asked
+    pub go : (is_stale_read read.asked || is_ready (cluster_of w servers r) i) ≡ true
 
-  abbrev c₁ : Cluster
-  c₁ = numbered read.question.agent read.asked read.question.draw (cluster_of w servers r)
+  module _ (w w' : World) (servers : List Server) (r r' : Requests) (i : ℕ) (read : NewRead) (deadline : ℕ) (is : IsProbing w servers r i read deadline) (keeps : KeepsAgreement w w') where
+    abbrev r₁ : Requests
+    r₁ = used (numbered_with read.question.agent read.asked read.question.draw (record r { room = 4 }))
 
-  abbrev q : Question
-  q = newest read.question.agent read.asked read.question.draw c₁
+    abbrev c₁ : Cluster
+    c₁ = numbered read.question.agent read.asked read.question.draw (cluster_of w servers r)
 
-  next : r.asked + 1 ≡ suc r.asked
-  next = omega arith
+    abbrev q : Question
+    q = newest read.question.agent read.asked read.question.draw c₁
 
-  question_is : read.question ≡ q
-  question_is = is.new.question ∙ ap (λ k. record { number = k; agent = read.question.agent; asked = read.asked; draw = read.question.draw }) next
+    next : r.asked + 1 ≡ suc r.asked
+    next = omega arith
 
-  -- the step is marked
-  module _ (a : NodeActs w i Probe w') (before now : Seen) (mid : Requests) (was : before ≡ seen_of w i) (seen : now ≡ seen_of w' i) (marked : MarksStep before now i r₁ mid) where
-    marks : MarksStep (seen_of w i) (seen_of w' i) i r₁ mid
-    marks = subst (λ (s : Seen). MarksStep s (seen_of w' i) i r₁ mid) was (subst (λ (s : Seen). MarksStep before s i r₁ mid) seen marked)
+    question_is : read.question ≡ q
+    question_is = is.new.question ∙ ap (λ k. record { number = k; agent = read.question.agent; asked = read.asked; draw = read.question.draw }) next
 
-    stands₁ : Stands w servers r₁
-    stands₁ = numbered_stands w servers r (cluster_of w servers r) read.question.agent read.asked read.question.draw is.at
+    -- the step is marked
+    module _ (a : NodeActs w i Probe w') (before now : Seen) (mid : Requests) (was : before ≡ seen_of w i) (seen : now ≡ seen_of w' i) (marked : MarksStep before now i r₁ mid) where
+      marks : MarksStep (seen_of w i) (seen_of w' i) i r₁ mid
+      marks = subst (λ (s : Seen). MarksStep s (seen_of w' i) i r₁ mid) was (subst (λ (s : Seen). MarksStep before s i r₁ mid) seen marked)
 
-    moved_cluster : cluster_of w' servers mid ≡ moved i w' c₁
-    moved_cluster =
-        cluster_marked (not (node_of w i).halted && (node_of w' i).halted) i w w' servers r₁ mid stands₁ keeps marks
-        ∙ ap (moved i w') (numbered_cluster w servers r (cluster_of w servers r) read.question.agent read.asked read.question.draw is.at)
+      stands₁ : Stands w servers r₁
+      stands₁ = numbered_stands gs w servers r (cluster_of w servers r) read.question.agent read.asked read.question.draw is.at
 
-    low : w'.greatest ≤ r₁.asked
-    low = omega (arith, acts_greatest w i Probe w' a, is.at.stands.proposed)
+      moved_cluster : cluster_of w' servers mid ≡ moved i w' c₁
+      moved_cluster =
+          cluster_marked gs (not (node_of w i).halted && (node_of w' i).halted) i w w' servers r₁ mid stands₁ keeps marks
+          ∙ ap (moved i w') (numbered_cluster gs w servers r (cluster_of w servers r) read.question.agent read.asked read.question.draw is.at)
 
-    moved_stands : Stands w' servers mid
-    moved_stands = stands_proposed (not (node_of w i).halted && (node_of w' i).halted) i w w' servers r₁ mid stands₁ keeps (carries w w' servers (probing_goes w i w' is.at.stands.reached a) is.at.stands.sound) low marks
+      low : w'.greatest ≤ r₁.asked
+      low = omega (arith, acts_greatest w i Probe w' a, is.at.stands.proposed)
 
-    held_so : (round : Round) → round ≡ next_round a.old → r' ≡ used (holding_with read.question i (InRound round deadline) (Probed read.question.number i round) mid)
-        → HandlesNewest i read.question.agent read.asked read.question.draw (cluster_of w servers r) (cluster_of w' servers r') × Stands w' servers r'
-    held_so round begun e =
-        let same : round ≡ next_round (node_of w i) = begun ∙ ap next_round (sym (is_node w i a.old a.server)) in
-        let done = holds_as w' servers mid r' read.question i (InRound round deadline) (Probed read.question.number i round) (moved i w' c₁) moved_cluster e in (
-          probes is.new.wait w' is.new.look (one_of (is_stale_read read.asked) (is_ready (cluster_of w servers r) i) is.go) a
-              (done ∙ ap (λ (x : Question). holding x i (InRound round deadline) (Probed x.number i round) (moved i w' c₁)) question_is
-              ∙ ap (λ (x : Round). holding q i (InRound x deadline) (Probed q.number i x) (moved i w' c₁)) same
-              ∙ ap (λ d. holding q i (InRound (next_round (node_of w i)) d) (Probed q.number i (next_round (node_of w i))) (moved i w' c₁)) is.new.deadline_is),
-          hold_stands w' servers mid r' read.question i (InRound round deadline) (Probed read.question.number i round) moved_stands below given asked_taken tt tt e,
+      moved_stands : Stands w' servers mid
+      moved_stands = stands_proposed gs (not (node_of w i).halted && (node_of w' i).halted) i w w' servers r₁ mid stands₁ keeps (carries w w' servers (probing_goes w i w' is.at.stands.reached a) is.at.stands.sound) low marks
+
+      held_so : (round : Round) → round ≡ next_round a.old → r' ≡ used (holding_with read.question i (InRound round deadline) (Probed read.question.number i round) mid)
+          → HandlesNewest i read.question.agent read.asked read.question.draw (cluster_of w servers r) (cluster_of w' servers r') × Stands w' servers r'
+      held_so round begun e =
+          let same : round ≡ next_round (node_of w i) = begun ∙ ap next_round (sym (is_node w i a.old a.server)) in
+          let done = holds_as gs w' servers mid r' read.question i (InRound round deadline) (Probed read.question.number i round) (moved i w' c₁) moved_cluster e in (
+            probes is.new.wait w' is.new.look (one_of (is_stale_read read.asked) (is_ready (cluster_of w servers r) i) is.go) a
+                (done ∙ ap (λ (x : Question). holding x i (InRound round deadline) (Probed x.number i round) (moved i w' c₁)) question_is
+                ∙ ap (λ (x : Round). holding q i (InRound x deadline) (Probed q.number i x) (moved i w' c₁)) same
+                ∙ ap (λ d. holding q i (InRound (next_round (node_of w i)) d) (Probed q.number i (next_round (node_of w i))) (moved i w' c₁)) is.new.deadline_is),
+            hold_stands gs w' servers mid r' read.question i (InRound round deadline) (Probed read.question.number i round) moved_stands below given asked_taken tt tt e,
+          )
+        where
+          held_same : mid.held ≡ r.held
+          held_same = marked_held gs (not (node_of w i).halted && (node_of w' i).halted) i (length w'.agreed - length w.agreed) r₁ mid marks
+
+          below : Each (λ (h : Pending). h.question.number < read.question.number) mid.held
+          below = subst (Each (λ (h : Pending). h.question.number < read.question.number)) (sym held_same) (below_next gs w servers r read.question.number is.at.stands (ap (λ (x : Question). x.number) is.new.question))
+
+          given : read.question.number ≤ mid.asked
+          given = omega (arith, ap (λ (x : Question). x.number) is.new.question, marked_asked gs (not (node_of w i).halted && (node_of w' i).halted) i (length w'.agreed - length w.agreed) r₁ mid marks)
+
+          asked_taken : IsTakenAsked read.question.asked
+          asked_taken = subst IsTakenAsked (sym (ap (λ (x : Question). x.asked) is.new.question)) is.taken
+
+    -- what comes of it
+    abbrev Ended : Result Unit memory.Memory → Type 0
+    Ended result =
+        OnOk result (HandlesNewest i read.question.agent read.asked read.question.draw (cluster_of w servers r) (cluster_of w' servers r'))
+        × OnErr result (cluster_of w' servers r' ≡ cluster_of w servers r) × Stands w' servers r'
+
+    ended : (before now : Seen) (probed : Result Round ProbeFault) (result : Result Unit memory.Memory) → before ≡ seen_of w i → now ≡ seen_of w' i
+        → IfOk probed (Begun w i w') → OnErr probed (w' ≡ w) → EndsProbe read before now i deadline probed result (record r { room = 4 }) r' → Ended result
+    ended before now (Ok round) (Ok u) was seen begun same ends =
+        let done = held_so begun.0 before now ends.0 was seen ends.1 round begun.3 ends.2 in (done.0, tt, done.1)
+    ended before now (Ok round) (Err u) was seen begun same ends = absurd ends
+    ended before now (Err why) (Ok u) was seen begun same ends = absurd ends
+    ended before now (Err why) (Err u) was seen begun same ends =
+        let here = with_room gs w servers r (record r { room = 4 }) 4 is.at.stands refl in (
+          tt,
+          subst (λ (v : World). cluster_of v servers r' ≡ cluster_of w servers r) (sym same) (ap (cluster_of w servers) ends ∙ here.1),
+          subst (λ (v : World). Stands v servers r') (sym same) (subst (Stands w servers) (sym ends) here.0),
         )
-      where
-        held_same : mid.held ≡ r.held
-        held_same = marked_held (not (node_of w i).halted && (node_of w' i).halted) i (length w'.agreed - length w.agreed) r₁ mid marks
 
-        below : Each (λ (h : Pending). h.question.number < read.question.number) mid.held
-        below = subst (Each (λ (h : Pending). h.question.number < read.question.number)) (sym held_same) (below_next w servers r read.question.number is.at.stands (ap (λ (x : Question). x.number) is.new.question))
+  -- the same for a cluster that is seen so
+  pub done_probe : (s s' : Servers) (r p r' : Requests) (i : ℕ) (read : NewRead) (deadline : ℕ) (c : Cluster) (before now : Seen) (probed : Result Round ProbeFault) (result : Result Unit memory.Memory) →
+      Stands s.world s.servers r → cluster_of s.world s.servers r ≡ c → IsCome read.question.agent read.asked read.question.draw c.past → IsNewRead c i read deadline → IsTakenAsked read.asked
+      → (is_stale_read read.asked || is_ready c i) ≡ true → p ≡ record r { room = 4 } → before ≡ seen_of s.world i → now ≡ seen_of s'.world i
+      → IfOk probed (Begun s.world i s'.world) → OnErr probed (s'.world ≡ s.world) → KeepsAgreement s.world s'.world → s'.servers ≡ s.servers → EndsProbe read before now i deadline probed result p r'
+      → OnOk result (HandlesNewest i read.question.agent read.asked read.question.draw c (cluster_of s'.world s'.servers r'))
+      × OnErr result (cluster_of s'.world s'.servers r' ≡ c) × Stands s'.world s'.servers r'
+  done_probe s s' r p r' i read deadline c before now probed result stands view come new taken go prepared was seen begun same keeps kept ends =
+      let Goal : Cluster → List Server → Type 0 = λ d ss.
+      OnOk result (HandlesNewest i read.question.agent read.asked read.question.draw d (cluster_of s'.world ss r')) × OnErr result (cluster_of s'.world ss r' ≡ d) × Stands s'.world ss r' in
+      let is : IsProbing s.world s.servers r i read deadline = record {
+        at = record { stands = stands; view = refl; come = subst (λ (d : Cluster). IsCome read.question.agent read.asked read.question.draw d.past) (sym view) come };
+        new = subst (λ (d : Cluster). IsNewRead d i read deadline) (sym view) new;
+        taken = taken;
+        go = subst (λ (d : Cluster). (is_stale_read read.asked || is_ready d i) ≡ true) (sym view) go;
+      } in
+      subst (λ (ss : List Server). Goal c ss) (sym kept) (subst (λ (d : Cluster). Goal d s.servers) view
+      (ended s.world s'.world s.servers r r' i read deadline is keeps before now probed result was seen begun same
+      (subst (λ (o : Requests). EndsProbe read before now i deadline probed result o r') prepared ends)))
 
-        given : read.question.number ≤ mid.asked
-        given = omega (arith, ap (λ (x : Question). x.number) is.new.question, marked_asked (not (node_of w i).halted && (node_of w' i).halted) i (length w'.agreed - length w.agreed) r₁ mid marks)
-
-        asked_taken : IsTakenAsked read.question.asked
-        asked_taken = subst IsTakenAsked (sym (ap (λ (x : Question). x.asked) is.new.question)) is.taken
-
-  -- what comes of it
-  abbrev Ended : Result Unit memory.Memory → Type 0
-  Ended result =
-      OnOk result (HandlesNewest i read.question.agent read.asked read.question.draw (cluster_of w servers r) (cluster_of w' servers r'))
-      × OnErr result (cluster_of w' servers r' ≡ cluster_of w servers r) × Stands w' servers r'
-
-  ended : (before now : Seen) (probed : Result Round ProbeFault) (result : Result Unit memory.Memory) → before ≡ seen_of w i → now ≡ seen_of w' i
-      → IfOk probed (Begun w i w') → OnErr probed (w' ≡ w) → EndsProbe read before now i deadline probed result (record r { room = 4 }) r' → Ended result
-  ended before now (Ok round) (Ok u) was seen begun same ends =
-      let done = held_so begun.0 before now ends.0 was seen ends.1 round begun.3 ends.2 in (done.0, tt, done.1)
-  ended before now (Ok round) (Err u) was seen begun same ends = absurd ends
-  ended before now (Err why) (Ok u) was seen begun same ends = absurd ends
-  ended before now (Err why) (Err u) was seen begun same ends =
-      let here = with_room w servers r (record r { room = 4 }) 4 is.at.stands refl in (
-        tt,
-        subst (λ (v : World). cluster_of v servers r' ≡ cluster_of w servers r) (sym same) (ap (cluster_of w servers) ends ∙ here.1),
-        subst (λ (v : World). Stands v servers r') (sym same) (subst (Stands w servers) (sym ends) here.0),
-      )
-
--- the same for a cluster that is seen so
-pub done_probe : (s s' : Servers) (r p r' : Requests) (i : ℕ) (read : NewRead) (deadline : ℕ) (c : Cluster) (before now : Seen) (probed : Result Round ProbeFault) (result : Result Unit memory.Memory) →
-    Stands s.world s.servers r → cluster_of s.world s.servers r ≡ c → IsCome read.question.agent read.asked read.question.draw c.past → IsNewRead c i read deadline → IsTakenAsked read.asked
-    → (is_stale_read read.asked || is_ready c i) ≡ true → p ≡ record r { room = 4 } → before ≡ seen_of s.world i → now ≡ seen_of s'.world i
-    → IfOk probed (Begun s.world i s'.world) → OnErr probed (s'.world ≡ s.world) → KeepsAgreement s.world s'.world → s'.servers ≡ s.servers → EndsProbe read before now i deadline probed result p r'
-    → OnOk result (HandlesNewest i read.question.agent read.asked read.question.draw c (cluster_of s'.world s'.servers r'))
-    × OnErr result (cluster_of s'.world s'.servers r' ≡ c) × Stands s'.world s'.servers r'
-done_probe s s' r p r' i read deadline c before now probed result stands view come new taken go prepared was seen begun same keeps kept ends =
-    let Goal : Cluster → List Server → Type 0 = λ d ss.
-    OnOk result (HandlesNewest i read.question.agent read.asked read.question.draw d (cluster_of s'.world ss r')) × OnErr result (cluster_of s'.world ss r' ≡ d) × Stands s'.world ss r' in
-    let is : IsProbing s.world s.servers r i read deadline = record {
-      at = record { stands = stands; view = refl; come = subst (λ (d : Cluster). IsCome read.question.agent read.asked read.question.draw d.past) (sym view) come };
-      new = subst (λ (d : Cluster). IsNewRead d i read deadline) (sym view) new;
-      taken = taken;
-      go = subst (λ (d : Cluster). (is_stale_read read.asked || is_ready d i) ≡ true) (sym view) go;
-    } in
-    subst (λ (ss : List Server). Goal c ss) (sym kept) (subst (λ (d : Cluster). Goal d s.servers) view
-    (ended s.world s'.world s.servers r r' i read deadline is keeps before now probed result was seen begun same
-    (subst (λ (o : Requests). EndsProbe read before now i deadline probed result o r') prepared ends)))
-
--- Each part of it, for a cluster that is seen so afterwards.
-pub read_probed : (s s' : Servers) (r p r' : Requests) (i : ℕ) (read : NewRead) (deadline : ℕ) (c c' : Cluster) (before now : Seen) (probed : Result Round ProbeFault) (result : Result Unit memory.Memory) →
-    Stands s.world s.servers r → cluster_of s.world s.servers r ≡ c → IsCome read.question.agent read.asked read.question.draw c.past → IsNewRead c i read deadline → IsTakenAsked read.asked
-    → (is_stale_read read.asked || is_ready c i) ≡ true → p ≡ record r { room = 4 } → before ≡ seen_of s.world i → now ≡ seen_of s'.world i
-    → IfOk probed (Begun s.world i s'.world) → OnErr probed (s'.world ≡ s.world) → KeepsAgreement s.world s'.world → s'.servers ≡ s.servers → EndsProbe read before now i deadline probed result p r' → cluster_of s'.world s'.servers r' ≡ c'
-    → OnOk result (HandlesNewest i read.question.agent read.asked read.question.draw c c') × OnErr result (c' ≡ c)
-read_probed s s' r p r' i read deadline c c' before now probed result stands view come new taken go prepared was seen begun same keeps kept ends shown =
-    let t = done_probe s s' r p r' i read deadline c before now probed result stands view come new taken go prepared was seen begun same keeps kept ends in
-    subst (λ (d : Cluster). OnOk result (HandlesNewest i read.question.agent read.asked read.question.draw c d) × OnErr result (d ≡ c)) shown (t.0, t.1)
+  -- Each part of it, for a cluster that is seen so afterwards.
+  pub read_probed : (s s' : Servers) (r p r' : Requests) (i : ℕ) (read : NewRead) (deadline : ℕ) (c c' : Cluster) (before now : Seen) (probed : Result Round ProbeFault) (result : Result Unit memory.Memory) →
+      Stands s.world s.servers r → cluster_of s.world s.servers r ≡ c → IsCome read.question.agent read.asked read.question.draw c.past → IsNewRead c i read deadline → IsTakenAsked read.asked
+      → (is_stale_read read.asked || is_ready c i) ≡ true → p ≡ record r { room = 4 } → before ≡ seen_of s.world i → now ≡ seen_of s'.world i
+      → IfOk probed (Begun s.world i s'.world) → OnErr probed (s'.world ≡ s.world) → KeepsAgreement s.world s'.world → s'.servers ≡ s.servers → EndsProbe read before now i deadline probed result p r' → cluster_of s'.world s'.servers r' ≡ c'
+      → OnOk result (HandlesNewest i read.question.agent read.asked read.question.draw c c') × OnErr result (c' ≡ c)
+  read_probed s s' r p r' i read deadline c c' before now probed result stands view come new taken go prepared was seen begun same keeps kept ends shown =
+      let t = done_probe s s' r p r' i read deadline c before now probed result stands view come new taken go prepared was seen begun same keeps kept ends in
+      subst (λ (d : Cluster). OnOk result (HandlesNewest i read.question.agent read.asked read.question.draw c d) × OnErr result (d ≡ c)) shown (t.0, t.1)

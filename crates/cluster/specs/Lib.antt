@@ -1,3 +1,4 @@
+pub mod Agents
 pub mod Asking
 pub mod Beginning
 pub mod Fitting
@@ -5,7 +6,8 @@ pub mod Going
 pub mod Looking
 pub mod Moving
 pub mod Playing
+pub mod Proposing
 pub mod Standing
+pub mod Syncing
 pub mod Tending
-pub mod Ttls
 pub mod Working

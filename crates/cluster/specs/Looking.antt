@@ -1,7 +1,7 @@
 -- Which of the held requests has something due before the next position is applied.
 use Rattle.std.specs.Prelude.{◌≡◌, ℕ, ◌-◌, nat_le, nat_lt, ◌==◌, not, ◌&&◌, ◌||◌, if◌then◌else◌, Bool, true, false, length, take, Option, Some}
 use Rattle.cat_model.specs.declared.command.Command.{Command}
-use Rattle.cat_model.specs.declared.request.Request.TheVariants.{Read}
+use Rattle.cat_model.specs.declared.request.Request.TheVariants.{Read, Execute}
 use Rattle.cat_model.specs.declared.request.Asked.{Asked}
 use Rattle.cat_model.specs.declared.request.Asked.TheVariants.{Good}
 use Rattle.cat_model.specs.declared.reply.Kind.TheVariants.{Refused}
@@ -17,20 +17,22 @@ use Rattle.cluster_rules.specs.Replies.{Question, entered}
 use Rattle.cluster_rules.specs.Cluster.{Cluster, Pending, Stand, AtPlace, InRound, ForIndex, Ended, applied_of, clock_of, node_of}
 use Rattle.cluster_rules.specs.Due.{Work, Replies, Holds, is_new, was_seen}
 
-abbrev pub is_read : Asked → Bool
-is_read (Good (Read query mode least wait raw)) = true
-is_read other = false
-
 -- Its time is over, or it was not looked for yet at just so many positions as the server has applied.
-abbrev pub is_look_due : Cluster → ℕ → ℕ → Option ℕ → Bool
-is_look_due c i deadline seen = nat_le deadline (clock_of c.world i) || not (was_seen seen (length (applied_of c i)))
+abbrev pub is_read_due : Cluster → ℕ → ℕ → Option ℕ → Bool
+is_read_due c i deadline seen = nat_le deadline (clock_of c.world i) || not (was_seen seen (length (applied_of c i)))
+
+-- What waits for an index is a read, or an execution, which waits for nothing.
+abbrev pub is_look_due : Cluster → ℕ → ℕ → Option ℕ → Asked → Bool
+is_look_due c i deadline seen (Good (Read query mode least wait raw)) = is_read_due c i deadline seen
+is_look_due c i deadline seen (Good (Execute name limit mode)) = true
+is_look_due c i deadline seen other = false
 
 -- By what it waits for.
 abbrev pub is_stand_due : Cluster → ℕ → Asked → Stand → Bool
 is_stand_due c i asked (Ended event) = true
 is_stand_due c i asked (AtPlace index term) = nat_le index (length (applied_of c i))
 is_stand_due c i asked (InRound round deadline) = nat_lt round.term (node_of c.world i).term
-is_stand_due c i asked (ForIndex deadline seen) = is_read asked && is_look_due c i deadline seen
+is_stand_due c i asked (ForIndex deadline seen) = is_look_due c i deadline seen asked
 
 -- A halted server lets go of all that it holds.
 abbrev pub is_early : Cluster → ℕ → Pending → Bool

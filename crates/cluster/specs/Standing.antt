@@ -1,6 +1,6 @@
 -- What the parts of a cluster have to do with each other.
-use Rattle.std.specs.Prelude.{◌≡◌, ℕ, ◌<◌, ◌≤◌, true, List, length, Some}
-use Rattle.std.specs.List.{AllByRecursion as Each, list_all}
+use Rattle.std.specs.Prelude.{◌≡◌, ℕ, ◌<◌, ◌≤◌, List, length, Some}
+use Rattle.std.specs.List.{AllByRecursion as Each}
 use Rattle.cat_model.specs.declared.command.Command.{Command}
 use Rattle.cat_model.specs.declared.request.Asked.{Asked}
 use Rattle.cat_model.specs.declared.request.Asked.TheVariants.{Good}
@@ -15,7 +15,6 @@ use Rattle.cluster_rules.specs.Cluster.{Stand, AtPlace, ForIndex, Pending, Serve
 use Rattle.cluster_rules.specs.Lasting.{IsWrite}
 use Rattle.cluster_rules.specs.Replies.{Question, entered}
 use Rattle.cluster_rules.specs.Sound.{Ascends, ServerIsSound}
-use Rattle.cluster.specs.Ttls.{has_no_ttl}
 use Rattle.open_requests.specs.Notes.{joined_in}
 use Rattle.open_requests.specs.Requests.{Requests}
 
@@ -47,10 +46,6 @@ pub record IsHeld (w : World) (servers : List Server) (asked : ℕ) (h : Pending
   pub awaited : IsAwaited w (length (server_of servers h.server).applied) h.question h.stand
   pub looked : IsLookedFor (server_of servers h.server).applied h.question.asked h.stand
 
--- None of the commands that a server has applied creates a session with a TTL.
-abbrev pub AppliesNoTtl : Server → Type 0
-AppliesNoTtl s = list_all has_no_ttl (commands_of s.applied) ≡ true
-
 -- The world is one of a run with as many servers, of which there is one at least, each has applied a front of the agreed
 -- log, the notes count the agreed log, no proposal has a number above those that were given, and held requests stand in
 -- the order of their numbers.
@@ -63,4 +58,3 @@ pub record Stands (w : World) (servers : List Server) (r : Requests) : Type 0 wh
   pub proposed : w.greatest ≤ r.asked
   pub ascends : Ascends r.held
   pub held : Each (IsHeld w servers r.asked) r.held
-  pub no_ttl : Each AppliesNoTtl servers

@@ -1,25 +1,27 @@
--- What becomes of a reap that a tick proposes.
-use Rattle.std.specs.Prelude.{◌≡◌, ℕ, nat_le, ◌&&◌, Bool, Result, Ok, Err}
-use Rattle.cat_model.specs.declared.memory.Memory.{Memory}
+-- What is due by the clock of a server that leads.
+use Rattle.std.specs.Prelude.{◌≡◌, ℕ, nat_le, ◌&&◌, Bool, take}
 use Rattle.cat_model.specs.Log.{commands_of}
-use Rattle.raft_model.specs.declared.message.Place.{Place}
-use Rattle.raft_node.specs.declared.fault.ProposeFault.{ProposeFault}
-use Rattle.raft_node.specs.declared.fault.ProposeFault.TheVariants as fault
+use Rattle.cat_model.specs.declared.command.Command.{Command}
+use Rattle.cat_model.specs.declared.command.Command.TheVariants.{SessionDestroy}
 use Rattle.office_rules.specs.Offices.{has_removed}
 use Rattle.cluster_rules.specs.Cluster.{Cluster, applied_of, clock_of, office_of}
-use Rattle.open_requests.specs.Requests.{Requests}
-use Rattle.cluster.specs.declared.moving.Seen.{Seen}
-use Rattle.cluster.specs.Moving.{MarksStep}
+use Rattle.cluster_rules.specs.Proposals.{Proposals, ends_of, looked, over_rows, reaps_of, with_ends}
+use Rattle.session_ttl.specs.declared.ending.Ending.{Ending}
 
 -- the next look of server i is due, and it has applied the removal of a key since the last reap
 abbrev pub is_reap_due : Cluster → ℕ → Bool
 is_reap_due c i = nat_le (office_of c i).reap (clock_of c.world i) && has_removed (commands_of (applied_of c i))
 
--- A proposal for no request that this answers: the step is marked, also where the proposal is refused.
-abbrev pub EndsReap : Seen → Seen → ℕ → Result Place ProposeFault → Result Unit Memory → Requests → Requests → Type 0
-EndsReap before now i (Ok place) (Ok _) old new = MarksStep before now i old new
-EndsReap before now i (Err fault.Full) (Ok _) old new = MarksStep before now i old new
-EndsReap before now i (Err fault.Halted) (Ok _) old new = MarksStep before now i old new
-EndsReap before now i (Err fault.NotLeader) (Err _) old new = new ≡ old
-EndsReap before now i (Err fault.Memory) (Err _) old new = new ≡ old
-EndsReap before now i proposed result old new = ⊥
+-- the command that ends a session
+abbrev pub end_command : Ending → Command
+end_command ending = SessionDestroy ending.id
+
+-- The ends of the sessions that are over were proposed, whole or as far as memory reached; those that were entered are
+-- not proposed again.
+abbrev pub EndsProposed : ℕ → Cluster → Bool → Cluster → Type 0
+EndsProposed i c whole c' =
+    (n : ℕ) × (c₁ : Cluster) × Proposals i (ends_of (over_rows c i)) c n c₁ whole × (c' ≡ with_ends i (take n (over_rows c i)) c₁)
+
+-- The look for removed keys, and the proposal of the reap that is due.
+abbrev pub ReapsProposed : ℕ → Cluster → Bool → Cluster → Type 0
+ReapsProposed i c whole c' = (n : ℕ) × Proposals i (reaps_of c i) (looked i c) n c' whole

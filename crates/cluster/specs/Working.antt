@@ -1,13 +1,10 @@
 -- What the program's work means in the rules.
-use Rattle.std.specs.Prelude.{◌≡◌, ℕ, ◌+◌, Bool, false, length, Option, Some, None}
+use Rattle.std.specs.Prelude.{◌≡◌, ℕ, Option, Some, None}
 use Rattle.std.specs.List.{find}
-use Rattle.cat_model.specs.declared.command.Entry.{Entry}
-use Rattle.raft_model.specs.Log.{entry_at}
 use Rattle.cluster_rules.specs.Replies.{Closed, shown}
-use Rattle.cluster_rules.specs.Cluster.{Cluster, applied_of, node_of}
+use Rattle.cluster_rules.specs.Cluster.{Cluster, applied_of}
 use Rattle.cluster_rules.specs.Due as rules
 use Rattle.cluster_rules.specs.Due.{due, put_out, without}
-use Rattle.cluster.specs.Ttls.{has_no_ttl}
 use Rattle.cluster.specs.Looking.{is_early}
 use Rattle.open_requests.specs.Contents.{content_of, stand_of}
 use Rattle.cluster.specs.declared.work.Work.{Work}
@@ -31,12 +28,3 @@ IsFound c i found other = ⊥
 -- a held request was closed, since its server restarted in this event
 abbrev pub closed : ℕ → ℕ → Cluster → Cluster
 closed number event c = record c { held = without number c.held; fresh = put_out (Closed number event) c.fresh }
-
--- the entry, if there is one, is of a command that has no TTL
-abbrev pub entry_has_no_ttl : Option Entry → Bool
-entry_has_no_ttl None = false
-entry_has_no_ttl (Some e) = has_no_ttl e.command
-
--- the next entry that server i may apply is of a command that has no TTL
-abbrev pub next_has_no_ttl : Cluster → ℕ → Bool
-next_has_no_ttl c i = entry_has_no_ttl (entry_at (length (applied_of c i) + 1) (node_of c.world i).log)

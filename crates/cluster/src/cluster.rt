@@ -2,17 +2,19 @@
 
 ghost use Rattle.std.specs.Prelude.{◌≡◌, length};
 
+use crate::agents::Agents;
 use cat_model::Entry;
 use cat_outside::Keeper;
 use cluster_servers::Servers;
 use open_requests::Requests;
 use std::marker::Model;
 
-/// A cluster of servers, numbered from 1, and the requests that its agents were asked, numbered from 1 in the order in
-/// which they came.
+/// A cluster of servers and of agents, each numbered from 1, and the requests that the agents were asked, numbered from
+/// 1 in the order in which they came.
 #[derive(Drop)]
 pub struct Cluster<K: Keeper> {
     pub(crate) servers: Servers<K>,
+    pub(crate) agents: Agents,
     pub(crate) requests: Requests,
 }
 
@@ -23,7 +25,7 @@ impl<K: Keeper> Model for Cluster<K> {
 
     ghost Value = { rules.Cluster };
 
-    ghost view = { λ c. cluster_of c.servers.world c.servers.servers c.requests };
+    ghost view = { λ c. cluster_of c.servers.world c.servers.servers c.agents c.requests };
 
     ghost invariant = { λ c. Stands c.servers.world c.servers.servers c.requests };
 }
@@ -40,7 +42,7 @@ impl<K: Keeper> Cluster<K> {
     pub fn agents(&self) -> u32
         ensures { result ≡ length self.now.agents }
     {
-        self.requests.agents()
+        self.agents.count()
     }
 
     /// How many requests were asked.

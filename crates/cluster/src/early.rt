@@ -7,18 +7,12 @@ ghost use Rattle.cluster_rules.specs.Cluster.{node_of};
 ghost use Rattle.cluster_rules.specs.Due.{was_seen};
 ghost use Rattle.cluster_rules.specs.Reached.{IsServerNumber};
 ghost use Rattle.open_requests.specs.Contents.{stand_of};
-ghost use Rattle.cluster.specs.Looking.{is_early, is_look_due, is_read, is_stand_due};
+ghost use Rattle.cluster.specs.Looking.{is_early, is_look_due, is_read_due, is_stand_due};
 
 use crate::cluster::Cluster;
 use cat_model::{Asked, Request};
 use cat_outside::Keeper;
 use open_requests::{Pending, Stand};
-
-fn is_read(asked: &Asked) -> bool
-    ensures { result ≡ is_read asked.now }
-{
-    matches!(asked, Asked::Good(Request::Read { .. }))
-}
 
 // A read was looked for last after so many positions.
 fn was_seen(seen: Option<u64>, applied: u64) -> bool
@@ -42,11 +36,23 @@ impl<K: Keeper> Cluster<K> {
 
     // The time of a read is over, or it was not looked for yet at just what the server has applied.
     #[tactic(auto, using(crate::proofs::Numbers::is_number))]
-    fn is_look_due(&self, server: u32, deadline: u64, seen: Option<u64>) -> bool
+    fn is_read_due(&self, server: u32, deadline: u64, seen: Option<u64>) -> bool
         requires { IsServerNumber self.now server }
-        ensures { result ≡ is_look_due self.now server deadline seen }
+        ensures { result ≡ is_read_due self.now server deadline seen }
     {
         deadline <= self.servers.clock(server) || !was_seen(seen, self.servers.applied(server))
+    }
+
+    // A read is to be looked for, or an execution, which waits for nothing.
+    fn is_look_due(&self, server: u32, asked: &Asked, deadline: u64, seen: Option<u64>) -> bool
+        requires { IsServerNumber self.now server }
+        ensures { result ≡ is_look_due self.now server deadline seen asked.now }
+    {
+        match asked {
+            Asked::Good(Request::Read { .. }) => self.is_read_due(server, deadline, seen),
+            Asked::Good(Request::Execute { .. }) => true,
+            _ => false,
+        }
     }
 
     // What the request waits for has come, at a server that runs. A read is looked for once at each position that is
@@ -60,9 +66,7 @@ impl<K: Keeper> Cluster<K> {
             Stand::Ended { .. } => true,
             Stand::AtPlace { index, .. } => index <= self.servers.applied(server),
             Stand::InRound { round, .. } => round.term < self.servers.node(server).term(),
-            Stand::ForIndex { deadline, seen } => {
-                is_read(asked) && self.is_look_due(server, deadline, seen)
-            }
+            Stand::ForIndex { deadline, seen } => self.is_look_due(server, asked, deadline, seen),
         }
     }
 

@@ -1,7 +1,8 @@
 //! What a server does with a request that was just noted.
 
-ghost use Rattle.std.specs.Prelude.{◌≡◌, ◌≢◌, ◌+◌, ◌||◌, IfOk, OnErr, OnOk, Some, false, true};
+ghost use Rattle.std.specs.Prelude.{◌≡◌, ◌≢◌, ◌+◌, ◌||◌, IfOk, None, OnErr, OnOk, Some, false, true};
 ghost use Rattle.cat_model.specs.LogLimits.{command_bytes as bytes_of_command};
+ghost use Rattle.cat_model.specs.declared.command.Command.{Command as SpecCommand};
 ghost use Rattle.cat_model.specs.declared.request.Asked.TheVariants.{Good};
 ghost use Rattle.cat_model.specs.declared.request.Mode.{Mode as SpecMode};
 ghost use Rattle.cat_model.specs.declared.request.Mode.TheVariants as modes;
@@ -11,9 +12,8 @@ ghost use Rattle.cluster_rules.specs.Cluster.{runs_leading};
 ghost use Rattle.cluster_rules.specs.Due.{due};
 ghost use Rattle.cluster_rules.specs.Reached.{IsServerNumber};
 ghost use Rattle.cluster_rules.specs.Replies.{entered};
-ghost use Rattle.cluster_rules.specs.Requests.{Goes, is_ready, is_stale_read, look_of, wait_of};
+ghost use Rattle.cluster_rules.specs.Requests.{Goes, delayed_at, is_ready, is_stale_read, look_of, wait_of};
 ghost use Rattle.cluster_turns.specs.Turns.{GoesBy, HandlesNewest, IsCome};
-ghost use Rattle.open_requests.specs.Contents.{HasWay};
 ghost use Rattle.cluster.specs.Asking.{IsCopied, IsTakenWrite};
 
 use crate::asking::{Write, end_write};
@@ -46,7 +46,6 @@ pub(crate) fn copied_question(
     asked: &Asked,
     draw: Draw,
 ) -> Result<Question, Memory>
-    requires { HasWay asked.now }
     ensures { IfOk result (λ question. question ≡ record { number = number; agent = agent; asked = asked.now; draw = draw }) }
 {
     Ok(Question::new(number, agent, copy_asked(asked)?, draw))
@@ -83,7 +82,6 @@ fn with_bytes(
     entries: u64,
     bytes: u64,
 ) -> Result<Write, Memory>
-    requires { HasWay asked.now }
     ensures { IfOk result (λ write. write ≡ record { asked = asked.now; question = question; entry = entry; entries = entries; bytes = bytes }) }
 {
     match copy_asked(asked) {
@@ -110,7 +108,6 @@ fn with_entry(
     entries: u64,
     before: u64,
 ) -> Result<Write, Memory>
-    requires { HasWay asked.now }
     ensures { IfOk result (λ write. write ≡ record { asked = asked.now; question = question; entry = entry; entries = entries; bytes = before + bytes_of_command entry.command }) }
 {
     match total(alloc, before, &entry.command) {
@@ -132,7 +129,6 @@ fn with_question(
     entries: u64,
     before: u64,
 ) -> Result<Write, Memory>
-    requires { HasWay asked.now }
     ensures { let enters = entered question command.now in IfOk result (λ write. write ≡ record { asked = asked.now; question = question; entry = record { term = term; number = question.number; command = enters }; entries = entries; bytes = before + bytes_of_command enters }) }
 {
     match entry_of(alloc, &question, term, command) {
@@ -145,9 +141,9 @@ fn with_question(
 }
 
 impl<K: Keeper + Drop> Cluster<K> {
-    // The server has applied an entry of its term.
+    /// The server has applied an entry of its term.
     #[tactic(auto, using(crate::proofs::Numbers::is_number))]
-    fn is_ready(&self, server: u32) -> bool
+    pub(crate) fn is_ready(&self, server: u32) -> bool
         requires { IsServerNumber self.now server }
         ensures { result ≡ is_ready self.now server }
     {
@@ -175,7 +171,6 @@ impl<K: Keeper + Drop> Cluster<K> {
         command: &Command,
     ) -> Result<Write, Memory>
         requires server { IsServerNumber self.now server }
-        requires way { HasWay asked.now }
         ensures { IfOk result (IsCopied self.now server agent asked.now draw command.now) }
     {
         let number = self.requests.asked().checked_add(1).ok_or(Memory)?;
@@ -188,7 +183,7 @@ impl<K: Keeper + Drop> Cluster<K> {
     }
 
     // Refuses a request at a server that is not ready.
-    #[tactic(auto, using(crate::proofs::Numbers::is_number, crate::proofs::Taken::has_way))]
+    #[tactic(auto, using(crate::proofs::Numbers::is_number))]
     fn refuse_unready(
         &mut self,
         server: u32,
@@ -216,7 +211,7 @@ impl<K: Keeper + Drop> Cluster<K> {
     }
 
     // Holds a read that needs no round, to be looked for at once.
-    #[tactic(auto, using(crate::proofs::Numbers::is_number, crate::proofs::Taken::has_way))]
+    #[tactic(auto, using(crate::proofs::Numbers::is_number))]
     fn hold_read(
         &mut self,
         server: u32,
@@ -300,6 +295,7 @@ impl<K: Keeper + Drop> Cluster<K> {
         requires come { IsCome write.question.agent write.asked write.question.draw self.old.past }
         requires leads { runs_leading self.old.world server ≡ true }
         requires ready { is_ready self.old server ≡ true }
+        requires free { (asks : SpecCommand) → write.asked ≡ Good (Writes asks) → delayed_at self.old server asks ≡ None }
         ensures ok { OnOk result (HandlesNewest server write.question.agent write.asked write.question.draw self.old self.new) }
         ensures err { OnErr result (self.new ≡ self.old) }
     {
@@ -316,8 +312,37 @@ impl<K: Keeper + Drop> Cluster<K> {
     }
 
     // Enters a write at a server that leads and is ready.
-    #[tactic(auto, using(crate::proofs::Taken::has_way))]
     fn enter(
+        &mut self,
+        alloc: Global,
+        server: u32,
+        agent: u32,
+        asked: &Asked,
+        draw: Draw,
+        command: &Command,
+    ) -> Result<(), Memory>
+        requires server { IsServerNumber self.old server }
+        requires taken { IsTakenAsked asked.now }
+        requires asked { asked.now ≡ Good (Writes command.now) }
+        requires come { IsCome agent asked.now draw self.old.past }
+        requires leads { runs_leading self.old.world server ≡ true }
+        requires ready { is_ready self.old server ≡ true }
+        requires free { delayed_at self.old server command.now ≡ None }
+        ensures ok { OnOk result (HandlesNewest server agent asked.now draw self.old self.new) }
+        ensures err { OnErr result (self.new ≡ self.old) }
+    {
+        let write = self.copies(alloc, server, agent, asked, draw, command)?;
+        match copy_command(&write.entry.command) {
+            Ok(copy) => self.propose(alloc, server, write, copy),
+            Err(Memory) => {
+                drop(write);
+                Err(Memory)
+            }
+        }
+    }
+
+    // Enters a write, or answers that a lock delay refuses it.
+    fn write(
         &mut self,
         alloc: Global,
         server: u32,
@@ -335,13 +360,9 @@ impl<K: Keeper + Drop> Cluster<K> {
         ensures ok { OnOk result (HandlesNewest server agent asked.now draw self.old self.new) }
         ensures err { OnErr result (self.new ≡ self.old) }
     {
-        let write = self.copies(alloc, server, agent, asked, draw, command)?;
-        match copy_command(&write.entry.command) {
-            Ok(copy) => self.propose(alloc, server, write, copy),
-            Err(Memory) => {
-                drop(write);
-                Err(Memory)
-            }
+        match self.delayed(server, command) {
+            Some(key) => self.defer(alloc, server, agent, asked, draw, command, key),
+            None => self.enter(alloc, server, agent, asked, draw, command),
         }
     }
 
@@ -367,11 +388,15 @@ impl<K: Keeper + Drop> Cluster<K> {
         }
         match asked {
             Asked::Good(Request::Write { command }) => {
-                self.enter(alloc, server, agent, asked, draw, command)
+                self.write(alloc, server, agent, asked, draw, command)
             }
             Asked::Good(Request::Read { mode, wait_ms, .. }) => {
                 self.begin_read(alloc, server, agent, asked, draw, *mode, *wait_ms)
             }
+            Asked::Good(Request::Execute { mode, .. }) => {
+                self.begin_read(alloc, server, agent, asked, draw, *mode, 0)
+            }
+            Asked::Good(Request::Renew { id }) => self.renew(server, agent, asked, draw, *id),
             _ => unreachable!(),
         }
     }

@@ -2,11 +2,15 @@
 #![tactic(auto)]
 
 mod acting;
+mod agent_parts;
+mod agents;
 mod asking;
 mod cluster;
 mod contact;
+mod delaying;
 mod early;
 mod entering;
+mod executing;
 mod fitting;
 mod handling;
 mod late;
@@ -17,10 +21,14 @@ mod noting;
 mod parts;
 mod playing;
 mod probing;
+mod proposals;
 mod reading;
 mod refusing;
+mod remote_rows;
+mod renewing;
 mod starting;
 mod stepping;
+mod syncing;
 mod taking;
 mod ticking;
 mod travelling;

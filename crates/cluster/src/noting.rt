@@ -23,7 +23,6 @@ impl<K: Keeper> Cluster<K> {
     }
 
     /// Marks an event that is a request, of which the number is still to be given.
-    #[tactic(auto, using(crate::proofs::Taken::has_way))]
     pub(crate) fn mark_request(
         &mut self,
         agent: u32,

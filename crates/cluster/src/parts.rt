@@ -3,7 +3,7 @@
 use crate::cluster::Cluster;
 use cat_model::{Asked, Draw, Event, Memory, Refusal};
 use cat_outside::Keeper;
-use cluster_turns::{Cut, Impulse, Parts, Way};
+use cluster_turns::{AgentEvent, Cut, Impulse, Parts, Way};
 use std::alloc::Global;
 
 impl<K: Keeper + Drop> Parts for Cluster<K> {
@@ -91,6 +91,27 @@ impl<K: Keeper + Drop> Parts for Cluster<K> {
         draw: Draw,
     ) -> Result<(), Memory> {
         self.handle(alloc, server, agent, asked, draw)
+    }
+
+    fn sync_of(&self, event: &AgentEvent) -> Option<u32> {
+        self.sync_of(event)
+    }
+
+    fn leader_way(&self, agent: u32) -> Way {
+        self.leader_way(agent)
+    }
+
+    fn do_alone(
+        &mut self,
+        alloc: Global,
+        event: &AgentEvent,
+        leaderless: bool,
+    ) -> Result<(), Memory> {
+        self.do_alone(alloc, event, leaderless)
+    }
+
+    fn sync_at(&mut self, alloc: Global, server: u32, event: &AgentEvent) -> Result<(), Cut> {
+        self.sync_at(alloc, server, event)
     }
 
     fn asked(&self) -> u64 {

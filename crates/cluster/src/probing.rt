@@ -7,7 +7,6 @@ ghost use Rattle.cluster_rules.specs.Cluster.{clock_of, node_of};
 ghost use Rattle.cluster_rules.specs.Reached.{IsServerNumber};
 ghost use Rattle.cluster_rules.specs.Requests.{is_ready, is_stale_read, look_of, wait_of};
 ghost use Rattle.cluster_turns.specs.Turns.{HandlesNewest, IsCome};
-ghost use Rattle.open_requests.specs.Contents.{HasWay};
 ghost use Rattle.open_requests.specs.Notes.{IsMadeLast};
 ghost use Rattle.cluster.specs.Asking.{EndsProbe, HoldsRead, IsNewRead};
 
@@ -84,7 +83,6 @@ fn end_probe(
 }
 
 fn copies(number: u64, agent: u32, asked: &Asked, draw: Draw) -> Result<NewRead, Memory>
-    requires { HasWay asked.now }
     ensures { IfOk result (λ read. read ≡ record { asked = asked.now; question = record { number = number; agent = agent; asked = asked.now; draw = draw } }) }
 {
     let question = copied_question(number, agent, asked, draw)?;
@@ -135,7 +133,7 @@ impl<K: Keeper + Drop> Cluster<K> {
     }
 
     /// Begins a round for a consistent read, which is held until that is confirmed. Its time counts from now on.
-    #[tactic(auto, using(crate::proofs::Numbers::is_number, crate::proofs::Taken::has_way))]
+    #[tactic(auto, using(crate::proofs::Numbers::is_number))]
     pub(crate) fn begin_round(
         &mut self,
         alloc: Global,

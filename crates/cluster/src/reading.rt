@@ -187,7 +187,7 @@ impl<K: Keeper> Cluster<K> {
     }
 
     /// What is due of a read that waits for an index: its answer, or that it waits on. Each such read is looked for
-    /// once at each position that its server applies, whatever was changed there.
+    /// once at each position that its server applies, whatever was changed there. An execution waits for nothing.
     pub(crate) fn read_due(
         &self,
         alloc: Global,
@@ -210,6 +210,9 @@ impl<K: Keeper> Cluster<K> {
                     ..
                 },
             ) => self.look(alloc, server, held, query, *mode, *min, deadline, seen),
+            Asked::Good(Request::Execute { name, limit, mode }) => {
+                self.execute(alloc, server, held.question(), name, *limit, *mode)
+            }
             _ => unreachable!(),
         }
     }

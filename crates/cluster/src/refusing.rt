@@ -13,7 +13,6 @@ use cat_outside::Keeper;
 
 impl<K: Keeper> Cluster<K> {
     /// Marks a request with its number, and refuses it.
-    #[tactic(auto, using(crate::proofs::Taken::has_way))]
     pub(crate) fn refuse_at_once(
         &mut self,
         agent: u32,

@@ -15,8 +15,8 @@ use cat_outside::Keeper;
 use std::alloc::Global;
 
 impl<K: Keeper + Drop> Cluster<K> {
-    /// Makes an event that fits. What it gives waits to be taken. Syncs and ticks of agents are not taken so far, and of
-    /// requests those alone of which `script_runs::is_taken` says so.
+    /// Makes an event that fits. What it gives waits to be taken. Of requests those are taken of which
+    /// `script_runs::is_taken` says so.
     ///
     /// After `Memory` nothing has changed, or the event was cut short and its server is behind. That makes up for it in
     /// the next event that does something there.

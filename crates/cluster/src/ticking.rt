@@ -1,41 +1,29 @@
 //! The two acts of a tick: a server's clock goes on, and then it does what is due by it.
 
-ghost use Rattle.std.specs.Prelude.{◌≡◌, ◌≤◌, OnErr, OnOk, false, true};
+ghost use Rattle.std.specs.Prelude.{◌≡◌, IfOk, OnErr, OnOk, map, true};
 ghost use Rattle.cat_model.specs.declared.request.Event.TheVariants as event;
 ghost use Rattle.cluster_rules.specs.Cluster.{runs_leading};
-ghost use Rattle.cluster_rules.specs.Proposals.{Tends};
+ghost use Rattle.cluster_rules.specs.Proposals.{Tends, over_rows};
 ghost use Rattle.cluster_rules.specs.Reached.{Fits, IsServerNumber};
 ghost use Rattle.cluster_turns.specs.Turns.{TendsInPart, Ticks};
-ghost use Rattle.cluster.specs.Tending.{EndsReap, is_reap_due};
+ghost use Rattle.session_ttl.specs.Endings.{ending_of};
+ghost use Rattle.cluster.specs.Tending.{EndsProposed, ReapsProposed, end_command, is_reap_due};
 
 use crate::cluster::Cluster;
-use crate::moving::{Seen, mark_step, see};
 use cat_model::{Command, Memory};
 use cat_outside::Keeper;
-use open_requests::Requests;
-use raft_model::Place;
-use raft_node::ProposeFault;
+use session_ttl::Ending;
 use std::alloc::Global;
 
-// Marks what became of a proposal for no request. No reply tells whether it was refused.
-fn end_reap(
-    requests: &mut Requests,
-    server: u32,
-    before: Seen,
-    now: Seen,
-    proposed: Result<Place, ProposeFault>,
-) -> Result<(), Memory>
-    requires room { 4 ≤ requests.old.room }
-    requires grown { before.agreed ≤ now.agreed }
-    ensures { EndsReap before now server proposed result requests.old requests.new }
+// The commands that end these sessions.
+fn ends_of(alloc: Global, endings: &[Ending]) -> Result<Vec<Command>, Memory>
+    ensures { IfOk result (λ commands. commands.items ≡ map end_command endings.now) }
 {
-    match proposed {
-        Ok(_) | Err(ProposeFault::Full | ProposeFault::Halted) => {
-            mark_step(requests, server, before, now);
-            Ok(())
-        }
-        Err(ProposeFault::NotLeader | ProposeFault::Memory) => Err(Memory),
-    }
+    let commands = endings
+        .iter()
+        .map(|ending| Command::SessionDestroy { id: ending.id })
+        .collect(alloc)?;
+    Ok(commands)
 }
 
 impl<K: Keeper + Drop> Cluster<K> {
@@ -57,37 +45,56 @@ impl<K: Keeper + Drop> Cluster<K> {
         self.servers.is_reap_due(server)
     }
 
-    // A server that leads proposes the reap that is due. It looks for the next one later, also where the proposal is
-    // refused.
+    // The ends of these sessions, which are over, are proposed, and not again unless they are renewed.
     #[tactic(auto, using(crate::proofs::Numbers::is_number))]
-    fn reap(&mut self, alloc: Global, server: u32) -> Result<(), Memory>
+    fn propose_ends(
+        &mut self,
+        alloc: Global,
+        server: u32,
+        endings: &[Ending],
+    ) -> Result<bool, Memory>
         requires server { IsServerNumber self.old server }
         requires leads { runs_leading self.old.world server ≡ true }
-        requires due { is_reap_due self.old server ≡ true }
-        ensures whole { OnOk result (Tends server self.old self.new true) }
-        ensures cut { OnErr result (TendsInPart server self.old self.new) }
+        requires over { endings.now ≡ map ending_of (over_rows self.old server) }
+        ensures told { IfOk result (λ whole. EndsProposed server self.old whole self.new) }
+        ensures same { OnErr result (self.new ≡ self.old) }
     {
-        self.requests.prepare()?;
-        self.servers.look(server);
-        let before = see(&self.servers, server);
-        let proposed = self.servers.propose(alloc, server, 0, Command::Reap);
-        let now = see(&self.servers, server);
-        end_reap(&mut self.requests, server, before, now, proposed)
+        let commands = ends_of(alloc, endings)?;
+        self.servers.end(server, endings)?;
+        let proposed = self.propose_all(alloc, server, commands.as_slice());
+        self.servers.keep_first(server, endings, proposed.entered);
+        Ok(proposed.whole)
     }
 
-    // A server that leads and has nothing to propose looks again later, where the time of its look has come.
+    // The ends of the sessions that are over by the clock of a server that leads.
     #[tactic(auto, using(crate::proofs::Numbers::is_number))]
-    fn look_again(&mut self, server: u32)
+    fn end_sessions(&mut self, alloc: Global, server: u32) -> Result<bool, Memory>
         requires server { IsServerNumber self.old server }
         requires leads { runs_leading self.old.world server ≡ true }
-        requires none { is_reap_due self.old server ≡ false }
-        ensures { Tends server self.old self.new true }
+        ensures told { IfOk result (λ whole. EndsProposed server self.old whole self.new) }
+        ensures same { OnErr result (self.new ≡ self.old) }
     {
-        self.servers.look(server);
+        let endings = self.servers.over(alloc, server)?;
+        self.propose_ends(alloc, server, endings.as_slice())
     }
 
-    /// A server that leads looks for what is due by its clock: it proposes a reap where its look is due and it has
-    /// applied the removal of a key since the last one. No session that it holds has a TTL.
+    // A server proposes the reap that is due, if it leads, and looks for the next one later.
+    #[tactic(auto, using(crate::proofs::Numbers::is_number))]
+    fn reap(&mut self, alloc: Global, server: u32) -> bool
+        requires { IsServerNumber self.old server }
+        ensures { ReapsProposed server self.old result self.new }
+    {
+        let due = self.runs_leading(server) && self.is_reap_due(server);
+        self.servers.look(server);
+        if due {
+            self.propose_all(alloc, server, &[Command::Reap]).whole
+        } else {
+            true
+        }
+    }
+
+    /// A server that leads proposes what is due by its clock: the ends of sessions whose TTL is over, and then a reap,
+    /// where its look is due and it has applied the removal of a key since the last one.
     pub(crate) fn tend(&mut self, alloc: Global, server: u32) -> Result<(), Memory>
         requires { IsServerNumber self.old server }
         ensures whole { OnOk result (Tends server self.old self.new true) }
@@ -96,10 +103,10 @@ impl<K: Keeper + Drop> Cluster<K> {
         if !self.runs_leading(server) {
             return Ok(());
         }
-        if self.is_reap_due(server) {
-            return self.reap(alloc, server);
+        if self.end_sessions(alloc, server)? && self.reap(alloc, server) {
+            Ok(())
+        } else {
+            Err(Memory)
         }
-        self.look_again(server);
-        Ok(())
     }
 }

@@ -5,6 +5,7 @@ ghost use Rattle.script_runs.specs.Taken.{IsTakenAsked};
 ghost use Rattle.cluster_rules.specs.Cluster.{no_node, node_of, runs_leading};
 ghost use Rattle.cluster_rules.specs.Reached.{IsAgentNumber, IsServerNumber};
 ghost use Rattle.cluster_rules.specs.Requests.{Goes, asked_server, is_stale_read, to_leader, way_of as rules_way};
+ghost use Rattle.cluster_turns.specs.AgentEvents.{sync_way};
 ghost use Rattle.cluster_turns.specs.Turns.{GoesBy, way_of};
 ghost use Rattle.cluster.specs.Going.{held_of};
 
@@ -135,5 +136,14 @@ impl<K: Keeper> Cluster<K> {
             }
             Asked::Bad(why) => Ok(Way::Answers(copied(why)?)),
         }
+    }
+
+    /// Where an agent's sync goes: to the leader, or nowhere.
+    pub(crate) fn leader_way(&self, agent: u32) -> Way
+        requires { IsAgentNumber self.now agent }
+        ensures way { way_of result ≡ sync_way agent self.now }
+        ensures server { (server : ℕ) → way_of result ≡ Goes server → IsServerNumber self.now server }
+    {
+        self.way_from(self.asked_server(agent), false)
     }
 }

@@ -1,6 +1,6 @@
 //! Doing what is due at a server.
 
-ghost use Rattle.std.specs.Prelude.{◌≡◌, ◌<◌, ℕ, None, OnErr, OnOk, Some, length, true};
+ghost use Rattle.std.specs.Prelude.{◌≡◌, ◌<◌, ℕ, None, OnErr, OnOk, Some, length};
 ghost use Rattle.std.specs.List.{find};
 ghost use Rattle.cluster_rules.specs.Cluster.{Pending, applied_of, contact_of, knows, node_of};
 ghost use Rattle.cluster_rules.specs.Due as rules;
@@ -9,24 +9,14 @@ ghost use Rattle.cluster_rules.specs.Reached.{IsServerNumber};
 ghost use Rattle.cluster_rules.specs.Replies.{Question, shown};
 ghost use Rattle.open_requests.specs.Contents.{content_of, stand_of};
 ghost use Rattle.cluster.specs.Looking.{is_early};
-ghost use Rattle.cluster.specs.Working.{IsWork, next_has_no_ttl, closed};
-ghost use Rattle.cluster.specs.Ttls.{has_no_ttl};
+ghost use Rattle.cluster.specs.Working.{IsWork, closed};
 
 use crate::cluster::Cluster;
 use crate::work::Work;
-use cat_model::{Command, Kind, Memory};
+use cat_model::{Kind, Memory};
 use cat_outside::Keeper;
 use open_requests::{Content, Stand};
 use std::alloc::Global;
-
-fn has_no_ttl(command: &Command) -> bool
-    ensures { result ≡ has_no_ttl command.now }
-{
-    match command {
-        Command::SessionCreate { ttl_ms, .. } => *ttl_ms == 0,
-        _ => true,
-    }
-}
 
 impl<K: Keeper> Cluster<K> {
     // Answers a held request.
@@ -63,21 +53,6 @@ impl<K: Keeper> Cluster<K> {
         self.requests.close(number, event)
     }
 
-    // The entry at the server's next position is no session with a TTL, of which this program takes none.
-    #[tactic(auto, using(crate::proofs::Numbers::is_number))]
-    fn takes_next(&self, server: u32) -> bool
-        requires { IsServerNumber self.now server }
-        ensures { result ≡ true → next_has_no_ttl self.now server ≡ true }
-    {
-        let Some(next) = self.servers.applied(server).checked_add(1) else {
-            return false;
-        };
-        match self.servers.node(server).entry(next) {
-            Some(entry) => has_no_ttl(&entry.command),
-            None => false,
-        }
-    }
-
     // Applies the next position.
     fn apply_next(&mut self, alloc: Global, server: u32) -> Result<(), Memory>
         requires server { IsServerNumber self.old server }
@@ -86,14 +61,10 @@ impl<K: Keeper> Cluster<K> {
         ensures done { OnOk result (self.new ≡ applies server self.old) }
         ensures same { OnErr result (self.new ≡ self.old) }
     {
-        if !self.takes_next(server) {
-            return Err(Memory);
-        }
         self.servers.apply(alloc, server)
     }
 
-    /// Does what is due first at a server. It answers Memory also where that is to apply the creation of a session with
-    /// a TTL, which is not taken so far: such an entry can only come out of a durable store.
+    /// Does what is due first at a server.
     pub(crate) fn perform(&mut self, alloc: Global, server: u32, work: Work) -> Result<(), Memory>
         requires server { IsServerNumber self.old server }
         requires due { (w : rules.Work) × (due server self.old ≡ Some w) × IsWork self.old server work w }

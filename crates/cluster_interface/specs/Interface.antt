@@ -8,11 +8,9 @@ use Rattle.cluster_rules.specs.Cluster.{Cluster}
 use Rattle.cluster_rules.specs.Reached.{Settling}
 use Rattle.script_runs.specs.Plays.{taken, settled}
 
--- the events that are taken so far: no sync, no tick of an agent, and of requests those of a key
+-- the events that are taken: each one, and of requests those that are taken
 abbrev pub IsPlayed : Event → Type 0
 IsPlayed (event.Ask agent asked draw) = IsTakenAsked asked
-IsPlayed (event.Sync agent) = ⊥
-IsPlayed (event.AgentTick agent ms) = ⊥
 IsPlayed other = Unit {0}
 
 -- So many pairs of a delivery and a loss, and their mark: the most that were asked for, or fewer where no message is

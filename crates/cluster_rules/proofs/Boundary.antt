@@ -211,6 +211,34 @@ appended_is : (n : Node) (e : Entry) → ((appended n e).log ≡ n.log ++ e ∷ 
 appended_is n e = at_bool (λ b. ((cond b (record n { log = n.log ++ e ∷ []; commit = length (n.log ++ e ∷ []) }) (record n { log = n.log ++ e ∷ [] })).log ≡ n.log ++ e ∷ []) × ((cond b (record n { log = n.log ++ e ∷ []; commit = length (n.log ++ e ∷ []) }) (record n { log = n.log ++ e ∷ [] })).term ≡ n.term) × ((cond b (record n { log = n.log ++ e ∷ []; commit = length (n.log ++ e ∷ []) }) (record n { log = n.log ++ e ∷ [] })).vote ≡ n.vote)) (n.servers == 1)
     (λ _. (refl, refl, refl)) (λ _. (refl, refl, refl))
 
+appended_role : (n : Node) (e : Entry) → (appended n e).role ≡ n.role
+appended_role n e = at_bool (λ b. (cond b (record n { log = n.log ++ e ∷ []; commit = length (n.log ++ e ∷ []) }) (record n { log = n.log ++ e ∷ [] })).role ≡ n.role) (n.servers == 1) (λ _. refl) (λ _. refl)
+
+-- a leader that entered a proposal, and runs, leads on
+pub leads_on : (w : World) (i number : ℕ) (command : Command) (w' : World) → Acts w i (Propose number command) w' → runs_leading w i ≡ true → has_room (node_of w i) number command ≡ true → (node_of w' i).halted ≡ false → runs_leading w' i ≡ true
+leads_on w i number command w' a lead room up = ap (λ b. not b && is_leading (node_of w' i).role) up ∙ ap is_leading (ap (λ (n : Node). n.role) (acts_server w i (Propose number command) w' a) ∙ by a.outcome a.step ∙ l.1)
+  where
+    same : node_of w i ≡ a.old
+    same = is_node w i a.old a.server
+
+    l : (a.old.halted ≡ false) × (a.old.role ≡ Leader)
+    l = subst (λ (n : Node). (n.halted ≡ false) × (n.role ≡ Leader)) same (leading_tells w i lead)
+
+    e : Entry
+    e = proposal a.old number command
+
+    is : (done a.old (Propose number command)).node ≡ appended a.old e
+    is = leader_proposes a.old number command l.0 l.1 (subst (λ (n : Node). has_room n number command ≡ true) same room)
+
+    runs : a.new.halted ≡ false
+    runs = ap (λ (n : Node). n.halted) (sym (acts_server w i (Propose number command) w' a)) ∙ up
+
+    by : (o : Outcome) → NodeStep o a.old (Propose number command) a.new a.sent → a.new.role ≡ a.old.role
+    by Works (between, v, g, n, s) = ap (λ (z : Node). z.role) n ∙ ap (λ (z : Node). z.role) is ∙ appended_role a.old e
+    by VoteFails (v, f, n, s) = absurd (let k = ap (λ (z : Node). z.halted) n in cc (k, runs))
+    by LogFails (between, v, g, f, n, s) = absurd (let k = ap (λ (z : Node). z.halted) n in cc (k, runs))
+    by Forgets (v, f, g, n, s) = absurd (v (ap (λ (z : Node). z.term) is ∙ (appended_is a.old e).1, ap (λ (z : Node). z.vote) is ∙ (appended_is a.old e).2))
+
 -- the entry of a proposal has its place, unless its server halted
 pub proposed : (w : World) → IsReached w → (i number : ℕ) (command : Command) (w' : World) → Acts w i (Propose number command) w' → runs_leading w i ≡ true → has_room (node_of w i) number command ≡ true → (node_of w' i).halted ≡ false →
     IsPlaced w' (suc (length (node_of w i).log)) (proposal (node_of w i) number command)

@@ -1,7 +1,8 @@
 -- Requests with their numbers, and what a reply shows. The cluster knows no JSON: a reply's status, body and form are
 -- a function of its content (Consul, HTTP API, version 1).
+use Rattle.std.specs.Int.{w128, from_be_bytes}
 use Rattle.std.specs.Option.{option_map}
-use Rattle.std.specs.Prelude.{ℕ, ◌+◌, ◌*◌, ◌-◌, if◌then◌else◌, Bool, true, List, [], ◌∷◌, take, Option, Some, None}
+use Rattle.std.specs.Prelude.{ℕ, ◌-◌, if◌then◌else◌, Bool, true, List, [], ◌∷◌, take, Option, Some, None}
 use Rattle.cat_model.specs.declared.query.Query.{Query}
 use Rattle.cat_model.specs.declared.query.Answer.{Answer}
 use Rattle.cat_model.specs.declared.command.Command.{Command}
@@ -71,14 +72,9 @@ abbrev pub shown_read : Asked → ℕ → List Entry → Content
 shown_read (Good (Read query mode least wait raw)) prefix log = Shows query raw (answer query (catalog_at (commands_of (take prefix log))))
 shown_read other prefix log = Blank
 
--- the number that bytes spell, the most significant first
-abbrev pub number_from : ℕ → List ℕ → ℕ
-number_from n [] = n
-number_from n (b ∷ bytes) = number_from (n * 256 + b) bytes
-
 -- the identifier that a text spells
 abbrev pub id_in : List ℕ → Option ℕ
-id_in text = option_map (number_from 0) (parsed text)
+id_in text = option_map (from_be_bytes w128) (parsed text)
 
 -- an execution shows what the prepared query gives at its prefix, a renewal the session's row
 abbrev pub shown_seen : Asked → ℕ → List Entry → Content

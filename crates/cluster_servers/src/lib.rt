@@ -4,6 +4,7 @@
 mod deciding;
 mod ending;
 mod messages;
+mod remote;
 mod servers;
 mod starting;
 mod steps;

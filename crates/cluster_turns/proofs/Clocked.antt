@@ -1,12 +1,12 @@
 -- The acts of a tick, as whole events and cut short.
-use Rattle.std.proofs.Common.{◌≡◌, ◌≢◌, inl, inr, ℕ, ◌<◌, Bool, true, false, None, Some, length, refl, sym, ap, subst, arith}
+use Rattle.std.proofs.Common.{◌≡◌, ◌≢◌, inl, inr, ℕ, Bool, true, false, None, length, refl, sym, ap, subst, arith}
 use Rattle.cat_model.specs.declared.request.Event.TheVariants as event
 use Rattle.cluster_rules.specs.Cluster.{Cluster}
 use Rattle.cluster_rules.specs.Due.{due, Works, none, IsMadeUp}
 use Rattle.cluster_rules.specs.Proposals.{Tends}
-use Rattle.cluster_rules.specs.Reached.{IsServerNumber, Fits}
+use Rattle.cluster_rules.specs.Reached.{IsServerNumber}
 use Rattle.cluster_rules.specs.Step.{Acts, ticks, tends, Does, over, act, cut, cut_between, ClusterStep, done, cut_early, noted, shelved}
-use Rattle.cluster_turns.specs.declared.cut.Cut.TheVariants.{Before, Within}
+use Rattle.cluster_turns.specs.declared.cut.Cut.TheVariants.{Within}
 use Rattle.cluster_turns.specs.Turns.{Ticks, TendsInPart, WorkedSome, MadeUp, IsDone, IsCut, FindsNoMemory}
 use Rattle.cluster_turns.proofs.Keeping.{tended_servers}
 use Rattle.cluster_turns.proofs.Working.{made_up_by}

@@ -1,5 +1,5 @@
 -- What making up leaves as it was.
-use Rattle.std.proofs.Common.{◌≡◌, ℕ, zero, suc, ◌+◌, ◌^◌, ◌≤◌, Bool, true, false, cond, take, List, [], ◌∷◌, length, Option, Some, None, refl, sym, ◌∙◌, ap, subst, arith}
+use Rattle.std.proofs.Common.{◌≡◌, ℕ, zero, suc, ◌+◌, ◌^◌, ◌≤◌, Bool, true, false, cond, take, List, ◌∷◌, length, Option, Some, None, refl, sym, ◌∙◌, ap, subst, arith}
 use Rattle.std.proofs.lemmas.List.{length-set}
 use Rattle.cat_model.specs.declared.request.Asked.{Asked}
 use Rattle.cat_model.specs.declared.request.Event.{Event}
@@ -36,7 +36,7 @@ keeps_same c = record { world = refl; servers = refl; agents = refl; asked = ref
 pub keeps_on : (a b c : Cluster) → Keeps a b → Keeps b c → Keeps a c
 keeps_on a b c p q = record { world = q.world ∙ p.world; servers = q.servers ∙ p.servers; agents = q.agents ∙ p.agents; asked = q.asked ∙ p.asked }
 
-set_length : {A : Type 0} (items : List A) (s : ℕ) (x : A) → length (set_server items s x) ≡ length items
+pub set_length : {A : Type 0} (items : List A) (s : ℕ) (x : A) → length (set_server items s x) ≡ length items
 set_length items zero x = refl
 set_length items (suc s) x = length-set items s x
 

@@ -3,3 +3,4 @@ pub mod Working
 pub mod Clocked
 pub mod Numbering
 pub mod Pairing
+pub mod AgentSteps

@@ -1,2 +1,3 @@
 pub mod Turns
+pub mod AgentEvents
 pub mod Pairs

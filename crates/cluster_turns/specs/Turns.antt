@@ -133,9 +133,7 @@ IsServedCut i agent asked draw Within c c' =
     WorkedSome i c c'
     ⊎ ((c₁ : Cluster) × (c₂ : Cluster) × IsMadeUp i c c₁ × HandlesNewest i agent asked draw c₁ c₂ × Works i c₂ c' × (due i c' ≢ None))
 
--- an event is taken: no sync and no tick of an agent, and of requests those that are taken
+-- an event is taken; of requests those that are taken
 abbrev pub IsTaken : (Asked → Type 0) → Event → Type 0
 IsTaken Takes (event.Ask agent asked draw) = Takes asked
-IsTaken Takes (event.Sync agent) = ⊥
-IsTaken Takes (event.AgentTick agent ms) = ⊥
 IsTaken Takes other = Unit {0}

@@ -1,12 +1,15 @@
-ghost use Rattle.std.specs.Prelude.{◌≡◌, ℕ, IfOk, IfErr, OnOk, OnErr, true};
+ghost use Rattle.std.specs.Prelude.{◌≡◌, ℕ, IfOk, IfErr, OnOk, OnErr, false, true};
 ghost use Rattle.cat_model.specs.declared.request.Event.TheVariants as event;
 ghost use Rattle.cluster_rules.specs.Reached.{IsServerNumber, IsAgentNumber};
 ghost use Rattle.cluster_rules.specs.Requests.{Goes, Answers};
 ghost use Rattle.cluster_rules.specs.Step.{ClusterStep};
+ghost use Rattle.cluster_turns.specs.AgentEvents.{is_for_agent};
 ghost use Rattle.cluster_turns.specs.Turns.{FindsNoMemory, GoesBy, IsCome, IsServed, IsServedCut, way_of};
 
+use crate::agent_event::{AgentEvent, is_for_agent};
 use crate::cut::Cut;
 use crate::parts::{Parts, Way};
+use crate::syncing::happen;
 use crate::turns::{cut_after, finish, make_up};
 use cat_model::{Asked, Draw, Memory, Refusal};
 use std::alloc::Global;
@@ -112,6 +115,46 @@ fn ask_by<P: Parts>(
     }
 }
 
+// Makes the event of a request that no agent answers.
+#[tactic(none)]
+fn ask_servers<P: Parts>(
+    parts: &mut P,
+    alloc: Global,
+    agent: u32,
+    asked: &Asked,
+    draw: Draw,
+) -> Result<(), Memory>
+    requires agent { IsAgentNumber (P.state parts.old) agent }
+    requires takes { P.takes asked.now }
+    requires plain { is_for_agent asked.now ≡ false }
+    ensures whole { OnOk result (ClusterStep (P.state parts.old) (event.Ask agent asked.now draw) (P.state parts.new) true) }
+    ensures cut { OnErr result (FindsNoMemory (event.Ask agent asked.now draw) (P.state parts.old) (P.state parts.new)) }
+{
+    let way = parts.way(alloc, agent, asked)?;
+    ask_by(parts, alloc, way, agent, asked, draw)
+}
+
+/// Makes the event of a request. An agent's is answered by the agent itself.
+#[tactic(none)]
+pub fn request<P: Parts>(
+    parts: &mut P,
+    alloc: Global,
+    agent: u32,
+    asked: &Asked,
+    draw: Draw,
+) -> Result<(), Memory>
+    requires agent { IsAgentNumber (P.state parts.old) agent }
+    requires takes { P.takes asked.now }
+    ensures whole { OnOk result (ClusterStep (P.state parts.old) (event.Ask agent asked.now draw) (P.state parts.new) true) }
+    ensures cut { OnErr result (FindsNoMemory (event.Ask agent asked.now draw) (P.state parts.old) (P.state parts.new)) }
+{
+    if is_for_agent(asked) {
+        happen(parts, alloc, &AgentEvent::Ask { agent, asked, draw })
+    } else {
+        ask_servers(parts, alloc, agent, asked, draw)
+    }
+}
+
 /// Makes the event of a request, and gives its number.
 #[tactic(none)]
 pub fn ask<P: Parts>(
@@ -127,7 +170,6 @@ pub fn ask<P: Parts>(
     ensures number { IfOk result (λ number. number ≡ (P.state parts.new).asked) }
     ensures cut { OnErr result (FindsNoMemory (event.Ask agent asked.now draw) (P.state parts.old) (P.state parts.new)) }
 {
-    let way = parts.way(alloc, agent, asked)?;
-    ask_by(parts, alloc, way, agent, asked, draw)?;
+    request(parts, alloc, agent, asked, draw)?;
     Ok(parts.asked())
 }

@@ -2,6 +2,7 @@
 //! makes up again, and its outs join the tray.
 #![tactic(auto)]
 
+mod agent_event;
 mod asking;
 mod cut;
 mod events;
@@ -9,9 +10,11 @@ mod impulse;
 mod making;
 mod parts;
 mod settling;
+mod syncing;
 mod ticking;
 mod turns;
 
+pub use agent_event::AgentEvent;
 pub use asking::ask;
 pub use cut::Cut;
 pub use events::{beat, deliver, fail_keep, lose, restart, timeout};

@@ -1,19 +1,20 @@
 //! Any event that fits.
 
 ghost use Rattle.std.specs.Prelude.{OnOk, OnErr, true};
-ghost use Rattle.cat_model.specs.declared.request.Event.TheVariants as event;
 ghost use Rattle.cluster_rules.specs.Reached.{Fits};
 ghost use Rattle.cluster_rules.specs.Step.{ClusterStep};
 ghost use Rattle.cluster_turns.specs.Turns.{FindsNoMemory, IsTaken};
 
-use crate::asking::ask;
+use crate::agent_event::AgentEvent;
+use crate::asking::request;
 use crate::events::{beat, deliver, fail_keep, lose, restart, timeout};
 use crate::parts::Parts;
+use crate::syncing::happen;
 use crate::ticking::tick;
-use cat_model::{Asked, Draw, Event, Memory};
+use cat_model::{Event, Memory};
 use std::alloc::Global;
 
-/// Makes an event that fits. Syncs and ticks of agents are not taken so far.
+/// Makes an event that fits.
 pub fn make<P: Parts>(parts: &mut P, alloc: Global, made: &Event) -> Result<(), Memory>
     requires fits { Fits (P.state parts.old) made.now }
     requires taken { IsTaken P.takes made.now }
@@ -28,25 +29,15 @@ pub fn make<P: Parts>(parts: &mut P, alloc: Global, made: &Event) -> Result<(), 
         Event::Drop(number) => lose(parts, alloc, *number),
         Event::Restart(server) => restart(parts, alloc, *server),
         Event::FailKeep(server, nth) => fail_keep(parts, alloc, *server, *nth),
-        Event::Ask { agent, asked, draw } => make_request(parts, alloc, *agent, asked, *draw),
-        Event::Sync(_) | Event::AgentTick(..) => unreachable!(),
-    }
-}
-
-fn make_request<P: Parts>(
-    parts: &mut P,
-    alloc: Global,
-    agent: u32,
-    asked: &Asked,
-    draw: Draw,
-) -> Result<(), Memory>
-    requires fits { Fits (P.state parts.old) (event.Ask agent asked.now draw) }
-    requires taken { P.takes asked.now }
-    ensures whole { OnOk result (ClusterStep (P.state parts.old) (event.Ask agent asked.now draw) (P.state parts.new) true) }
-    ensures cut { OnErr result (FindsNoMemory (event.Ask agent asked.now draw) (P.state parts.old) (P.state parts.new)) }
-{
-    match ask(parts, alloc, agent, asked, draw) {
-        Ok(_) => Ok(()),
-        Err(Memory) => Err(Memory),
+        Event::Ask { agent, asked, draw } => request(parts, alloc, *agent, asked, *draw),
+        Event::Sync(agent) => happen(parts, alloc, &AgentEvent::Sync { agent: *agent }),
+        Event::AgentTick(agent, ms) => happen(
+            parts,
+            alloc,
+            &AgentEvent::Tick {
+                agent: *agent,
+                ms: *ms,
+            },
+        ),
     }
 }

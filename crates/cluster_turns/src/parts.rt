@@ -8,11 +8,13 @@ ghost use Rattle.cluster_rules.specs.Due.{due};
 ghost use Rattle.cluster_rules.specs.Left.{left};
 ghost use Rattle.cluster_rules.specs.Reached.{IsServerNumber, IsAgentNumber, IsUnderWay, Fits};
 ghost use Rattle.cluster_rules.specs.Requests.{refused, Goes};
-ghost use Rattle.cluster_rules.specs.Proposals.{Tends};
+ghost use Rattle.cluster_rules.specs.Proposals.{Tends, is_agents, sync_of};
 ghost use Rattle.cluster_rules.specs.Step.{goes_to, marked, noted, receiver, shelved};
-ghost use Rattle.cluster_turns.specs.Turns.{Turned, Ticks, TendsInPart, ActsWhole, ActsCut, event_of, way_of, GoesBy, IsCome, HandlesNewest, Loses, newest};
+ghost use Rattle.cluster_turns.specs.Turns.{Turned, Ticks, TendsInPart, ActsWhole, ActsCut, event_of, way_of, GoesBy, IsCome, HandlesNewest, IsTaken, Loses, newest};
+ghost use Rattle.cluster_turns.specs.AgentEvents.{IsAlone, IsNoted, SyncsAt, SyncsInPart, SyncsThere, alone, event_of_agent, is_for_agent, sync_way};
 ghost use Rattle.cluster_turns.specs.Pairs.{HasLowest, settled};
 
+use crate::agent_event::AgentEvent;
 use crate::cut::Cut;
 use crate::impulse::Impulse;
 use cat_model::{Asked, Draw, Event, Memory, Refusal};
@@ -108,10 +110,11 @@ pub trait Parts {
         ensures ok { OnOk result (state self.new ≡ settled pairs (state self.old)) }
         ensures err { OnErr result (state self.new ≡ state self.old) };
 
-    /// Where a request goes.
+    /// Where a request goes that no agent answers.
     fn way(&self, alloc: Global, agent: u32, asked: &Asked) -> Result<Way, Memory>
         requires agent { IsAgentNumber (state self.now) agent }
         requires takes { takes asked.now }
+        requires plain { is_for_agent asked.now ≡ false }
         ensures way { IfOk result (λ way. GoesBy agent asked.now (way_of way) (state self.now)) }
         ensures server { IfOk result (λ way. (server : ℕ) → way_of way ≡ Goes server → IsServerNumber (state self.now) server) };
 
@@ -144,6 +147,46 @@ pub trait Parts {
         requires made_up { due server (state self.old) ≡ None }
         ensures ok { OnOk result (HandlesNewest server agent asked.now draw (state self.old) (state self.new)) }
         ensures err { OnErr result (state self.new ≡ state self.old) };
+
+    /// The agent whose sync is a part of the event.
+    fn sync_of(&self, event: &AgentEvent) -> Option<u32>
+        requires fits { Fits (state self.now) (event_of_agent event.now) }
+        requires agents { is_agents (event_of_agent event.now) ≡ true }
+        ensures { result ≡ sync_of (state self.now) (event_of_agent event.now) };
+
+    /// Where an agent's sync goes: to the leader, or nowhere.
+    fn leader_way(&self, agent: u32) -> Way
+        requires { IsAgentNumber (state self.now) agent }
+        ensures way { way_of result ≡ sync_way agent (state self.now) }
+        ensures server { (server : ℕ) → way_of result ≡ Goes server → IsServerNumber (state self.now) server };
+
+    /// Marks an agent's event that goes to no server, a request with its number, and does the agent's own part.
+    /// `leaderless` says that a sync is a part of it, which finds no leader: its out says so.
+    fn do_alone(
+        &mut self,
+        alloc: Global,
+        event: &AgentEvent,
+        leaderless: bool,
+    ) -> Result<(), Memory>
+        requires fits { Fits (state self.old) (event_of_agent event.now) }
+        requires agents { is_agents (event_of_agent event.now) ≡ true }
+        requires takes { IsTaken takes (event_of_agent event.now) }
+        requires alone { IsAlone leaderless (event_of_agent event.now) (state self.old) }
+        ensures ok { OnOk result (state self.new ≡ alone leaderless (event_of_agent event.now) (state self.old)) }
+        ensures err { OnErr result (state self.new ≡ state self.old) };
+
+    /// Gives an agent's request that was marked last its number, does the agent's own part, and then its sync at the
+    /// server.
+    fn sync_at(&mut self, alloc: Global, server: u32, event: &AgentEvent) -> Result<(), Cut>
+        requires server { IsServerNumber (state self.old) server }
+        requires fits { Fits (state self.old) (event_of_agent event.now) }
+        requires agents { is_agents (event_of_agent event.now) ≡ true }
+        requires takes { IsTaken takes (event_of_agent event.now) }
+        requires come { IsNoted (event_of_agent event.now) (state self.old).past }
+        requires goes { SyncsThere server (event_of_agent event.now) (state self.old) }
+        requires made_up { due server (state self.old) ≡ None }
+        ensures whole { OnOk result (SyncsAt server (event_of_agent event.now) (state self.old) (state self.new) true) }
+        ensures cut { IfErr result (λ cut. SyncsInPart server (event_of_agent event.now) cut (state self.old) (state self.new)) };
 
     /// How many requests were asked.
     fn asked(&self) -> u64

@@ -1,5 +1,5 @@
 -- How many marks there are.
-use Rattle.std.proofs.Common.{◌≡◌, ℕ, ◌+◌, ◌≤◌, List, [], ◌∷◌, length, take, drop, refl, arith}
+use Rattle.std.proofs.Common.{◌≡◌, ◌+◌, ◌≤◌, List, [], ◌∷◌, length, take, drop, refl, arith}
 use Rattle.std.proofs.lemmas.List.{length-take, length-drop}
 use Rattle.cat_model.specs.declared.reply.Mark.{Mark}
 use Rattle.cat_model.specs.declared.reply.Mark.TheVariants as mark

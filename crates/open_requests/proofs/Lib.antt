@@ -5,3 +5,4 @@ pub mod Lifting
 pub mod Placing
 pub mod Numbering
 pub mod Amounts
+pub mod LastOut

@@ -8,6 +8,7 @@ use Rattle.cat_model.specs.declared.reply.Mark.TheVariants as mark
 use Rattle.cat_model.specs.declared.request.Asked.{Asked}
 use Rattle.cat_model.specs.declared.request.Draw.{Draw}
 use Rattle.cat_model.specs.declared.request.Event.TheVariants as event
+use Rattle.agent_rules.specs.Agents.{Agent}
 use Rattle.raft_model.specs.Log.{Log}
 use Rattle.raft_model.specs.World.{World}
 use Rattle.cluster_rules.specs.Replies.{Out, number_of}
@@ -74,13 +75,13 @@ halts_joined : (failed : Bool) (i : ℕ) (r : Requests) → joined_in (halted_wi
 halts_joined true i r = refl
 halts_joined false i r = refl
 
-halts_same : (failed : Bool) (i : ℕ) (w : World) (servers : List Server) (r : Requests) (notes : List Note) → cluster_of w servers (record (halted_with failed i r) { notes = notes }) ≡ cluster_of w servers (record r { notes = notes })
-halts_same true i w servers r notes = refl
-halts_same false i w servers r notes = refl
+halts_same : (failed : Bool) (i : ℕ) (w : World) (servers : List Server) (agents : List Agent) (r : Requests) (notes : List Note) → cluster_of w servers agents (record (halted_with failed i r) { notes = notes }) ≡ cluster_of w servers agents (record r { notes = notes })
+halts_same true i w servers agents r notes = refl
+halts_same false i w servers agents r notes = refl
 
-pub moves_by : (failed : Bool) (i : ℕ) (w w' : World) (servers : List Server) (r : Requests) (more : Log) → joined_in r.notes ≡ length w.agreed → w'.agreed ≡ w.agreed ++ more →
-    cluster_of w' servers (with_note (Joined (length more)) (halted_with failed i r)) ≡ moved_with failed i w' (cluster_of w servers r)
-moves_by failed i w w' servers r more h e =
+pub moves_by : (failed : Bool) (i : ℕ) (w w' : World) (servers : List Server) (agents : List Agent) (r : Requests) (more : Log) → joined_in r.notes ≡ length w.agreed → w'.agreed ≡ w.agreed ++ more →
+    cluster_of w' servers agents (with_note (Joined (length more)) (halted_with failed i r)) ≡ moved_with failed i w' (cluster_of w servers agents r)
+moves_by failed i w w' servers agents r more h e =
     let notes = (halted_with failed i r).notes in
     let gone : drop (length w.agreed) w'.agreed ≡ more = ap (drop (length w.agreed)) e ∙ drop_at w.agreed more (length w.agreed) refl in
     let past : past_of w'.agreed (Joined (length more) ∷ notes) ≡ entries_past (drop (length w.agreed) w'.agreed) (halts_past i failed (past_of w.agreed r.notes)) =
@@ -88,8 +89,8 @@ moves_by failed i w w' servers r more h e =
     ∙ past_joined w.agreed more notes (halts_joined failed i r ∙ h)
     ∙ ap (entries_past more) (halts_on failed i w.agreed r)
     ∙ ap (λ l. entries_past l (halts_past i failed (past_of w.agreed r.notes))) (sym gone) in
-    halts_same failed i w' servers r (Joined (length more) ∷ notes)
-    ∙ ap (λ p. record (cluster_of w' servers r) { past = p }) past
+    halts_same failed i w' servers agents r (Joined (length more) ∷ notes)
+    ∙ ap (λ p. record (cluster_of w' servers agents r) { past = p }) past
 
 -- a request that waits for something else
 number_is : (a b : ℕ) → (a == b) ≡ true → a ≡ b
@@ -122,26 +123,26 @@ unique (x ∷ held) a h (inr m) = (λ e. absurd (omega (arith, each_among (λ (g
 pub restands_by : (h : Pending) (stand : Stand) (held : List Pending) → Ascends held → IsAmong h held → map (restood h.question.number stand) held ≡ with_held (record h { stand = stand }) held
 restands_by h stand held a m = restood_each h stand held (unique held a h m)
 
-pub ends_by : (w : World) (servers : List Server) (r : Requests) (i : ℕ) → cluster_of w servers (ended_all i r) ≡ record (cluster_of w servers r) { held = map (ended i (events_in (past_of w.agreed r.notes))) r.held }
-ends_by w servers r i = ap (λ n. record (cluster_of w servers r) { held = map (ended i n) r.held }) (sym (events_counted w.agreed r.notes))
+pub ends_by : (w : World) (servers : List Server) (agents : List Agent) (r : Requests) (i : ℕ) → cluster_of w servers agents (ended_all i r) ≡ record (cluster_of w servers agents r) { held = map (ended i (events_in (past_of w.agreed r.notes))) r.held }
+ends_by w servers agents r i = ap (λ n. record (cluster_of w servers agents r) { held = map (ended i n) r.held }) (sym (events_counted w.agreed r.notes))
 
 taken_past : (log : Log) (out : Option ℕ) (number : ℕ) (notes : List Note) → out ≡ Some number → past_of log (taken_note out notes) ≡ mark.Taken number ∷ past_of log notes
 taken_past log None number notes e = absurd cc
 taken_past log (Some k) number notes e = let same : k ≡ number = cc in ap (λ n. mark.Taken n ∷ past_of log notes) same
 
-pub takes_by : (w : World) (servers : List Server) (old new : Requests) (out : Out) (number : ℕ) → number_of out ≡ Some number → (t : Takes out old new) → cluster_of w servers new ≡ record (cluster_of w servers old) { tray = t.before ++ t.after; past = mark.Taken number ∷ past_of w.agreed old.notes }
-takes_by w servers old new out number e t =
-    ap (cluster_of w servers) t.is ∙ ap (λ p. record (cluster_of w servers old) { tray = t.before ++ t.after; past = p }) (taken_past w.agreed (number_of out) number old.notes e)
+pub takes_by : (w : World) (servers : List Server) (agents : List Agent) (old new : Requests) (out : Out) (number : ℕ) → number_of out ≡ Some number → (t : Takes out old new) → cluster_of w servers agents new ≡ record (cluster_of w servers agents old) { tray = t.before ++ t.after; past = mark.Taken number ∷ past_of w.agreed old.notes }
+takes_by w servers agents old new out number e t =
+    ap (cluster_of w servers agents) t.is ∙ ap (λ p. record (cluster_of w servers agents old) { tray = t.before ++ t.after; past = p }) (taken_past w.agreed (number_of out) number old.notes e)
 
 untaken_past : (log : Log) (out : Option ℕ) (notes : List Note) → out ≡ None → past_of log (taken_note out notes) ≡ past_of log notes
 untaken_past log None notes e = refl
 untaken_past log (Some k) notes e = absurd cc
 
-pub hands_by : (w : World) (servers : List Server) (old new : Requests) (out : Out) → number_of out ≡ None → (t : Takes out old new) → cluster_of w servers new ≡ record (cluster_of w servers old) { tray = t.before ++ t.after }
-hands_by w servers old new out e t =
-    ap (cluster_of w servers) t.is ∙ ap (λ p. record (cluster_of w servers old) { tray = t.before ++ t.after; past = p }) (untaken_past w.agreed (number_of out) old.notes e)
+pub hands_by : (w : World) (servers : List Server) (agents : List Agent) (old new : Requests) (out : Out) → number_of out ≡ None → (t : Takes out old new) → cluster_of w servers agents new ≡ record (cluster_of w servers agents old) { tray = t.before ++ t.after }
+hands_by w servers agents old new out e t =
+    ap (cluster_of w servers agents) t.is ∙ ap (λ p. record (cluster_of w servers agents old) { tray = t.before ++ t.after; past = p }) (untaken_past w.agreed (number_of out) old.notes e)
 
-pub comes_by : (w : World) (servers : List Server) (r : Requests) (agent : ℕ) (asked : Asked) (draw : Draw) → cluster_of w servers (came_with agent asked draw r) ≡ marked (event.Ask agent asked draw) (cluster_of w servers r)
-comes_by w servers r agent asked draw =
+pub comes_by : (w : World) (servers : List Server) (agents : List Agent) (r : Requests) (agent : ℕ) (asked : Asked) (draw : Draw) → cluster_of w servers agents (came_with agent asked draw r) ≡ marked (event.Ask agent asked draw) (cluster_of w servers agents r)
+comes_by w servers agents r agent asked draw =
     let next : r.asked + 1 ≡ suc r.asked = omega arith in
-    ap (λ n. record (cluster_of w servers r) { asked = n; past = mark.Asked n agent asked draw ∷ past_of w.agreed r.notes }) next
+    ap (λ n. record (cluster_of w servers agents r) { asked = n; past = mark.Asked n agent asked draw ∷ past_of w.agreed r.notes }) next

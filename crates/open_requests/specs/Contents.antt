@@ -3,12 +3,12 @@ use Rattle.cat_model.specs.declared.query.Answer.{Answer}
 use Rattle.cat_model.specs.declared.applied.Applied.{Applied}
 use Rattle.cat_model.specs.declared.request.Request.TheVariants.{Read, Write}
 use Rattle.cat_model.specs.declared.request.Asked.{Asked}
-use Rattle.cat_model.specs.declared.request.Asked.TheVariants.{Good, Bad}
+use Rattle.cat_model.specs.declared.request.Asked.TheVariants.{Good}
 use Rattle.cluster_rules.specs.Replies as rules
 use Rattle.cluster_rules.specs.Replies.{Question, entered}
 use Rattle.cluster_rules.specs.Cluster as cluster
 use Rattle.open_requests.specs.declared.content.Content.{Content}
-use Rattle.open_requests.specs.declared.content.Content.TheVariants.{Shows, Tells, Says, Blank}
+use Rattle.open_requests.specs.declared.content.Content.TheVariants.{Shows, Tells, Runs, Renews, Holds, Defers, Says, Blank}
 use Rattle.open_requests.specs.declared.pending.Stand.{Stand}
 use Rattle.open_requests.specs.declared.pending.Stand.TheVariants.{AtPlace, InRound, ForIndex, Ended}
 use Rattle.open_requests.specs.declared.pending.Start.{Start}
@@ -19,6 +19,10 @@ use Rattle.open_requests.specs.declared.out.Given.TheVariants.{Replied, Closed, 
 abbrev pub content_of : Content → rules.Content
 content_of (Shows query raw answer) = rules.Shows query raw answer
 content_of (Tells command applied) = rules.Tells command applied
+content_of (Runs ran) = rules.Runs ran
+content_of (Renews row) = rules.Renews row
+content_of (Holds body) = rules.Holds body
+content_of (Defers command key) = rules.Defers command key
 content_of (Says why) = rules.Says why
 content_of Blank = rules.Blank
 
@@ -37,13 +41,6 @@ abbrev pub out_of : Given → rules.Out
 out_of (Replied reply) = rules.Replied reply
 out_of (Closed number event) = rules.Closed number event
 out_of (Synced agent count) = rules.Synced agent count
-
--- the requests that go to a server, or are none
-abbrev pub HasWay : Asked → Type 0
-HasWay (Good (Read query mode least wait raw)) = Unit {0}
-HasWay (Good (Write command)) = Unit {0}
-HasWay (Good other) = ⊥
-HasWay (Bad why) = Unit {0}
 
 -- what a read shows with this answer
 abbrev pub read_content : Asked → Answer → rules.Content

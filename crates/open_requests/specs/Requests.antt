@@ -1,14 +1,14 @@
--- The requests of a cluster: what the rules' cluster has beside its world and what its servers have applied. `room` is
--- how many calls may still come that take no memory; the rules know nothing of it.
-use Rattle.std.specs.Prelude.{◌≡◌, ℕ, ◌+◌, ◌*◌, ◌-◌, ◌^◌, ◌≤◌, ◌==◌, Bool, true, false, List, [], ◌∷◌, ◌++◌, map, replicate, if◌then◌else◌}
+-- The requests of a cluster: what the rules' cluster has beside its world, its servers and its agents. `room` is how many
+-- calls may still come that take no memory; the rules know nothing of it.
+use Rattle.std.specs.Prelude.{◌≡◌, ℕ, ◌+◌, ◌*◌, ◌-◌, ◌^◌, ◌≤◌, ◌==◌, Bool, true, false, List, [], ◌∷◌, ◌++◌, map, if◌then◌else◌, Option}
 use Rattle.cat_model.specs.declared.request.Asked.{Asked}
 use Rattle.cat_model.specs.declared.request.Draw.{Draw}
 use Rattle.cat_model.specs.declared.request.Event.{Event}
 use Rattle.cat_model.specs.declared.reply.Kind.{Kind}
 use Rattle.cat_model.specs.declared.reply.Mark.{Mark}
 use Rattle.cat_model.specs.declared.reply.Mark.TheVariants as mark
-use Rattle.agent_rules.specs.Agents.{new_agent}
-use Rattle.cluster_rules.specs.Replies.{Question, Content, Reply, Out, Replied, Closed, index_shown}
+use Rattle.agent_rules.specs.Agents.{Agent}
+use Rattle.cluster_rules.specs.Replies.{Question, Content, Reply, Out, Replied, Closed, Synced, index_shown}
 use Rattle.cluster_rules.specs.Cluster.{Cluster, Pending, Server, Stand, Start}
 use Rattle.cluster_rules.specs.Due.{without, put_out}
 use Rattle.cluster_rules.specs.Step.{ended}
@@ -18,7 +18,6 @@ use Rattle.open_requests.specs.declared.note.Note.TheVariants.{Marked}
 use Rattle.open_requests.specs.Notes.{past_of, before_made, events_noted, in_place}
 
 pub record Requests : Type 0 where
-  pub agents : ℕ
   pub asked : ℕ  -- how many requests were asked
   pub held : List Pending  -- in the order of their numbers
   pub starts : List Start  -- the last one first
@@ -27,12 +26,12 @@ pub record Requests : Type 0 where
   pub notes : List Note  -- the last one first
   pub room : ℕ
 
--- The cluster of these requests.
-abbrev pub cluster_of : World → List Server → Requests → Cluster
-cluster_of world servers r = record {
+-- The cluster of these requests, in its world and with its servers and agents.
+abbrev pub cluster_of : World → List Server → List Agent → Requests → Cluster
+cluster_of world servers agents r = record {
   world = world;
   servers = servers;
-  agents = replicate r.agents new_agent;
+  agents = agents;
   asked = r.asked;
   held = r.held;
   starts = r.starts;
@@ -42,8 +41,8 @@ cluster_of world servers r = record {
 }
 
 -- no request was asked
-abbrev pub empty : ℕ → Requests
-empty agents = record { agents = agents; asked = 0; held = []; starts = []; fresh = []; tray = []; notes = []; room = 0 }
+abbrev pub empty : Requests
+empty = record { asked = 0; held = []; starts = []; fresh = []; tray = []; notes = []; room = 0 }
 
 abbrev pub with_note : Note → Requests → Requests
 with_note note r = record r { notes = note ∷ r.notes }
@@ -67,6 +66,10 @@ forgotten r = record r { notes = before_made r.notes }
 abbrev pub reply_with : ℕ → Kind → Bool → ℕ → Content → Reply
 reply_with number kind known contact content = record { number = number; index = index_shown kind; content = content; known = known; contact = contact; kind = kind }
 
+-- the reply names its kind's index, and its mark says what it rests on
+abbrev pub IsMarked : Reply → Kind → Type 0
+IsMarked reply marked = (reply.index ≡ index_shown reply.kind) × (marked ≡ reply.kind)
+
 -- a request is let go of for its reply
 abbrev pub given_with : Reply → Mark → Requests → Requests
 given_with reply m r = record r { held = without reply.number r.held; fresh = put_out (Replied reply) r.fresh; notes = Marked m ∷ r.notes }
@@ -83,6 +86,10 @@ answered_with number kind known contact content r =
 -- the request of this number is closed
 abbrev pub closed_with : ℕ → ℕ → Requests → Requests
 closed_with number event r = record r { held = without number r.held; fresh = put_out (Closed number event) r.fresh }
+
+-- it is told how many commands an agent's sync proposed, or that it found no leader
+abbrev pub told_sync : ℕ → Option ℕ → Requests → Requests
+told_sync agent count r = record r { fresh = put_out (Synced agent count) r.fresh }
 
 -- server i begins to hold the request
 abbrev pub holding_with : Question → ℕ → Stand → Start → Requests → Requests

@@ -1,4 +1,4 @@
-use cat_model::{Answer, Applied, Command, Query, Refusal};
+use cat_model::{Answer, Applied, Bytes, Command, Query, Ran, Refusal, SessionRow, Text};
 
 /// What a reply shows. Its status, body and form are a function of it.
 #[derive(Debug, Drop)]
@@ -13,6 +13,17 @@ pub enum Content {
     Tells {
         command: Command,
         applied: Applied,
+    },
+    /// What the execution of a prepared query gives, if there is one of that name or identifier.
+    Runs(Option<Ran>),
+    /// The session that was renewed, if there is one of that identifier.
+    Renews(Option<SessionRow>),
+    /// An agent's answer: its rows as JSON, or nothing of a change.
+    Holds(Bytes),
+    /// The command as it would have entered the log, but that the lock delay of this key is not over.
+    Defers {
+        command: Command,
+        key: Text,
     },
     Says(Refusal),
     /// What no reply of a cluster shows.

@@ -1,8 +1,8 @@
 //! Copies of requests.
 
 ghost use Rattle.std.specs.Prelude.{◌≡◌, IfOk};
-ghost use Rattle.open_requests.specs.Contents.{HasWay};
 
+use crate::agent_copies::copy_op;
 use cat_model::{Asked, Command, Kind, Memory, Query, Refusal, Request};
 
 fn copy_command(command: &Command) -> Result<Command, Memory>
@@ -74,7 +74,6 @@ pub fn copy_query(query: &Query) -> Result<Query, Memory>
 }
 
 fn copy_request(request: &Request) -> Result<Request, Memory>
-    requires { HasWay (Asked.Good request.now) }
     ensures { IfOk result (λ copy. copy ≡ request.now) }
 {
     match request {
@@ -94,13 +93,18 @@ fn copy_request(request: &Request) -> Result<Request, Memory>
         Request::Write { command } => Ok(Request::Write {
             command: copy_command(command)?,
         }),
-        _ => unreachable!(),
+        Request::Execute { name, limit, mode } => Ok(Request::Execute {
+            name: name.clone()?,
+            limit: *limit,
+            mode: *mode,
+        }),
+        Request::Renew { id } => Ok(Request::Renew { id: *id }),
+        Request::Agent(op) => Ok(Request::Agent(copy_op(op)?)),
     }
 }
 
-/// A copy of what was asked, where it has a way.
+/// A copy of what was asked.
 pub fn copy_asked(asked: &Asked) -> Result<Asked, Memory>
-    requires { HasWay asked.now }
     ensures { IfOk result (λ copy. copy ≡ asked.now) }
 {
     match asked {

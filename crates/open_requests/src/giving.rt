@@ -1,9 +1,9 @@
 //! The outs of an event, and those that wait to be taken.
 
-ghost use Rattle.std.specs.Prelude.{◌≡◌, ◌+◌, ◌<◌, ◌≤◌, [], ◌++◌, length, vec_len, vec_capacity};
+ghost use Rattle.std.specs.Prelude.{◌≡◌, ◌+◌, ◌<◌, ◌≤◌, List, [], ◌∷◌, ◌++◌, length, vec_len, vec_capacity};
 ghost use Rattle.std.specs.List.{position, position_or_len};
 ghost use Rattle.std.specs.VecDeque.{deque_len, deque_capacity};
-ghost use Rattle.cluster_rules.specs.Replies.{number_of};
+ghost use Rattle.cluster_rules.specs.Replies.{Out as OutValue, number_of};
 ghost use Rattle.cluster_rules.specs.Due.{is_before, put_out};
 ghost use Rattle.open_requests.specs.Taking.{is_of};
 
@@ -50,6 +50,17 @@ pub fn put(fresh: &mut Vec<Out>, out: Out)
     let Ok(()) = fresh.insert(at, out) else {
         unreachable!()
     };
+}
+
+/// Takes back the last of the outs of an event.
+#[tactic(auto, using(crate::proofs::LastOut::but_last))]
+pub fn take_back(fresh: &mut Vec<Out>)
+    requires { 0 < vec_len fresh.old }
+    ensures items { (outs : List OutValue) (out : OutValue) → fresh.old.items ≡ outs ++ out ∷ [] → fresh.new.items ≡ outs }
+    ensures len { vec_len fresh.new + 1 ≡ vec_len fresh.old }
+    ensures capacity { vec_capacity fresh.old ≤ vec_capacity fresh.new }
+{
+    let _last = fresh.pop();
 }
 
 /// Puts the outs of an event into the tray. There is room for them, so that it takes no memory.

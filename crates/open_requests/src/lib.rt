@@ -1,6 +1,8 @@
 //! The requests of a cluster: those that are held, the outs that wait to be taken, and the marks of what has happened.
 #![tactic(auto)]
 
+mod agent_copies;
+mod answering;
 mod collected;
 mod content;
 mod copies;
@@ -8,6 +10,7 @@ mod giving;
 mod history;
 mod holding;
 pub mod laws;
+mod marked;
 mod note;
 mod noting;
 mod out;
@@ -16,10 +19,12 @@ mod plain;
 mod question;
 mod requests;
 mod room;
+mod syncs;
 
 pub use collected::{Awaits, Collected};
 pub use content::Content;
 pub use copies::copy_asked;
+pub use marked::MarkedReply;
 pub use note::Note;
 pub use out::{Given, Out, Reply};
 pub use pending::{Pending, Stand, Start};

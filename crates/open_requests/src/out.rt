@@ -1,13 +1,11 @@
-ghost use Rattle.std.specs.Prelude.{◌≡◌, IfOk};
-ghost use Rattle.cat_model.specs.declared.reply.Mark.TheVariants as mark;
+ghost use Rattle.std.specs.Prelude.{◌≡◌};
 ghost use Rattle.cluster_rules.specs.Replies.{index_shown, number_of};
 ghost use Rattle.open_requests.specs.Contents.{content_of, out_of};
 ghost use Rattle.open_requests.specs.Requests.{reply_with};
 ghost use Rattle.open_requests.specs.Taking.{is_of};
 
 use crate::content::Content;
-use crate::copies::copy_kind;
-use cat_model::{Kind, Mark, Memory};
+use cat_model::Kind;
 use std::marker::Model;
 
 // The index that a reply names, which is that of a read.
@@ -87,18 +85,6 @@ impl Reply {
         ensures { result ≡ self.now.contact }
     {
         self.contact
-    }
-
-    /// The mark of this answer.
-    pub fn mark(&self) -> Result<Mark, Memory>
-        ensures { IfOk result (λ m. m ≡ mark.Answered self.now.number self.now.kind self.now.known self.now.contact) }
-    {
-        Ok(Mark::Answered {
-            number: self.number,
-            kind: copy_kind(&self.kind)?,
-            known_leader: self.known,
-            last_contact: self.contact,
-        })
     }
 
     /// What it rests on.

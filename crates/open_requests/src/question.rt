@@ -1,5 +1,5 @@
 ghost use Rattle.std.specs.Prelude.{◌≡◌, IfOk};
-ghost use Rattle.open_requests.specs.Contents.{HasWay, content_of, read_content};
+ghost use Rattle.open_requests.specs.Contents.{content_of, read_content};
 ghost use Rattle.open_requests.specs.Taking.{least_of};
 
 use crate::content::Content;
@@ -70,9 +70,8 @@ impl Question {
         }
     }
 
-    /// A copy of a request that has a way.
+    /// A copy of this request.
     pub fn copy(&self) -> Result<Question, Memory>
-        requires { HasWay self.now.asked }
         ensures { IfOk result (λ copy. copy ≡ self.now) }
     {
         let asked = copy_asked(&self.asked)?;

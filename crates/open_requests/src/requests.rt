@@ -1,28 +1,23 @@
 //! The requests of a cluster.
 
-ghost use Rattle.std.specs.Prelude.{◌≡◌, ◌<◌, ◌≤◌, ◌+◌, [], ◌∷◌, IfOk, IfSome, IfNone, None, Some, OnOk, OnErr, false, true, length, map, reverse};
+ghost use Rattle.std.specs.Prelude.{◌≡◌, ◌<◌, ◌+◌, [], ◌∷◌, IfOk, IfSome, IfNone, None, Some, OnOk, OnErr, true, length, map, reverse};
 ghost use Rattle.cat_model.specs.declared.reply.Mark.TheVariants as mark;
 ghost use Rattle.open_requests.specs.declared.note.Note.TheVariants as notes;
-ghost use Rattle.open_requests.specs.Contents.{HasWay, content_of, stand_of, start_of};
+ghost use Rattle.open_requests.specs.Contents.{stand_of, start_of};
 ghost use Rattle.std.specs.List.{position};
-ghost use Rattle.cluster_rules.specs.Replies.{Says};
-ghost use Rattle.open_requests.specs.Notes.{IsJustMade, IsMadeLast, event_of, events_noted, past_of};
-ghost use Rattle.open_requests.specs.Plain.{refusal_of};
-ghost use Rattle.open_requests.specs.Requests.{answered_with, came_with, closed_with, empty, ended_all, forgotten, holding_with, noted, numbered_with, reply_with, restood, shelved_all, used, with_note, given_with};
+ghost use Rattle.open_requests.specs.Notes.{IsJustMade, IsMadeLast, events_noted, past_of};
+ghost use Rattle.open_requests.specs.Requests.{came_with, empty, ended_all, forgotten, holding_with, noted, numbered_with, restood, shelved_all, used, with_note};
 ghost use Rattle.open_requests.specs.Taking.{IsCollected, TakesAt, TakesFirst, is_of};
 
 use crate::collected::Collected;
-use crate::content::Content;
-use crate::copies::{copy_asked, copy_refusal};
 use crate::history::marks_of;
 use crate::note::Note;
-use crate::out::{Given, Out, Reply};
+use crate::out::{Given, Out};
 use crate::pending::{Pending, Stand, Start};
-use crate::plain::Plain;
 use crate::question::Question;
 use crate::room::reserve;
 use crate::{giving, holding, noting};
-use cat_model::{Asked, Draw, Entry, Event, Kind, List, Mark, Memory, Refusal};
+use cat_model::{Asked, Draw, Entry, Event, List, Mark, Memory};
 use std::alloc::Global;
 use std::collections::VecDeque;
 use std::marker::Model;
@@ -35,15 +30,14 @@ const CALLS: u64 = 4;
 /// Some calls take no memory, so that they can follow what can't be undone. `prepare` takes the room for four of them.
 #[derive(Drop)]
 pub struct Requests {
-    agents: u32,
-    asked: u64,
-    events: u64,
-    held: Vec<Pending>,
-    starts: Vec<Start>,
-    fresh: Vec<Out>,
-    tray: VecDeque<Out>,
-    notes: Vec<Note>,
-    room: u64,
+    pub(crate) asked: u64,
+    pub(crate) events: u64,
+    pub(crate) held: Vec<Pending>,
+    pub(crate) starts: Vec<Start>,
+    pub(crate) fresh: Vec<Out>,
+    pub(crate) tray: VecDeque<Out>,
+    pub(crate) notes: Vec<Note>,
+    pub(crate) room: u64,
 }
 
 impl Model for Requests {
@@ -56,7 +50,6 @@ impl Model for Requests {
     ghost use Rattle.open_requests.specs.Contents.{start_of};
 
     ghost view = { λ r. record {
-      agents = r.agents;
       asked = r.asked;
       held = r.held.items;
       starts = reverse (map start_of r.starts.items);
@@ -71,35 +64,12 @@ impl Model for Requests {
         × spec.HasNumbers r.room r.asked r.events (reverse r.notes.items) };
 }
 
-// Lets go of a reply that is not given.
-fn discard_reply(_reply: Reply) {}
-
-fn discard_asked(_asked: Asked) {}
-
-// The reply of a refusal, and its mark.
-fn refusing(number: u64, why: &Refusal) -> Result<(Reply, Mark), Memory>
-    ensures reply { IfOk result (λ r. r.0 ≡ reply_with number (Kind.Refused why.now) false 0 (Says why.now)) }
-    ensures mark { IfOk result (λ r. r.1 ≡ mark.Answered number (Kind.Refused why.now) false 0) }
-{
-    let kind = Kind::Refused(copy_refusal(why)?);
-    let content = Content::Says(copy_refusal(why)?);
-    let reply = Reply::new(number, kind, false, 0, content);
-    match reply.mark() {
-        Ok(mark) => Ok((reply, mark)),
-        Err(Memory) => {
-            discard_reply(reply);
-            Err(Memory)
-        }
-    }
-}
-
 impl Requests {
-    /// No requests, in a cluster of so many agents.
-    pub fn new(alloc: Global, agents: u32) -> Requests
-        ensures { result ≡ empty agents }
+    /// No requests.
+    pub fn new(alloc: Global) -> Requests
+        ensures { result ≡ empty }
     {
         Requests {
-            agents,
             asked: 0,
             events: 0,
             held: Vec::new(alloc),
@@ -139,8 +109,8 @@ impl Requests {
         self.make_room(CALLS)
     }
 
-    // Takes the room for one call more.
-    fn prepare_one(&mut self) -> Result<(), Memory>
+    /// Takes the room for one call more.
+    pub(crate) fn prepare_one(&mut self) -> Result<(), Memory>
         ensures ok { OnOk result (self.new ≡ record self.old { room = self.old.room + 1 }) }
         ensures err { OnErr result (self.new ≡ self.old) }
     {
@@ -150,10 +120,15 @@ impl Requests {
         }
     }
 
-    pub fn agents(&self) -> u32
-        ensures { result ≡ self.now.agents }
+    /// Takes the room for two calls more.
+    pub(crate) fn prepare_two(&mut self) -> Result<(), Memory>
+        ensures ok { OnOk result (self.new ≡ record self.old { room = self.old.room + 2 }) }
+        ensures err { OnErr result (self.new ≡ self.old) }
     {
-        self.agents
+        match self.room.checked_add(2) {
+            Some(room) => self.make_room(room),
+            None => Err(Memory),
+        }
     }
 
     /// How many requests were asked.
@@ -290,152 +265,13 @@ impl Requests {
         self.room -= 1;
     }
 
-    // Lets go of a request for its reply and the note of the answer. There is room for them.
-    fn give(&mut self, reply: Reply, mark: Mark)
-        requires room { 0 < self.old.room }
-        requires kind { event_of mark ≡ 0 }
-        ensures { self.new ≡ used (given_with reply mark self.old) }
-    {
-        holding::let_go(&mut self.held, reply.number());
-        giving::put(&mut self.fresh, Out::new(Given::Replied(reply)));
-        noting::add(&mut self.notes, Note::Marked(mark));
-        self.room -= 1;
-    }
-
-    // Answers a request by this reply. There is room for it.
-    fn give_marked(&mut self, reply: Reply) -> Result<(), Memory>
+    /// Keeps what the act of a request's asking did. There is room for it, so that it takes no memory.
+    pub fn start(&mut self, start: Start)
         requires { 0 < self.old.room }
-        ensures ok { OnOk result (self.new ≡ used (given_with reply (mark.Answered reply.number reply.kind reply.known reply.contact) self.old)) }
-        ensures err { OnErr result (self.new ≡ used self.old) }
+        ensures { self.new ≡ used (record self.old { starts = start_of start ∷ self.old.starts }) }
     {
-        match reply.mark() {
-            Ok(mark) => {
-                self.give(reply, mark);
-                Ok(())
-            }
-            Err(Memory) => {
-                discard_reply(reply);
-                self.room -= 1;
-                Err(Memory)
-            }
-        }
-    }
-
-    // Answers a request by this reply.
-    fn answer_by(&mut self, reply: Reply) -> Result<(), Memory>
-        ensures ok { OnOk result (self.new ≡ given_with reply (mark.Answered reply.number reply.kind reply.known reply.contact) self.old) }
-        ensures err { OnErr result (self.new ≡ self.old) }
-    {
-        match self.prepare_one() {
-            Ok(()) => self.give_marked(reply),
-            Err(Memory) => {
-                discard_reply(reply);
-                Err(Memory)
-            }
-        }
-    }
-
-    /// Answers a request by a reply that rests on this kind and shows this content.
-    pub fn answer(
-        &mut self,
-        number: u64,
-        kind: Kind,
-        known: bool,
-        contact: u64,
-        content: Content,
-    ) -> Result<(), Memory>
-        ensures ok { OnOk result (self.new ≡ answered_with number kind known contact (content_of content) self.old) }
-        ensures err { OnErr result (self.new ≡ self.old) }
-    {
-        self.answer_by(Reply::new(number, kind, known, contact, content))
-    }
-
-    // Takes the room for two calls more.
-    fn prepare_two(&mut self) -> Result<(), Memory>
-        ensures ok { OnOk result (self.new ≡ record self.old { room = self.old.room + 2 }) }
-        ensures err { OnErr result (self.new ≡ self.old) }
-    {
-        match self.room.checked_add(2) {
-            Some(room) => self.make_room(room),
-            None => Err(Memory),
-        }
-    }
-
-    // Marks a request that comes with its number, and refuses it. There is room for it, which is given back where
-    // there is no memory.
-    fn come_with(
-        &mut self,
-        agent: u32,
-        asked: Asked,
-        draw: Draw,
-        why: &Refusal,
-    ) -> Result<(), Memory>
-        requires { 2 ≤ self.old.room }
-        ensures ok { OnOk result (self.new ≡ used (answered_with (self.old.asked + 1) (Kind.Refused why.now) false 0 (Says why.now) (used (came_with agent asked draw self.old)))) }
-        ensures err { OnErr result (self.new ≡ used (used self.old)) }
-    {
-        match refusing(self.asked + 1, why) {
-            Ok((reply, mark)) => {
-                self.come(agent, asked, draw);
-                self.give(reply, mark);
-                Ok(())
-            }
-            Err(Memory) => {
-                discard_asked(asked);
-                self.room -= 2;
-                Err(Memory)
-            }
-        }
-    }
-
-    /// Marks a request that comes with its number, and refuses it.
-    pub fn come_refused(
-        &mut self,
-        agent: u32,
-        asked: &Asked,
-        draw: Draw,
-        why: &Refusal,
-    ) -> Result<(), Memory>
-        requires { HasWay asked.now }
-        ensures ok { OnOk result (self.new ≡ answered_with (self.old.asked + 1) (Kind.Refused why.now) false 0 (Says why.now) (came_with agent asked.now draw self.old)) }
-        ensures err { OnErr result (self.new ≡ self.old) }
-    {
-        self.prepare_two()?;
-        match copy_asked(asked) {
-            Ok(copy) => self.come_with(agent, copy, draw, why),
-            Err(Memory) => {
-                self.room -= 2;
-                Err(Memory)
-            }
-        }
-    }
-
-    /// Refuses a request for a cause that has no text. There is room for it, so that it takes no memory.
-    pub fn refuse(&mut self, number: u64, why: Plain)
-        requires { 0 < self.old.room }
-        ensures { self.new ≡ used (answered_with number (Kind.Refused (refusal_of why)) false 0 (Says (refusal_of why)) self.old) }
-    {
-        let mark = Mark::Answered {
-            number,
-            kind: Kind::Refused(why.refusal()),
-            known_leader: false,
-            last_contact: 0,
-        };
-        let content = Content::Says(why.refusal());
-        let reply = Reply::new(number, Kind::Refused(why.refusal()), false, 0, content);
-        self.give(reply, mark);
-    }
-
-    /// Closes a request, since its server restarted in the event with this number.
-    pub fn close(&mut self, number: u64, event: u64) -> Result<(), Memory>
-        ensures ok { OnOk result (self.new ≡ closed_with number event self.old) }
-        ensures err { OnErr result (self.new ≡ self.old) }
-    {
-        self.prepare_one()?;
-        holding::let_go(&mut self.held, number);
-        giving::put(&mut self.fresh, Out::new(Given::Closed { number, event }));
+        self.starts.push_reserved(start);
         self.room -= 1;
-        Ok(())
     }
 
     /// The held request of a number waits for something else.

@@ -9,7 +9,8 @@ use Rattle.cat_model.specs.declared.request.Event.TheVariants as event
 use Rattle.cat_model.specs.declared.reply.Kind.TheVariants.{At}
 use Rattle.cat_model.specs.declared.reply.Mark.{Mark}
 use Rattle.cat_model.specs.declared.reply.Mark.TheVariants as mark
-use Rattle.cluster_rules.specs.Cluster.{Cluster}
+use Rattle.raft_model.specs.declared.message.Round.{Round}
+use Rattle.cluster_rules.specs.Cluster.{Start, Probed, Looked, Cluster}
 use Rattle.cluster_rules.specs.Replies.{Question, came}
 use Rattle.cluster_rules.specs.Requests.{wait_of}
 use Rattle.cluster_rules.specs.Sound.{IsAmong, LookedBefore, entries_before}
@@ -31,18 +32,22 @@ abbrev pub IsReadFor : Asked → (ℕ → ℕ → Type 0) → Type 0
 IsReadFor (Good (Read query mode least wait raw)) P = P least wait
 IsReadFor other P = ⊥
 
--- Of request k, which gives this index and this wait: the index of its answer is above the one given, or by the clock of
--- a server its full wait is over.
-abbrev pub HasWaited : ℕ → ℕ → List Mark → ℕ → ℕ → Type 0
-HasWaited k index past least wait =
-    (least < index) ⊎ ((s : ℕ) × (asked : ℕ) × WasAskedAt k s asked past × (asked + wait_of wait ≤ clock_in s past))
+-- Server s held request k: it looked for the answer when it was asked, or began a round for it.
+abbrev pub HeldBy : ℕ → ℕ → List Start → Type 0
+HeldBy k s starts = ((applied : ℕ) × IsAmong (Looked k s applied) starts) ⊎ ((round : Round) × IsAmong (Probed k s round) starts)
+
+-- Of request k, which gives this index and this wait: the index of its answer is above the one given, or its full wait is
+-- over by the clock of the server that held it.
+abbrev pub HasWaited : ℕ → ℕ → List Start → List Mark → ℕ → ℕ → Type 0
+HasWaited k index starts past least wait =
+    (least < index) ⊎ ((s : ℕ) × (asked : ℕ) × HeldBy k s starts × WasAskedAt k s asked past × (asked + wait_of wait ≤ clock_in s past))
 
 -- each answer to a read, with what was marked before it
-abbrev pub ReadsWait : List Mark → Type 0
-ReadsWait [] = Unit {0}
-ReadsWait (mark.Answered number (At mode prefix index clock deadline) known contact ∷ past) =
-    ((q : Question) × IsAmong (came q) past × (q.number ≡ number) × IsReadFor q.asked (HasWaited number index past)) × ReadsWait past
-ReadsWait (other ∷ past) = ReadsWait past
+abbrev pub ReadsWait : List Start → List Mark → Type 0
+ReadsWait starts [] = Unit {0}
+ReadsWait starts (mark.Answered number (At mode prefix index clock deadline) known contact ∷ past) =
+    ((q : Question) × IsAmong (came q) past × (q.number ≡ number) × IsReadFor q.asked (HasWaited number index starts past)) × ReadsWait starts past
+ReadsWait starts (other ∷ past) = ReadsWait starts past
 
 -- A consistent read's prefix is no shorter than what was agreed when it was asked. That of any other is no shorter than
 -- what its server had applied then.

@@ -10,7 +10,7 @@ ghost use Rattle.read_rules.specs.Reads.{ReadsAreFresh, ReadsWait};
 /// that held it, counted from when it was asked.
 #[tactic(auto, using(crate::proofs::Waiting::run_waits))]
 pub fn reads_wait()
-    ensures { (start : Cluster) → IsStart start → (moves : List Move) (c : Cluster) → Reached start true moves c → ReadsWait c.past }
+    ensures { (start : Cluster) → IsStart start → (moves : List Move) (c : Cluster) → Reached start true moves c → ReadsWait c.starts c.past }
 {}
 
 /// A consistent read shows no less than what was agreed when it was asked, a default or stale one no less than what its

@@ -5,6 +5,7 @@ mod copies;
 mod delays;
 pub mod laws;
 mod locking;
+mod node_rows;
 mod office;
 mod quiet;
 mod removing;

@@ -9,13 +9,15 @@ ghost use Rattle.cat_model.specs.Indexes.{index_of};
 ghost use Rattle.key_commands.specs.Firing.{FiresJust};
 ghost use Rattle.catalog_query.specs.Standing.{Stands};
 ghost use Rattle.catalog_store.specs.Taken.{is_taken};
+ghost use Rattle.agent_rules.specs.Agents.{remote_of};
 ghost use Rattle.office_rules.specs.Offices.{delay_over, has_removed};
 ghost use Rattle.replica.specs.States.{nothing_applied, applied_at, last_reply};
 
 use crate::delays::Delays;
+use crate::node_rows::rows_of_node;
 use crate::{copies, quiet, removing};
 use cat_model::{
-    Answer, Applied, Chan, Command, Fired, List, Memory, Query, Ran, SessionRow, Steps,
+    Answer, Applied, Chan, Command, Fired, List, Memory, Query, Ran, Remote, SessionRow, Steps,
 };
 use catalog_query::{ExecuteFault, View};
 use catalog_store::Store;
@@ -204,5 +206,12 @@ impl Replica {
             Err(ExecuteFault::Unknown) => Ok(None),
             Err(ExecuteFault::Memory) => Err(Memory),
         }
+    }
+
+    /// Copies of the rows that the catalog of all that is applied has of this node.
+    pub fn remote(&self, alloc: Global, node: &str) -> Result<Remote, Memory>
+        ensures { IfOk result (λ r. r ≡ remote_of node.now (catalog_at self.now.commands)) }
+    {
+        rows_of_node(alloc, self.store.catalog(), node)
     }
 }

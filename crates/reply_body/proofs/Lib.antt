@@ -1,3 +1,4 @@
 pub mod Items
+pub mod Locking
 pub mod Plain
 pub mod Statuses

@@ -14,10 +14,12 @@ use Rattle.cat_model.specs.declared.row.QueryRow.{QueryRow}
 use Rattle.cat_model.specs.declared.query.CheckView.{CheckView}
 use Rattle.cat_model.specs.declared.query.NameTags.{NameTags}
 use Rattle.cat_model.specs.declared.query.Instance.{Instance}
+use Rattle.cat_model.specs.declared.query.Ran.{Ran}
 use Rattle.cat_model.specs.declared.applied.TxnResult.{TxnResult}
 use Rattle.cat_model.specs.declared.command.Verb.{Verb}
 use Rattle.reply_body.specs.Bodies.{row_data, rows_data, value_data, session_member}
 use Rattle.reply_body.specs.Rows.{names_data, node_data, service_data, instance_data, check_data, health_data, session_data, query_data, put_each, by_name, services_data, node_view_data}
+use Rattle.reply_body.specs.Others.{ran_data, delay_data}
 use Rattle.reply_body.specs.Writes.{id_data, shown_row, result_data, results_data, failure_data}
 
 -- a list whose items have none
@@ -142,3 +144,14 @@ instances_plain rows = items_plain instance_data instance_plain rows
 
 pub healths_plain : (rows : List Instance) → has_float (array (items_of (map health_data rows))) ≡ false
 healths_plain rows = items_plain health_data health_plain rows
+
+pub ran_plain : (ran : Ran) → has_float (ran_data ran) ≡ false
+unfolding ran_data
+ran_plain ran = rw (healths_plain ran.nodes) refl
+
+pub renewed_plain : (row : SessionRow) → has_float (array (items_of (session_data row ∷ []))) ≡ false
+renewed_plain row = sessions_plain (row ∷ [])
+
+pub delay_plain : (op : ℕ) → has_float (delay_data op) ≡ false
+unfolding delay_data
+delay_plain op = refl

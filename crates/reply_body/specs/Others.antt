@@ -1,5 +1,5 @@
 -- What executions, renewals, agents' answers and delayed writes show: Consul's HTTP API version 1, the endpoints of
--- prepared queries, sessions, agents, the KV store and transactions. No code writes these so far.
+-- prepared queries, sessions, agents, the KV store and transactions.
 use Rattle.std.specs.Prelude.{ℕ, ◌+◌, ◌==◌, ◌&&◌, false, if◌then◌else◌, List, [], ◌∷◌, length, map, Option, None, Some, codes}
 use Rattle.serde_json.specs.Data.{Data, null, number, string, array, object, unsigned, member, no_members, item, no_items}
 use Rattle.serde_json.specs.View.{items_of}

@@ -1,6 +1,6 @@
 -- The JSON of the catalog's rows, as Consul's HTTP API version 1 shows them, with the members of an object in byte
 -- order. There is one datacenter, `dc1`.
-use Rattle.std.specs.Prelude.{ℕ, ◌*◌, ◌/◌, ◌%◌, ◌==◌, Bool, if◌then◌else◌, List, [], ◌∷◌, ◌++◌, map, min, Option, None, Some, codes, decimal}
+use Rattle.std.specs.Prelude.{ℕ, ◌*◌, ◌/◌, ◌%◌, ◌==◌, if◌then◌else◌, List, [], ◌∷◌, ◌++◌, map, min, Option, None, Some, codes, decimal}
 use Rattle.serde_json.specs.Data.{Data, null, boolean, number, string, array, object, unsigned, Members, member, no_members, put}
 use Rattle.serde_json.specs.View.{items_of}
 use Rattle.cat_model.specs.declared.row.NodeRow.{NodeRow}

@@ -1,6 +1,6 @@
 -- What the catalog's answers to writes show: Consul's HTTP API version 1, the endpoints of the catalog, the KV store,
 -- sessions, prepared queries and transactions.
-use Rattle.std.specs.Prelude.{ℕ, Bool, true, false, if◌then◌else◌, List, [], ◌∷◌, ◌++◌, map, codes}
+use Rattle.std.specs.Prelude.{ℕ, Bool, true, false, if◌then◌else◌, List, [], ◌++◌, map, codes}
 use Rattle.serde_json.specs.Data.{Data, null, number, string, array, object, unsigned, member, no_members, item, no_items}
 use Rattle.serde_json.specs.View.{items_of}
 use Rattle.cat_model.specs.declared.applied.Applied.{Applied}

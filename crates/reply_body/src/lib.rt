@@ -7,6 +7,7 @@ mod content;
 mod given;
 mod json;
 mod named;
+mod others;
 mod reads;
 mod refusals;
 mod rows;

@@ -20,7 +20,8 @@ fn behavior_name(behavior: Behavior) -> &'static str
     }
 }
 
-fn duration(alloc: Global, ms: u64) -> Result<String, AllocError>
+/// A time in milliseconds, which is empty where there is none.
+pub(crate) fn duration(alloc: Global, ms: u64) -> Result<String, AllocError>
     ensures { IfOk result (λ text. string_bytes text ≡ duration_text ms) }
 {
     if ms == 0 {
@@ -40,7 +41,7 @@ fn delay_in_nanoseconds(ms: u64) -> u64
 }
 
 #[tactic(auto, unfolding(crate::specs::Rows::session_data))]
-fn session_json(alloc: Global, row: &SessionRow) -> Result<Value, AllocError>
+pub(crate) fn session_json(alloc: Global, row: &SessionRow) -> Result<Value, AllocError>
     ensures { IfOk result (λ json. view json ≡ session_data row.now) }
 {
     let checks = names_json(alloc, row.checks.as_slice())?;

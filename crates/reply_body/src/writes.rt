@@ -22,7 +22,8 @@ fn yes(alloc: Global) -> Result<Shown, Memory>
     })
 }
 
-fn no(alloc: Global) -> Result<Shown, Memory>
+/// That a write was not done.
+pub(crate) fn no(alloc: Global) -> Result<Shown, Memory>
     ensures { IfOk result (λ shown. shown ≡ shown_bool false) }
 {
     Ok(Shown {

@@ -120,8 +120,8 @@ line_fine number seed bytes =
 pub built_is_played : (made : Event) → is_built made ≡ true → IsPlayed made
 built_is_played (event.Ask agent (Good request) draw) e = e
 built_is_played (event.Ask agent (Bad why) draw) e = tt
-built_is_played (event.Sync agent) e = absurd (cc e)
-built_is_played (event.AgentTick agent ms) e = absurd (cc e)
+built_is_played (event.Sync agent) e = tt
+built_is_played (event.AgentTick agent ms) e = tt
 built_is_played (event.Timeout server) e = tt
 built_is_played (event.Beat server) e = tt
 built_is_played (event.Tick server ms) e = tt

@@ -1,5 +1,5 @@
 -- A script: the line that opens its cluster, and what each later line says.
-use Rattle.std.specs.Prelude.{ℕ, ◌+◌, Bool, true, false, if◌then◌else◌, List, [], ◌∷◌, Result, Ok, Err, codes}
+use Rattle.std.specs.Prelude.{ℕ, ◌+◌, Bool, true, if◌then◌else◌, List, [], ◌∷◌, Result, Ok, Err, codes}
 use Rattle.cat_model.specs.declared.request.Asked.TheVariants.{Good}
 use Rattle.cat_model.specs.declared.request.Event.{Event}
 use Rattle.cat_model.specs.declared.request.Event.TheVariants as event
@@ -16,12 +16,9 @@ use Rattle.script_runs.specs.Taken.{is_taken}
 use Rattle.script_player.specs.declared.opening.Opening.{Opening}
 use Rattle.script_player.specs.Line.{lines_of, is_nothing}
 
--- The event is one that the cluster takes so far: no sync and no tick of an agent, and of requests those that are
--- taken, or none.
+-- The event is one that the cluster takes: each one, and of requests those that are taken, or none.
 abbrev pub is_built : Event → Bool
 is_built (event.Ask agent (Good request) draw) = is_taken request
-is_built (event.Sync agent) = false
-is_built (event.AgentTick agent ms) = false
 is_built other = true
 
 -- what a line after the opening says

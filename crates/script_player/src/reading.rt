@@ -38,7 +38,7 @@ pub fn answer(
     }
 }
 
-// The event is one that the cluster takes so far.
+// The event is one that the cluster takes.
 fn is_built(event: &Event) -> bool
     ensures { result ≡ is_built event.now }
 {
@@ -47,7 +47,6 @@ fn is_built(event: &Event) -> bool
             asked: Asked::Good(request),
             ..
         } => is_taken(request),
-        Event::Sync(_) | Event::AgentTick(..) => false,
         _ => true,
     }
 }

@@ -64,6 +64,7 @@ pub record Holds (start : Cluster) (outs : List Out) (c : Cluster) : Type 0 wher
   pub none_behind : (server : ℕ) → due server c ≡ None
   pub waits : (server : ℕ) → (node_of c.world server).halted ≡ false → Each (λ (h : Pending). h.server ≡ server → StillWaits c server h h.stand) c.held
   pub taken : c.tray ≡ []
-  -- a read was answered with an index above the one given, or after its full wait, and as fresh as its mode asks
-  pub reads_wait : ReadsWait c.past
+  -- A read was answered with an index above the one given, or after its full wait by the clock of the server that held it,
+  -- and as fresh as its mode asks.
+  pub reads_wait : ReadsWait c.starts c.past
   pub reads_fresh : ReadsAreFresh c

@@ -41,7 +41,7 @@ use Rattle.serving_rules.specs.Serving.{IsSized, Serves, Size}
 use Rattle.serving_rules.proofs.Keeping.{step_keeps}
 use Rattle.serving_cluster.specs.Shared.{IsOpen, shared_of}
 use Rattle.serving_cluster.specs.Ticks.{Ticked, TicksOne, TicksUpTo}
-use Rattle.serving_rules.proofs.Serving.{asked_on, elected, is_sound, none_closed, partly_on, settled_on, taken_on, ticked_on}
+use Rattle.serving_rules.proofs.Serving.{agent_ticked_on, asked_on, elected, is_sound, none_closed, partly_on, settled_on, taken_on, ticked_on}
 use Rattle.serving_cluster.specs.Shown.{Shows, log_of, question}
 use Rattle.serving_cluster.proofs.Marks.{Silent, are_kept, asked_event, cut_event, opened, quiet_event, quietly, ticked_event, took, unticked_event}
 use Rattle.serving_cluster.proofs.Reverses.{among_or_not, in_back, in_reverse, once_last, reverse_cons}
@@ -154,6 +154,34 @@ pub tick_serves : (size : Size) (c c' : Cluster) (server ms : ℕ) (r : Result (
 tick_serves size c c' server ms (Ok done) s fits whole cut = ticked_on size c c' server ms true s (event_fits c (event.Tick server ms) fits) whole
 tick_serves size c c' server ms (Err why) s fits whole (inl e) = subst (Serves size) (sym e) s
 tick_serves size c c' server ms (Err why) s fits whole (inr short) = ticked_on size c c' server ms false s (event_fits c (event.Tick server ms) fits) short
+
+-- the tick of an agent's clock, by which no server's goes on
+plain_agent : (c : Cluster) (agent ms : ℕ) → IsPlain (event.AgentTick agent ms) c
+plain_agent c agent ms = record { past = refl; silent = record { opens_none = refl; takes_none = refl } }
+
+pub agent_quiet : (c c' : Cluster) (agent ms : ℕ) (r : Result (Unit {0}) Memory) → OnOk r (ClusterStep c (event.AgentTick agent ms) c' true) → OnErr r (FindsNoMemory (event.AgentTick agent ms) c c') → AddsQuiet (marks c) (marks c')
+agent_quiet c c' agent ms (Ok done) whole cut = plain_step c c' (event.AgentTick agent ms) true (plain_agent c agent ms) whole
+agent_quiet c c' agent ms (Err why) whole (inl e) = subst (λ (z : Cluster). AddsQuiet (marks c) (marks z)) (sym e) (quiet_none (marks c))
+agent_quiet c c' agent ms (Err why) whole (inr short) = plain_step c c' (event.AgentTick agent ms) false (plain_agent c agent ms) short
+
+pub agent_still : (c c' : Cluster) (agent ms : ℕ) (r : Result (Unit {0}) Memory) → OnOk r (ClusterStep c (event.AgentTick agent ms) c' true) → OnErr r (FindsNoMemory (event.AgentTick agent ms) c c') → TicksNone (marks c) (marks c')
+agent_still c c' agent ms (Ok done) whole cut = plain_still c c' (event.AgentTick agent ms) true (plain_agent c agent ms) refl whole
+agent_still c c' agent ms (Err why) whole (inl e) = subst (λ (z : Cluster). TicksNone (marks c) (marks z)) (sym e) (ticks_none (marks c))
+agent_still c c' agent ms (Err why) whole (inr short) = plain_still c c' (event.AgentTick agent ms) false (plain_agent c agent ms) refl short
+
+pub agent_serves : (size : Size) (c c' : Cluster) (agent ms : ℕ) (r : Result (Unit {0}) Memory) → Serves size c → misfit c (event.AgentTick agent ms) ≡ None → OnOk r (ClusterStep c (event.AgentTick agent ms) c' true) → OnErr r (FindsNoMemory (event.AgentTick agent ms) c c') → Serves size c'
+agent_serves size c c' agent ms (Ok done) s fits whole cut = agent_ticked_on size c c' agent ms true s (event_fits c (event.AgentTick agent ms) fits) whole
+agent_serves size c c' agent ms (Err why) s fits whole (inl e) = subst (Serves size) (sym e) s
+agent_serves size c c' agent ms (Err why) s fits whole (inr short) = agent_ticked_on size c c' agent ms false s (event_fits c (event.AgentTick agent ms) fits) short
+
+-- after the clocks went on, none does
+pub by_still : (ms : ℕ) (a b c : List Mark) → TicksBy ms a b → TicksNone b c → TicksBy ms a c
+by_still ms a b c x y = record {
+  rest = x.rest ++ y.rest;
+  are = joined a b c x.rest y.rest x.are y.are;
+  once = subst EachOnce (sym (append_none ticks x.rest y.rest y.none)) x.once;
+  by_ms = subst (AllByRecursion (λ n. n ≡ ms)) (sym (append_none ticks_by x.rest y.rest (by_none y.rest y.none))) x.by_ms;
+}
 
 -- a request
 asked_whole : (c c' : Cluster) (a : Ask) → ClusterStep c (event.Ask a.agent a.asked a.draw) c' true → (number : ℕ) → number ≡ c'.asked → AddsAsked number a (marks c) (marks c')

@@ -63,6 +63,50 @@ impl<J: ClusterSize, S: ClusterInterface> ServingCluster<J, S> {
         Ok(())
     }
 
+    // The clock of an agent goes on, and with it what the agent does by itself. One that is at its end stays there.
+    fn tick_agent(&mut self, alloc: Global, agent: u32, ms: u64) -> Result<(), Memory>
+        ensures quiet { AddsQuiet (reverse self.old.past) (reverse self.new.past) }
+        ensures unticked { TicksNone (reverse self.old.past) (reverse self.new.past) }
+    {
+        let tick = Event::AgentTick(agent, ms);
+        let fits = self.cluster.fits(&tick);
+        match fits {
+            Ok(()) => self.cluster.step(alloc, tick),
+            Err(_) => {
+                drop(tick);
+                Ok(())
+            }
+        }
+    }
+
+    // The clocks of all agents go on, one after another. No server's does.
+    fn tick_agents(&mut self, alloc: Global, ms: u64) -> Result<(), Memory>
+        ensures quiet { AddsQuiet (reverse self.old.past) (reverse self.new.past) }
+        ensures unticked { TicksNone (reverse self.old.past) (reverse self.new.past) }
+    {
+        let last = self.cluster.agents();
+        let mut agent = 0;
+        while agent < last {
+            agent += 1;
+            match self.tick_agent(alloc, agent, ms) {
+                Ok(()) => {}
+                Err(Memory) => return Err(Memory),
+            }
+        }
+        Ok(())
+    }
+
+    // All clocks go on, those of servers first.
+    fn go_on(&mut self, alloc: Global, ms: u64) -> Result<(), Memory>
+        ensures quiet { AddsQuiet (reverse self.old.past) (reverse self.new.past) }
+        ensures ticks { TicksBy ms (reverse self.old.past) (reverse self.new.past) }
+    {
+        match self.tick_all(alloc, ms) {
+            Ok(()) => self.tick_agents(alloc, ms),
+            Err(Memory) => Err(Memory),
+        }
+    }
+
     // Asks an agent that is there.
     fn ask_agent(&mut self, alloc: Global, ask: &Ask) -> Result<u64, Memory>
         requires { MayAsk J.size.agents IsTakenAsked ask.now }
@@ -108,7 +152,10 @@ impl<J: ClusterSize, S: ClusterInterface> SharedCluster for ServingCluster<J, S>
     }
 
     fn advance(&mut self, alloc: Global, ms: u64) -> Result<(), Memory> {
-        self.tick_all(alloc, ms)
+        if ms == 0 {
+            return Ok(());
+        }
+        self.go_on(alloc, ms)
     }
 
     fn ask(&mut self, alloc: Global, ask: Ask) -> Result<u64, Memory> {

@@ -63,6 +63,9 @@ asked_on size c c' agent asked draw whole s fits step = by_move size c c' (event
 pub ticked_on : (size : Size) (c c' : Cluster) (server ms : ℕ) (whole : Bool) → Serves size c → Fits c (event.Tick server ms) → ClusterStep c (event.Tick server ms) c' whole → Serves size c'
 ticked_on size c c' server ms whole s fits step = by_move size c c' (event.Tick server ms) whole s tt fits step
 
+pub agent_ticked_on : (size : Size) (c c' : Cluster) (agent ms : ℕ) (whole : Bool) → Serves size c → Fits c (event.AgentTick agent ms) → ClusterStep c (event.AgentTick agent ms) c' whole → Serves size c'
+agent_ticked_on size c c' agent ms whole s fits step = by_move size c c' (event.AgentTick agent ms) whole s tt fits step
+
 all_whole : (b : Bool) → (b && true) ≡ b
 all_whole true = refl
 all_whole false = refl

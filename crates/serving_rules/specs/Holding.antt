@@ -19,5 +19,6 @@ pub record Holds (c : Cluster) : Type 0 where
   pub indexes : IndexesTell (commands_of c.world.agreed)
   -- a read is as fresh as its mode asks
   pub reads_fresh : ReadsAreFresh c
-  -- and where memory sufficed in every event, it was answered with an index above the one given, or after its full wait
-  pub reads_wait : (start : Cluster) (moves : List Move) → IsFirstStart start → Reached start true moves c → ReadsWait c.past
+  -- And where memory sufficed in every event, it was answered with an index above the one given, or after its full wait by
+  -- the clock of the server that held it.
+  pub reads_wait : (start : Cluster) (moves : List Move) → IsFirstStart start → Reached start true moves c → ReadsWait c.starts c.past

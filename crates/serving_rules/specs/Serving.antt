@@ -11,12 +11,13 @@ Delivers k (Makes (event.Deliver j) ∷ moves) = k ≡ j
 Delivers k other = ⊥
 
 -- What may be done to a cluster that serves, behind what was done before: at first server 1 stands for election; then come
--- requests, ticks of clocks, deliveries, each followed by that message's loss, and takings of replies. No store is made
--- to fail, no message is lost that was not delivered, and no server restarts.
+-- requests, ticks of the clocks of servers and agents, deliveries, each followed by that message's loss, and takings of
+-- replies. No store is made to fail, no message is lost that was not delivered, and no server restarts.
 abbrev pub IsServing : Move → List Move → Type 0
 IsServing (Makes (event.Timeout s)) before = (s ≡ 1) × (before ≡ [])
 IsServing (Makes (event.Ask agent asked draw)) before = Unit {0}
 IsServing (Makes (event.Tick s ms)) before = Unit {0}
+IsServing (Makes (event.AgentTick agent ms)) before = Unit {0}
 IsServing (Makes (event.Deliver k)) before = Unit {0}
 IsServing (Makes (event.Drop k)) before = Delivers k before
 IsServing (Takes number) before = Unit {0}

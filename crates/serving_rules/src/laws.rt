@@ -24,9 +24,10 @@ pub fn requests_serve()
     ensures { (size : Size) (c c' : Cluster) (agent : ℕ) (asked : Asked) (draw : Draw) (whole : Bool) → Serves size c → Fits c (event.Ask agent asked draw) → ClusterStep c (event.Ask agent asked draw) c' whole → Serves size c' }
 {}
 
-/// So does a tick.
+/// So does a tick of a server's clock or of an agent's.
 pub fn ticks_serve()
-    ensures { (size : Size) (c c' : Cluster) (server ms : ℕ) (whole : Bool) → Serves size c → Fits c (event.Tick server ms) → ClusterStep c (event.Tick server ms) c' whole → Serves size c' }
+    ensures servers { (size : Size) (c c' : Cluster) (server ms : ℕ) (whole : Bool) → Serves size c → Fits c (event.Tick server ms) → ClusterStep c (event.Tick server ms) c' whole → Serves size c' }
+    ensures agents { (size : Size) (c c' : Cluster) (agent ms : ℕ) (whole : Bool) → Serves size c → Fits c (event.AgentTick agent ms) → ClusterStep c (event.AgentTick agent ms) c' whole → Serves size c' }
 {}
 
 /// So do deliveries, each followed by that message's loss.

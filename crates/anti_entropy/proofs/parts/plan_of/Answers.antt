@@ -1,4 +1,4 @@
-use Rattle.std.proofs.Common.{◌≡◌, ◌∙◌, ◌++◌, ap}
+use Rattle.std.proofs.Common.{◌∙◌, ◌++◌, ap}
 use Rattle.cat_model.specs.Syncs.{plan_of}
 use Rattle.anti_entropy.proofs.parts.plan_of.Goals as goal
 

@@ -1,42 +1,24 @@
-use Rattle.std.proofs.Common.{rules, inl, refl}
+use Rattle.std.proofs.Common.{rules}
 use Rattle.cluster_turns.proofs.Working.{err_any}
 use Rattle.cluster_turns.proofs.asking.ask.Goals as goal
 
-pub way-requires-clause-agent : goal.way-requires-clause-agent
-way-requires-clause-agent g c = c.requires.agent
+pub request-requires-clause-agent : goal.request-requires-clause-agent
+request-requires-clause-agent g c = c.requires.agent
 
-pub way-requires-clause-takes : goal.way-requires-clause-takes
-way-requires-clause-takes g c = c.requires.takes
+pub request-requires-clause-takes : goal.request-requires-clause-takes
+request-requires-clause-takes g c = c.requires.takes
 
-pub returns-in_err-way-clause-whole : goal.returns-in_err-way-clause-whole
-returns-in_err-way-clause-whole g c = search rules
+pub returns-in_err-request-clause-whole : goal.returns-in_err-request-clause-whole
+returns-in_err-request-clause-whole g c = search rules
 
-pub returns-in_err-way-clause-number : goal.returns-in_err-way-clause-number
-returns-in_err-way-clause-number g c = search rules
+pub returns-in_err-request-clause-number : goal.returns-in_err-request-clause-number
+returns-in_err-request-clause-number g c = search rules
 
-pub returns-in_err-way-clause-cut : goal.returns-in_err-way-clause-cut
-returns-in_err-way-clause-cut g c = err_any c.from_residual.result _ (inl refl)
-
-pub ask_by-requires-clause-takes : goal.ask_by-requires-clause-takes
-ask_by-requires-clause-takes g c = c.requires.takes
-
-pub ask_by-requires-clause-way : goal.ask_by-requires-clause-way
-ask_by-requires-clause-way g c = c.in_ok-way.ensures.way
-
-pub ask_by-requires-clause-server : goal.ask_by-requires-clause-server
-ask_by-requires-clause-server g c = c.in_ok-way.ensures.server
-
-pub returns-in_err-ask_by-clause-whole : goal.returns-in_err-ask_by-clause-whole
-returns-in_err-ask_by-clause-whole g c = search rules
-
-pub returns-in_err-ask_by-clause-number : goal.returns-in_err-ask_by-clause-number
-returns-in_err-ask_by-clause-number g c = search rules
-
-pub returns-in_err-ask_by-clause-cut : goal.returns-in_err-ask_by-clause-cut
-returns-in_err-ask_by-clause-cut g c = err_any c.from_residual-in_err-ask_by.result _ c.in_err-ask_by.ensures.cut
+pub returns-in_err-request-clause-cut : goal.returns-in_err-request-clause-cut
+returns-in_err-request-clause-cut g c = err_any c.from_residual.result _ c.in_err-request.ensures.cut
 
 pub returns-clause-whole : goal.returns-clause-whole
-returns-clause-whole g c = c.in_ok-ask_by.ensures.whole
+returns-clause-whole g c = c.in_ok-request.ensures.whole
 
 pub returns-clause-number : goal.returns-clause-number
 returns-clause-number g c = c.asked.ensures

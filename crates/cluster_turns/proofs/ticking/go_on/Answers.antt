@@ -1,4 +1,4 @@
-use Rattle.std.proofs.Common.{◌≡◌, ◌≢◌, None, true, OnOk}
+use Rattle.std.proofs.Common.{◌≡◌, ◌≢◌, None, true}
 use Rattle.cat_model.specs.declared.request.Event.TheVariants as event
 use Rattle.cluster_rules.specs.Due.{due}
 use Rattle.cluster_turns.specs.Turns.{IsCut}

@@ -1,4 +1,4 @@
-use Rattle.std.proofs.Common.{rules, ◌≡◌, ◌∙◌, subst, inl}
+use Rattle.std.proofs.Common.{rules, ◌∙◌, subst, inl}
 use Rattle.cat_model.specs.declared.request.Event.TheVariants as event
 use Rattle.cluster_turns.specs.Turns.{IsCut}
 use Rattle.cluster_turns.proofs.Keeping.{fits_kept, noted_keeps}

@@ -1,0 +1,97 @@
+//! Services by their keys.
+
+ghost use Rattle.std.specs.Prelude.{◌≡◌, ◌<◌, IfOk, is_some};
+ghost use Rattle.std.specs.Option.{option_copied};
+ghost use Rattle.cat_model.specs.Keys.{pair_cmp, same_text};
+ghost use Rattle.cat_model.specs.Tables.{put, without};
+ghost use Rattle.cat_model.specs.Catalog.{service_at, service_key};
+ghost use Rattle.agent_rules.specs.Agents.{agent_node, service_row};
+
+use crate::names::{agent_node, compare_own, compare_pairs, is_same};
+use cat_model::{List, Memory, ServiceDef, ServiceRow, Text};
+use lists::{around, kept};
+use std::alloc::Global;
+
+/// An agent's service as it was asked for.
+pub(crate) fn service_row(
+    alloc: Global,
+    number: u32,
+    service: &ServiceDef,
+) -> Result<ServiceRow, Memory>
+    requires { number < 100 }
+    ensures { IfOk result (λ row. row ≡ service_row number service.now) }
+{
+    Ok(ServiceRow {
+        node: agent_node(alloc, number)?,
+        id: service.id.clone()?,
+        name: service.name.clone()?,
+        tags: service.tags.clone()?,
+        address: service.address.clone()?,
+        port: service.port,
+        tag_override: service.tag_override,
+        create: 0,
+        modify: 0,
+    })
+}
+
+/// The service of this node and ID.
+pub(crate) fn find_service<'a>(
+    node: &Text,
+    id: &Text,
+    rows: &'a [ServiceRow],
+) -> Option<&'a ServiceRow>
+    ensures { option_copied result ≡ service_at (node.now, id.now) rows.now }
+{
+    rows.iter()
+        .find(|r| compare_pairs(node, id, &r.node, &r.id).is_eq())
+}
+
+// An agent's service of this ID.
+fn own_service<'a>(number: u32, id: &Text, rows: &'a [ServiceRow]) -> Option<&'a ServiceRow>
+    requires { number < 100 }
+    ensures { option_copied result ≡ service_at (agent_node number, id.now) rows.now }
+{
+    rows.iter()
+        .find(|r| compare_own(number, id, &r.node, &r.id).is_eq())
+}
+
+/// Whether an agent has a service of this ID.
+pub(crate) fn has_service(number: u32, id: &Text, rows: &[ServiceRow]) -> bool
+    requires { number < 100 }
+    ensures { result ≡ is_some (service_at (agent_node number, id.now) rows.now) }
+{
+    own_service(number, id, rows).is_some()
+}
+
+/// The services with this one in the place of the one of its key.
+#[tactic(auto, unfolding(cat_model::specs::Tables::put))]
+pub(crate) fn place_service(
+    alloc: Global,
+    new: ServiceRow,
+    rows: &[ServiceRow],
+) -> Result<List<ServiceRow>, Memory>
+    ensures { IfOk result (λ l. l ≡ put pair_cmp service_key new rows.now) }
+{
+    let smaller = kept(
+        alloc,
+        rows,
+        |r| compare_pairs(&r.node, &r.id, &new.node, &new.id).is_lt(),
+    )?;
+    let greater = kept(
+        alloc,
+        rows,
+        |r| compare_pairs(&r.node, &r.id, &new.node, &new.id).is_gt(),
+    )?;
+    around(smaller, new, greater)
+}
+
+/// The services without those of this ID.
+pub(crate) fn drop_services(
+    alloc: Global,
+    id: &Text,
+    rows: &[ServiceRow],
+) -> Result<List<ServiceRow>, Memory>
+    ensures { IfOk result (λ l. l ≡ without (λ s. same_text s.id id.now) rows.now) }
+{
+    kept(alloc, rows, |s| !is_same(&s.id, id))
+}

@@ -1,0 +1,54 @@
+-- What an agent's answer shows, and what a sync does at a server that is ready.
+use Rattle.std.specs.Prelude.{◌≡◌, ℕ, ◌<◌, Bool, true, false, if◌then◌else◌, None, Some}
+use Rattle.cat_model.specs.declared.reply.Kind.{Kind}
+use Rattle.cat_model.specs.declared.reply.Kind.TheVariants.{Local, Refused}
+use Rattle.cat_model.specs.declared.request.AgentOp.{AgentOp}
+use Rattle.cat_model.specs.declared.request.Event.{Event}
+use Rattle.cat_model.specs.Syncs.{plan}
+use Rattle.agent_rules.specs.Agents.{change}
+use Rattle.anti_entropy.specs.declared.syncing.SyncPlan.{SyncPlan}
+use Rattle.cluster_rules.specs.Cluster.{Cluster, agent_of}
+use Rattle.cluster_rules.specs.Proposals.{Proposals, adopted, agent_did, did_own, kind_told, merged_at, remote_at, synced}
+use Rattle.cluster_rules.specs.Replies.{Blank, Content, Holds, Reply, Says}
+use Rattle.cluster_turns.specs.AgentEvents.{agent_in, event_of_agent, with_number}
+use Rattle.cluster_turns.specs.declared.agent_event.AgentEvent.{AgentEvent}
+use Rattle.cluster_turns.specs.declared.cut.Cut.{Cut}
+use Rattle.cluster_turns.specs.declared.cut.Cut.TheVariants.{Before, Within}
+use Rattle.open_requests.specs.Requests.{reply_with}
+
+-- what an answer of an agent shows
+abbrev pub content_told : Kind → Content
+content_told (Local body) = Holds body
+content_told (Refused why) = Says why
+content_told other = Blank
+
+-- the answer of agent a to the request of this number
+abbrev pub reply_told : ℕ → ℕ → AgentOp → Cluster → Reply
+reply_told number a op c = let kind = kind_told a op (change a op (agent_of c a)) in reply_with number kind false 0 (content_told kind)
+
+-- The agent does its own part, once a request has its number.
+abbrev pub own_done : Event → Cluster → Cluster
+own_done made c = agent_did made (with_number made c)
+
+-- The same, and a sync that finds no leader where it is a part of the event.
+abbrev pub noted_alone : Bool → Event → Cluster → Cluster
+noted_alone false made c = own_done made c
+noted_alone true made c = synced (agent_in made) None (own_done made c)
+
+-- What agent a takes over in a sync at server i, and what it proposes there.
+pub record IsPlan (i a : ℕ) (c : Cluster) (p : SyncPlan) : Type 0 where
+  pub services : p.services ≡ (merged_at a i c).services
+  pub commands : p.commands ≡ plan (merged_at a i c) (remote_at a i c)
+
+-- Agent a's sync at server i, which is ready, proposed all of its plan.
+abbrev pub PlansWhole : ℕ → ℕ → Cluster → Cluster → Type 0
+PlansWhole i a c c' = (n : ℕ) × (c₁ : Cluster) × Proposals i (plan (merged_at a i c) (remote_at a i c)) (adopted a i c) n c₁ true × (c' ≡ synced a (Some n) c₁)
+
+-- Memory ran out: before anything was done, or behind some of its proposals.
+abbrev pub PlansInPart : ℕ → ℕ → Cut → Cluster → Cluster → Type 0
+PlansInPart i a Before c c' = c' ≡ c
+PlansInPart i a Within c c' = (n : ℕ) × (0 < n) × Proposals i (plan (merged_at a i c) (remote_at a i c)) (adopted a i c) n c' false
+
+-- what the event's cut is where its sync has not begun
+abbrev pub cut_first : AgentEvent → Cut
+cut_first event = if did_own (event_of_agent event) then Within else Before

@@ -1,0 +1,182 @@
+//! What an agent does by itself: it answers what it is asked, and its clock goes on.
+
+ghost use Rattle.std.specs.Prelude.{◌≡◌, IfOk, None, OnErr, OnOk, true};
+ghost use Rattle.cat_model.specs.declared.reply.Refusal.TheVariants as refusal;
+ghost use Rattle.cat_model.specs.declared.request.Asked.TheVariants.{Good};
+ghost use Rattle.cat_model.specs.declared.request.Draw.{Draw as SpecDraw};
+ghost use Rattle.cat_model.specs.declared.request.Event.TheVariants as event;
+ghost use Rattle.cat_model.specs.declared.request.Request.TheVariants.{Agent as AsksAgent};
+ghost use Rattle.agent_rules.specs.Agents.{changes, unknown};
+ghost use Rattle.cluster_rules.specs.Cluster.{Cluster as SpecCluster};
+ghost use Rattle.cluster_rules.specs.Proposals.{agent_did, is_agents, sync_of, synced};
+ghost use Rattle.cluster_rules.specs.Reached.{Fits, IsAgentNumber};
+ghost use Rattle.cluster_turns.specs.AgentEvents.{IsNoted, event_of_agent};
+ghost use Rattle.cluster_turns.specs.Turns.{IsCome, numbered};
+ghost use Rattle.cluster.specs.Syncing.{own_done, reply_told};
+
+use crate::cluster::Cluster;
+use agent_state::unknown;
+use cat_model::{AgentOp, Asked, Draw, Kind, Memory, Refusal, Request, Text};
+use cat_outside::Keeper;
+use cluster_turns::AgentEvent;
+use open_requests::{Content, MarkedReply, copy_asked};
+use std::alloc::Global;
+
+// The request changes the agent, so that a sync follows it.
+fn changes(op: &AgentOp) -> bool
+    ensures { result ≡ changes op.now }
+{
+    match op {
+        AgentOp::Services | AgentOp::Checks => false,
+        AgentOp::AddService { .. }
+        | AgentOp::DropService { .. }
+        | AgentOp::AddCheck { .. }
+        | AgentOp::DropCheck { .. }
+        | AgentOp::Mark { .. } => true,
+    }
+}
+
+// The refusal of a request that names what an agent doesn't have.
+fn not_found(alloc: Global, op: &AgentOp) -> Result<Refusal, Memory>
+    ensures { IfOk result (λ why. why ≡ refusal.NotFound (unknown op.now)) }
+{
+    Ok(Refusal::NotFound {
+        what: Text::new(alloc, unknown(op))?,
+    })
+}
+
+impl<K: Keeper> Cluster<K> {
+    // The agent of a request to itself, where a sync follows it.
+    fn sync_after(&self, agent: u32, asked: &Asked) -> Option<u32>
+        requires { IsAgentNumber self.now agent }
+        ensures { (draw : SpecDraw) → result ≡ sync_of self.now (event.Ask agent asked.now draw) }
+    {
+        match asked {
+            Asked::Good(Request::Agent(op)) if changes(op) && self.agents.can_change(agent, op) => {
+                Some(agent)
+            }
+            _ => None,
+        }
+    }
+
+    /// The agent whose sync is a part of its event.
+    pub(crate) fn sync_of(&self, event: &AgentEvent) -> Option<u32>
+        requires { Fits self.now (event_of_agent event.now) }
+        ensures { result ≡ sync_of self.now (event_of_agent event.now) }
+    {
+        match event {
+            AgentEvent::Sync { agent } => Some(*agent),
+            AgentEvent::Tick { agent, ms } => {
+                if self.agents.wants_sync(*agent, *ms) {
+                    Some(*agent)
+                } else {
+                    None
+                }
+            }
+            AgentEvent::Ask { agent, asked, .. } => self.sync_after(*agent, asked),
+        }
+    }
+
+    // The reply of an agent to the request of this number.
+    fn reply_told(
+        &self,
+        alloc: Global,
+        number: u64,
+        agent: u32,
+        op: &AgentOp,
+    ) -> Result<MarkedReply, Memory>
+        requires { IsAgentNumber self.now agent }
+        ensures { IfOk result (λ reply. reply ≡ reply_told number agent op.now self.now) }
+    {
+        if !self.agents.can_change(agent, op) {
+            let kind = Kind::Refused(not_found(alloc, op)?);
+            let content = Content::Says(not_found(alloc, op)?);
+            return MarkedReply::new(number, kind, false, 0, content);
+        }
+        let body = self.agents.body(alloc, agent, op)?;
+        let content = Content::Holds(self.agents.body(alloc, agent, op)?);
+        MarkedReply::new(number, Kind::Local { body }, false, 0, content)
+    }
+
+    // An agent does what it is asked, once the request has its number, and answers.
+    fn answer_asked(
+        &mut self,
+        alloc: Global,
+        agent: u32,
+        asked: &Asked,
+        op: &AgentOp,
+        draw: Draw,
+    ) -> Result<(), Memory>
+        requires agent { IsAgentNumber self.old agent }
+        requires asked { asked.now ≡ Good (AsksAgent op.now) }
+        requires come { IsCome agent asked.now draw self.old.past }
+        ensures ok { OnOk result (self.new ≡ agent_did (event.Ask agent asked.now draw) (numbered agent asked.now draw self.old)) }
+        ensures err { OnErr result (self.new ≡ self.old) }
+    {
+        let number = self.requests.asked().checked_add(1).ok_or(Memory)?;
+        self.requests.prepare()?;
+        let reply = self.reply_told(alloc, number, agent, op)?;
+        let copy = match copy_asked(asked) {
+            Ok(copy) => copy,
+            Err(Memory) => {
+                drop(reply);
+                return Err(Memory);
+            }
+        };
+        if self.agents.change(alloc, agent, op).is_err() {
+            drop(reply);
+            drop(copy);
+            return Err(Memory);
+        }
+        self.requests.number(agent, copy, draw);
+        self.requests.give(reply);
+        Ok(())
+    }
+
+    // An agent's clock goes on. It answers Memory also where the clock would pass 2^64 milliseconds.
+    fn tick_agent(&mut self, alloc: Global, agent: u32, ms: u64) -> Result<(), Memory>
+        requires { IsAgentNumber self.old agent }
+        ensures ok { OnOk result (self.new ≡ agent_did (event.AgentTick agent ms) self.old) }
+        ensures err { OnErr result (self.new ≡ self.old) }
+    {
+        self.agents.tick(alloc, agent, ms)
+    }
+
+    /// An agent does its own part in an event that was noted, once a request has its number.
+    pub(crate) fn do_own(&mut self, alloc: Global, event: &AgentEvent) -> Result<(), Memory>
+        requires fits { Fits self.old (event_of_agent event.now) }
+        requires agents { is_agents (event_of_agent event.now) ≡ true }
+        requires come { IsNoted (event_of_agent event.now) self.old.past }
+        ensures ok { OnOk result (self.new ≡ own_done (event_of_agent event.now) self.old) }
+        ensures err { OnErr result (self.new ≡ self.old) }
+    {
+        match event {
+            AgentEvent::Sync { .. } => Ok(()),
+            AgentEvent::Tick { agent, ms } => self.tick_agent(alloc, *agent, *ms),
+            AgentEvent::Ask { agent, asked, draw } => match asked {
+                Asked::Good(Request::Agent(op)) => {
+                    self.answer_asked(alloc, *agent, asked, op, *draw)
+                }
+                _ => unreachable!(),
+            },
+        }
+    }
+
+    /// Tells that an agent's sync finds no leader.
+    pub(crate) fn tell_leaderless(&mut self, agent: u32) -> Result<(), Memory>
+        ensures ok { OnOk result (self.new ≡ synced agent None self.old) }
+        ensures err { OnErr result (self.new ≡ self.old) }
+    {
+        self.requests.prepare()?;
+        self.requests.tell_sync(agent, None);
+        Ok(())
+    }
+
+    /// Takes back that an agent's sync finds no leader.
+    pub(crate) fn take_back(&mut self, agent: u32)
+        requires { (c : SpecCluster) × (self.old ≡ synced agent None c) }
+        ensures { (c : SpecCluster) → self.old ≡ synced agent None c → self.new ≡ c }
+    {
+        self.requests.take_sync_back(agent);
+    }
+}

@@ -1,0 +1,104 @@
+//! Writes that lock a key whose lock delay is not over.
+
+ghost use Rattle.std.specs.Prelude.{◌≡◌, IfOk, OnErr, OnOk, Some, false, true};
+ghost use Rattle.std.specs.Option.{option_copied};
+ghost use Rattle.cat_model.specs.declared.reply.Kind.{Kind as SpecKind};
+ghost use Rattle.cat_model.specs.declared.request.Asked.TheVariants.{Good};
+ghost use Rattle.cat_model.specs.declared.request.Request.TheVariants.{Write as Writes};
+ghost use Rattle.cluster_rules.specs.Cluster.{until_at};
+ghost use Rattle.cluster_rules.specs.Reached.{IsServerNumber};
+ghost use Rattle.cluster_rules.specs.Replies.{Defers};
+ghost use Rattle.cluster_rules.specs.Requests.{delayed_at, is_ready};
+ghost use Rattle.cluster_turns.specs.Turns.{HandlesNewest, IsCome};
+ghost use Rattle.open_requests.specs.Requests.{reply_with};
+
+use crate::cluster::Cluster;
+use crate::looking::copy_command;
+use cat_model::{Asked, Command, Draw, Kind, Memory, Text};
+use cat_outside::Keeper;
+use open_requests::{Content, MarkedReply, copy_asked};
+use std::alloc::Global;
+
+// The reply to a write that locks this key, whose delay is over at a later time of the clock.
+fn deferred(
+    alloc: Global,
+    number: u64,
+    command: &Command,
+    key: &str,
+    until: u64,
+    now: u64,
+) -> Result<MarkedReply, Memory>
+    ensures { IfOk result (λ reply. reply ≡ reply_with number (SpecKind.Delayed key.now until now) false 0 (Defers command.now key.now)) }
+{
+    let kind = Kind::Delayed {
+        key: Text::new(alloc, key)?,
+        until,
+        now,
+    };
+    let content = Content::Defers {
+        command: copy_command(command)?,
+        key: Text::new(alloc, key)?,
+    };
+    MarkedReply::new(number, kind, false, 0, content)
+}
+
+impl<K: Keeper + Drop> Cluster<K> {
+    // When the lock delay of a key is over at a server. It answers Memory also above 2^64 milliseconds, which no
+    // request's delay reaches.
+    #[tactic(auto, using(crate::proofs::Numbers::is_number))]
+    fn until(&self, server: u32, key: &str) -> Result<u64, Memory>
+        requires { IsServerNumber self.now server }
+        ensures { IfOk result (λ until. until ≡ until_at self.now server key.now) }
+    {
+        match u64::try_from(self.servers.delay_over(server, key)) {
+            Ok(until) => Ok(until),
+            Err(_) => Err(Memory),
+        }
+    }
+
+    /// The first key that a command locks whose lock delay is not over at the server.
+    #[tactic(auto, using(crate::proofs::Numbers::is_number))]
+    pub(crate) fn delayed<'a>(&self, server: u32, command: &'a Command) -> Option<&'a str>
+        requires { IsServerNumber self.now server }
+        ensures { option_copied result ≡ delayed_at self.now server command.now }
+    {
+        self.servers.delayed(server, command)
+    }
+
+    /// Answers a write that its lock delay refuses, with the key.
+    #[tactic(auto, using(crate::proofs::Numbers::is_number))]
+    pub(crate) fn defer(
+        &mut self,
+        alloc: Global,
+        server: u32,
+        agent: u32,
+        asked: &Asked,
+        draw: Draw,
+        command: &Command,
+        key: &str,
+    ) -> Result<(), Memory>
+        requires server { IsServerNumber self.old server }
+        requires asked { asked.now ≡ Good (Writes command.now) }
+        requires come { IsCome agent asked.now draw self.old.past }
+        requires ready { is_ready self.old server ≡ true }
+        requires delayed { delayed_at self.old server command.now ≡ Some key.now }
+        ensures ok { OnOk result (HandlesNewest server agent asked.now draw self.old self.new) }
+        ensures err { OnErr result (self.new ≡ self.old) }
+    {
+        let number = self.requests.asked().checked_add(1).ok_or(Memory)?;
+        let until = self.until(server, key)?;
+        let now = self.servers.clock(server);
+        self.requests.prepare()?;
+        let copy = copy_asked(asked)?;
+        let reply = match deferred(alloc, number, command, key, until, now) {
+            Ok(reply) => reply,
+            Err(Memory) => {
+                drop(copy);
+                return Err(Memory);
+            }
+        };
+        self.requests.number(agent, copy, draw);
+        self.requests.give(reply);
+        Ok(())
+    }
+}

@@ -1,0 +1,110 @@
+//! What a leading server proposes for no request.
+
+ghost use Rattle.std.specs.Prelude.{◌≡◌, ◌≤◌, IfOk, OnErr, length, true};
+ghost use Rattle.cluster_rules.specs.Cluster.{runs_leading};
+ghost use Rattle.cluster_rules.specs.Proposals.{Proposals};
+ghost use Rattle.cluster_rules.specs.Reached.{IsServerNumber};
+ghost use Rattle.cluster.specs.Proposing.{EndsProposal, OneProposed};
+
+use crate::cluster::Cluster;
+use crate::looking::copy_command;
+use crate::moving::{Seen, mark_step, see};
+use cat_model::{Command, Memory};
+use cat_outside::Keeper;
+use open_requests::Requests;
+use raft_model::Place;
+use raft_node::ProposeFault;
+use std::alloc::Global;
+
+/// How far proposals of commands came: so many were entered, and where it is not whole, memory ran out before the next
+/// one. A whole one stops early where the log has no room for the next one, or the server's store failed at it.
+#[derive(Clone, Copy)]
+pub(crate) struct Proposed {
+    pub(crate) entered: usize,
+    pub(crate) whole: bool,
+}
+
+// Marks what became of a proposal for no request, and says whether it was entered. No reply tells that it was refused.
+fn end_proposal(
+    requests: &mut Requests,
+    server: u32,
+    before: Seen,
+    now: Seen,
+    proposed: Result<Place, ProposeFault>,
+) -> Result<bool, Memory>
+    requires room { 4 ≤ requests.old.room }
+    requires grown { before.agreed ≤ now.agreed }
+    ensures { EndsProposal before now server proposed result requests.old requests.new }
+{
+    match proposed {
+        Ok(_) => {
+            mark_step(requests, server, before, now);
+            Ok(true)
+        }
+        Err(ProposeFault::Full | ProposeFault::Halted) => {
+            mark_step(requests, server, before, now);
+            Ok(false)
+        }
+        Err(ProposeFault::NotLeader | ProposeFault::Memory) => Err(Memory),
+    }
+}
+
+impl<K: Keeper + Drop> Cluster<K> {
+    // Proposes a command at a server that leads, for no request, and says whether it was entered.
+    #[tactic(auto, using(crate::proofs::Numbers::is_number))]
+    fn propose_one(&mut self, alloc: Global, server: u32, command: &Command) -> Result<bool, Memory>
+        requires server { IsServerNumber self.old server }
+        requires leads { runs_leading self.old.world server ≡ true }
+        ensures told { IfOk result (λ entered. OneProposed server command.now self.old entered self.new) }
+        ensures leads { IfOk result (λ entered. entered ≡ true → runs_leading self.new.world server ≡ true) }
+        ensures same { OnErr result (self.new ≡ self.old) }
+    {
+        let copy = copy_command(command)?;
+        if self.requests.prepare().is_err() {
+            drop(copy);
+            return Err(Memory);
+        }
+        let before = see(&self.servers, server);
+        let proposed = self.servers.propose(alloc, server, 0, copy);
+        let now = see(&self.servers, server);
+        end_proposal(&mut self.requests, server, before, now, proposed)
+    }
+
+    /// Proposes commands at a server that leads, in their order and for no request, up to the first that the log has no
+    /// room for or at which the server's store fails.
+    pub(crate) fn propose_all(
+        &mut self,
+        alloc: Global,
+        server: u32,
+        commands: &[Command],
+    ) -> Proposed
+        requires server { IsServerNumber self.old server }
+        requires leads { runs_leading self.old.world server ≡ true }
+        ensures proposals { Proposals server commands.now self.old result.entered self.new result.whole }
+        ensures count { result.entered ≤ length commands.now }
+        ensures servers { self.new.servers ≡ self.old.servers }
+    {
+        let mut entered = 0;
+        for command in commands {
+            match self.propose_one(alloc, server, command) {
+                Ok(true) => entered += 1,
+                Ok(false) => {
+                    return Proposed {
+                        entered,
+                        whole: true,
+                    };
+                }
+                Err(Memory) => {
+                    return Proposed {
+                        entered,
+                        whole: false,
+                    };
+                }
+            }
+        }
+        Proposed {
+            entered,
+            whole: true,
+        }
+    }
+}

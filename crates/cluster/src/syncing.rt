@@ -1,0 +1,236 @@
+//! Agents' events: those that go to no server, and the sync of an agent at the leader.
+
+ghost use Rattle.std.specs.Prelude.{◌≡◌, ◌<◌, ◌^◌, IfErr, IfOk, None, OnErr, OnOk, Some, length, true};
+ghost use Rattle.cat_model.specs.declared.row.ServiceRow.{ServiceRow as SpecServiceRow};
+ghost use Rattle.script_runs.specs.Taken.{IsTakenAsked};
+ghost use Rattle.cluster_rules.specs.Cluster.{Cluster as SpecCluster, agent_of, runs_leading};
+ghost use Rattle.cluster_rules.specs.Proposals.{is_agents, synced, with_agent};
+ghost use Rattle.cluster_rules.specs.Reached.{Fits, IsAgentNumber, IsServerNumber};
+ghost use Rattle.cluster_rules.specs.Requests.{is_ready};
+ghost use Rattle.cluster_rules.specs.Step.{noted};
+ghost use Rattle.cluster_turns.specs.AgentEvents.{IsAlone, IsNoted, SyncsAt, SyncsInPart, SyncsThere, agent_in, alone, event_of_agent};
+ghost use Rattle.cluster_turns.specs.Turns.{IsTaken};
+ghost use Rattle.cluster.specs.Syncing.{IsPlan, PlansInPart, PlansWhole, cut_first, noted_alone, own_done};
+
+use crate::cluster::Cluster;
+use anti_entropy::{SyncPlan, plan_sync};
+use cat_model::{Asked, Event, List, Memory, Request, ServiceRow};
+use cat_outside::Keeper;
+use cluster_turns::{AgentEvent, Cut};
+use std::alloc::Global;
+
+// What the event's cut is where its sync has not begun.
+fn cut_first(event: &AgentEvent) -> Cut
+    ensures { result ≡ cut_first event.now }
+{
+    match event {
+        AgentEvent::Sync { .. } => Cut::Before,
+        AgentEvent::Tick { .. } => Cut::Within,
+        AgentEvent::Ask { asked, .. } => match asked {
+            Asked::Good(Request::Agent(_)) => Cut::Within,
+            _ => Cut::Before,
+        },
+    }
+}
+
+impl<K: Keeper + Drop> Cluster<K> {
+    // Marks an agent's event. A request gets its number later.
+    fn mark_agents(&mut self, event: &AgentEvent) -> Result<(), Memory>
+        requires { IsTaken IsTakenAsked (event_of_agent event.now) }
+        ensures ok { OnOk result (self.new ≡ noted (event_of_agent event.now) self.old) }
+        ensures err { OnErr result (self.new ≡ self.old) }
+    {
+        match event {
+            AgentEvent::Sync { agent } => self.mark_event(Event::Sync(*agent)),
+            AgentEvent::Tick { agent, ms } => self.mark_event(Event::AgentTick(*agent, *ms)),
+            AgentEvent::Ask { agent, asked, draw } => self.mark_request(*agent, asked, *draw),
+        }
+    }
+
+    // An agent does its own part in an event that was noted, and its sync finds no leader.
+    fn do_leaderless(&mut self, alloc: Global, event: &AgentEvent) -> Result<(), Memory>
+        requires fits { Fits self.old (event_of_agent event.now) }
+        requires agents { is_agents (event_of_agent event.now) ≡ true }
+        requires come { IsNoted (event_of_agent event.now) self.old.past }
+        ensures ok { OnOk result (self.new ≡ synced (agent_in (event_of_agent event.now)) None (own_done (event_of_agent event.now) self.old)) }
+        ensures err { OnErr result (self.new ≡ self.old) }
+    {
+        let agent = event.agent();
+        self.tell_leaderless(agent)?;
+        if self.do_own(alloc, event).is_err() {
+            self.take_back(agent);
+            return Err(Memory);
+        }
+        Ok(())
+    }
+
+    // The same, where a sync may be a part of it or not.
+    fn do_noted(
+        &mut self,
+        alloc: Global,
+        event: &AgentEvent,
+        leaderless: bool,
+    ) -> Result<(), Memory>
+        requires fits { Fits self.old (event_of_agent event.now) }
+        requires agents { is_agents (event_of_agent event.now) ≡ true }
+        requires come { IsNoted (event_of_agent event.now) self.old.past }
+        ensures ok { OnOk result (self.new ≡ noted_alone leaderless (event_of_agent event.now) self.old) }
+        ensures err { OnErr result (self.new ≡ self.old) }
+    {
+        if leaderless {
+            self.do_leaderless(alloc, event)
+        } else {
+            self.do_own(alloc, event)
+        }
+    }
+
+    /// Marks an agent's event that goes to no server, a request with its number, and does the agent's own part.
+    /// `leaderless` says that a sync is a part of it, which finds no leader: its out says so.
+    pub(crate) fn do_alone(
+        &mut self,
+        alloc: Global,
+        event: &AgentEvent,
+        leaderless: bool,
+    ) -> Result<(), Memory>
+        requires fits { Fits self.old (event_of_agent event.now) }
+        requires agents { is_agents (event_of_agent event.now) ≡ true }
+        requires takes { IsTaken IsTakenAsked (event_of_agent event.now) }
+        ensures ok { OnOk result (self.new ≡ alone leaderless (event_of_agent event.now) self.old) }
+        ensures err { OnErr result (self.new ≡ self.old) }
+    {
+        self.mark_agents(event)?;
+        if self.do_noted(alloc, event, leaderless).is_err() {
+            self.forget_event();
+            return Err(Memory);
+        }
+        Ok(())
+    }
+
+    // What an agent takes over in a sync at a server, and what it proposes there. It answers Memory also for 2^32
+    // commands.
+    fn plan_at(&self, alloc: Global, server: u32, agent: u32) -> Result<SyncPlan, Memory>
+        requires server { IsServerNumber self.now server }
+        requires agent { IsAgentNumber self.now agent }
+        ensures plan { IfOk result (λ plan. IsPlan server agent self.now plan) }
+        ensures few { IfOk result (λ plan. length plan.commands < 2 ^ 32) }
+    {
+        let remote = self.remote_rows(alloc, server, agent)?;
+        let local = self.agents.local(alloc, agent)?;
+        let plan = plan_sync(alloc, local, &remote)?;
+        if plan.commands.len() > u32::MAX as usize {
+            return Err(Memory);
+        }
+        Ok(plan)
+    }
+
+    // Tells how many commands an agent's sync proposed, in the place of that it found no leader.
+    fn count_proposed(&mut self, agent: u32, count: u32)
+        requires { (c : SpecCluster) × (self.old ≡ synced agent None c) }
+        ensures { (c : SpecCluster) → self.old ≡ synced agent None c → self.new ≡ synced agent (Some count) c }
+    {
+        self.requests.count_sync(agent, count);
+    }
+
+    // An agent takes over these services in the place of its own.
+    fn adopt(&mut self, agent: u32, services: List<ServiceRow>)
+        requires { IsAgentNumber self.old agent }
+        ensures { self.new ≡ with_agent agent (record (agent_of self.old agent) { services = services }) self.old }
+    {
+        self.agents.adopt(agent, services);
+    }
+
+    // The sync of an agent by this plan, at a server that is ready. The agent takes over its services once something was
+    // proposed, or there was nothing to propose.
+    fn carry_plan(
+        &mut self,
+        alloc: Global,
+        server: u32,
+        agent: u32,
+        plan: SyncPlan,
+    ) -> Result<(), Cut>
+        requires server { IsServerNumber self.old server }
+        requires agent { IsAgentNumber self.old agent }
+        requires leads { runs_leading self.old.world server ≡ true }
+        requires plan { IsPlan server agent self.old plan }
+        requires few { length plan.commands < 2 ^ 32 }
+        ensures whole { OnOk result (PlansWhole server agent self.old self.new) }
+        ensures cut { IfErr result (λ cut. PlansInPart server agent cut self.old self.new) }
+    {
+        let SyncPlan { services, commands } = plan;
+        if self.tell_leaderless(agent).is_err() {
+            return Err(Cut::Before);
+        }
+        let proposed = self.propose_all(alloc, server, commands.as_slice());
+        if proposed.whole {
+            self.count_proposed(agent, proposed.entered as u32);
+            self.adopt(agent, services);
+            return Ok(());
+        }
+        self.take_back(agent);
+        if proposed.entered == 0 {
+            return Err(Cut::Before);
+        }
+        self.adopt(agent, services);
+        Err(Cut::Within)
+    }
+
+    // The sync of an agent at a server that is ready.
+    fn sync(&mut self, alloc: Global, server: u32, agent: u32) -> Result<(), Cut>
+        requires server { IsServerNumber self.old server }
+        requires agent { IsAgentNumber self.old agent }
+        requires leads { runs_leading self.old.world server ≡ true }
+        ensures whole { OnOk result (PlansWhole server agent self.old self.new) }
+        ensures cut { IfErr result (λ cut. PlansInPart server agent cut self.old self.new) }
+    {
+        match self.plan_at(alloc, server, agent) {
+            Ok(plan) => self.carry_plan(alloc, server, agent, plan),
+            Err(Memory) => Err(Cut::Before),
+        }
+    }
+
+    // The same behind the agent's own part.
+    fn sync_ready(&mut self, alloc: Global, server: u32, event: &AgentEvent) -> Result<(), Cut>
+        requires server { IsServerNumber self.old server }
+        requires fits { Fits self.old (event_of_agent event.now) }
+        requires agents { is_agents (event_of_agent event.now) ≡ true }
+        requires come { IsNoted (event_of_agent event.now) self.old.past }
+        requires goes { SyncsThere server (event_of_agent event.now) self.old }
+        requires ready { is_ready self.old server ≡ true }
+        ensures whole { OnOk result (SyncsAt server (event_of_agent event.now) self.old self.new true) }
+        ensures cut { IfErr result (λ cut. SyncsInPart server (event_of_agent event.now) cut self.old self.new) }
+    {
+        if self.do_own(alloc, event).is_err() {
+            return Err(Cut::Before);
+        }
+        match self.sync(alloc, server, event.agent()) {
+            Ok(()) => Ok(()),
+            Err(Cut::Before) => Err(cut_first(event)),
+            Err(Cut::Within) => Err(Cut::Within),
+        }
+    }
+
+    /// Gives an agent's request that was marked last its number, does the agent's own part, and then its sync at the
+    /// server. Where the server is not ready the sync finds no leader.
+    pub(crate) fn sync_at(
+        &mut self,
+        alloc: Global,
+        server: u32,
+        event: &AgentEvent,
+    ) -> Result<(), Cut>
+        requires server { IsServerNumber self.old server }
+        requires fits { Fits self.old (event_of_agent event.now) }
+        requires agents { is_agents (event_of_agent event.now) ≡ true }
+        requires come { IsNoted (event_of_agent event.now) self.old.past }
+        requires goes { SyncsThere server (event_of_agent event.now) self.old }
+        ensures whole { OnOk result (SyncsAt server (event_of_agent event.now) self.old self.new true) }
+        ensures cut { IfErr result (λ cut. SyncsInPart server (event_of_agent event.now) cut self.old self.new) }
+    {
+        if self.is_ready(server) {
+            return self.sync_ready(alloc, server, event);
+        }
+        match self.do_leaderless(alloc, event) {
+            Ok(()) => Ok(()),
+            Err(Memory) => Err(Cut::Before),
+        }
+    }
+}

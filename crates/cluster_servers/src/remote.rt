@@ -1,0 +1,23 @@
+//! What a server's catalog has of a node.
+
+ghost use Rattle.std.specs.Prelude.{◌≡◌, IfOk};
+ghost use Rattle.agent_rules.specs.Agents.{remote_of};
+ghost use Rattle.cat_model.specs.Log.{commands_of};
+ghost use Rattle.cat_model.specs.Machine.{catalog_at};
+ghost use Rattle.cluster_rules.specs.Cluster.{server_of};
+ghost use Rattle.raft_world.specs.Steps.{IsNumber};
+
+use crate::servers::Servers;
+use cat_model::{Memory, Remote};
+use cat_outside::Keeper;
+use std::alloc::Global;
+
+impl<K: Keeper> Servers<K> {
+    /// Copies of the rows that the catalog has of this node at all that a server has applied.
+    pub fn remote(&self, alloc: Global, s: u32, node: &str) -> Result<Remote, Memory>
+        requires { IsNumber s self.now.world }
+        ensures { IfOk result (λ remote. remote ≡ remote_of node.now (catalog_at (commands_of (server_of self.now.servers s).applied))) }
+    {
+        self.replica(s).remote(alloc, node)
+    }
+}

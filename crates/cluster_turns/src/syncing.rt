@@ -1,0 +1,151 @@
+//! The events of agents: what an agent does by itself, and its sync with the leader's catalog.
+
+ghost use Rattle.std.specs.Prelude.{◌≡◌, ℕ, Some, IfErr, OnOk, OnErr, true};
+ghost use Rattle.cluster_rules.specs.Reached.{Fits, IsServerNumber};
+ghost use Rattle.cluster_rules.specs.Proposals.{is_agents, sync_of};
+ghost use Rattle.cluster_rules.specs.Requests.{Goes};
+ghost use Rattle.cluster_rules.specs.Step.{ClusterStep, noted};
+ghost use Rattle.cluster_turns.specs.Turns.{FindsNoMemory, IsTaken, way_of};
+ghost use Rattle.cluster_turns.specs.AgentEvents.{IsAlone, IsNoted, IsSynced, IsSyncedInPart, SyncsThere, agent_in, event_of_agent, sync_way};
+
+use crate::agent_event::AgentEvent;
+use crate::cut::Cut;
+use crate::parts::{Parts, Way};
+use crate::turns::{cut_after, finish, make_up};
+use cat_model::{Event, Memory};
+use std::alloc::Global;
+
+// Makes the event of an agent that goes to no server.
+#[tactic(none)]
+fn stay<P: Parts>(
+    parts: &mut P,
+    alloc: Global,
+    event: &AgentEvent,
+    leaderless: bool,
+) -> Result<(), Memory>
+    requires fits { Fits (P.state parts.old) (event_of_agent event.now) }
+    requires agents { is_agents (event_of_agent event.now) ≡ true }
+    requires takes { IsTaken P.takes (event_of_agent event.now) }
+    requires alone { IsAlone leaderless (event_of_agent event.now) (P.state parts.old) }
+    ensures whole { OnOk result (ClusterStep (P.state parts.old) (event_of_agent event.now) (P.state parts.new) true) }
+    ensures cut { OnErr result (FindsNoMemory (event_of_agent event.now) (P.state parts.old) (P.state parts.new)) }
+{
+    parts.do_alone(alloc, event, leaderless)?;
+    parts.shelve();
+    Ok(())
+}
+
+// Marks an agent's event. A request gets its number later.
+fn note<P: Parts>(parts: &mut P, alloc: Global, event: &AgentEvent) -> Result<(), Memory>
+    requires { IsTaken P.takes (event_of_agent event.now) }
+    ensures ok { OnOk result (P.state parts.new ≡ noted (event_of_agent event.now) (P.state parts.old)) }
+    ensures err { OnErr result (P.state parts.new ≡ P.state parts.old) }
+{
+    match event {
+        AgentEvent::Sync { agent } => parts.note(alloc, Event::Sync(*agent)),
+        AgentEvent::Tick { agent, ms } => parts.note(alloc, Event::AgentTick(*agent, *ms)),
+        AgentEvent::Ask { agent, asked, draw } => parts.note_request(alloc, *agent, asked, *draw),
+    }
+}
+
+// What an agent's event that was noted makes its server do. The agent does its own part once all is made up for.
+#[tactic(none)]
+fn carry_out<P: Parts>(
+    parts: &mut P,
+    alloc: Global,
+    server: u32,
+    event: &AgentEvent,
+) -> Result<(), Cut>
+    requires server { IsServerNumber (P.state parts.old) server }
+    requires fits { Fits (P.state parts.old) (event_of_agent event.now) }
+    requires agents { is_agents (event_of_agent event.now) ≡ true }
+    requires takes { IsTaken P.takes (event_of_agent event.now) }
+    requires come { IsNoted (event_of_agent event.now) (P.state parts.old).past }
+    requires goes { SyncsThere server (event_of_agent event.now) (P.state parts.old) }
+    ensures whole { OnOk result (IsSynced server (event_of_agent event.now) (P.state parts.old) (P.state parts.new)) }
+    ensures cut { IfErr result (λ cut. IsSyncedInPart server (event_of_agent event.now) cut (P.state parts.old) (P.state parts.new)) }
+{
+    let was = match make_up(parts, alloc, server) {
+        Ok(was) => was,
+        Err(cut) => return Err(cut),
+    };
+    match parts.sync_at(alloc, server, event) {
+        Ok(()) => finish(parts, alloc, server),
+        Err(Cut::Before) => Err(cut_after(was)),
+        Err(Cut::Within) => Err(Cut::Within),
+    }
+}
+
+// Makes the event of an agent whose sync goes to a server.
+#[tactic(none)]
+fn sync<P: Parts>(
+    parts: &mut P,
+    alloc: Global,
+    server: u32,
+    event: &AgentEvent,
+) -> Result<(), Memory>
+    requires server { IsServerNumber (P.state parts.old) server }
+    requires fits { Fits (P.state parts.old) (event_of_agent event.now) }
+    requires agents { is_agents (event_of_agent event.now) ≡ true }
+    requires takes { IsTaken P.takes (event_of_agent event.now) }
+    requires goes { SyncsThere server (event_of_agent event.now) (P.state parts.old) }
+    ensures whole { OnOk result (ClusterStep (P.state parts.old) (event_of_agent event.now) (P.state parts.new) true) }
+    ensures cut { OnErr result (FindsNoMemory (event_of_agent event.now) (P.state parts.old) (P.state parts.new)) }
+{
+    note(parts, alloc, event)?;
+    match carry_out(parts, alloc, server, event) {
+        Ok(()) => {
+            parts.shelve();
+            Ok(())
+        }
+        Err(Cut::Before) => {
+            parts.forget();
+            Err(Memory)
+        }
+        Err(Cut::Within) => {
+            parts.shelve();
+            Err(Memory)
+        }
+    }
+}
+
+// Makes the event of an agent whose sync goes this way.
+#[tactic(none)]
+fn sync_by<P: Parts>(
+    parts: &mut P,
+    alloc: Global,
+    way: Way,
+    event: &AgentEvent,
+) -> Result<(), Memory>
+    requires fits { Fits (P.state parts.old) (event_of_agent event.now) }
+    requires agents { is_agents (event_of_agent event.now) ≡ true }
+    requires takes { IsTaken P.takes (event_of_agent event.now) }
+    requires syncs { sync_of (P.state parts.old) (event_of_agent event.now) ≡ Some (agent_in (event_of_agent event.now)) }
+    requires way { way_of way ≡ sync_way (agent_in (event_of_agent event.now)) (P.state parts.old) }
+    requires server { (server : ℕ) → way_of way ≡ Goes server → IsServerNumber (P.state parts.old) server }
+    ensures whole { OnOk result (ClusterStep (P.state parts.old) (event_of_agent event.now) (P.state parts.new) true) }
+    ensures cut { OnErr result (FindsNoMemory (event_of_agent event.now) (P.state parts.old) (P.state parts.new)) }
+{
+    match way {
+        Way::Answers(_why) => stay(parts, alloc, event, true),
+        Way::Goes(server) => sync(parts, alloc, server, event),
+    }
+}
+
+/// Makes an agent's event. A sync that is a part of it goes to the leader, if the agent's server knows of one.
+#[tactic(none)]
+pub fn happen<P: Parts>(parts: &mut P, alloc: Global, event: &AgentEvent) -> Result<(), Memory>
+    requires fits { Fits (P.state parts.old) (event_of_agent event.now) }
+    requires agents { is_agents (event_of_agent event.now) ≡ true }
+    requires takes { IsTaken P.takes (event_of_agent event.now) }
+    ensures whole { OnOk result (ClusterStep (P.state parts.old) (event_of_agent event.now) (P.state parts.new) true) }
+    ensures cut { OnErr result (FindsNoMemory (event_of_agent event.now) (P.state parts.old) (P.state parts.new)) }
+{
+    match parts.sync_of(event) {
+        None => stay(parts, alloc, event, false),
+        Some(agent) => {
+            let way = parts.leader_way(agent);
+            sync_by(parts, alloc, way, event)
+        }
+    }
+}

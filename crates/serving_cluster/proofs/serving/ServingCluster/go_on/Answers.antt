@@ -1,0 +1,9 @@
+use Rattle.serve_loop.proofs.MarkLists.{quiet_quiet}
+use Rattle.serving_cluster.proofs.Steps.{by_still}
+use Rattle.serving_cluster.proofs.serving.ServingCluster.go_on.Goals as goal
+
+pub returns-in-Ok-clause-quiet : goal.returns-in-Ok-clause-quiet
+returns-in-Ok-clause-quiet g c = quiet_quiet _ _ _ c.tick_all.ensures.quiet c.tick_agents.ensures.quiet
+
+pub returns-in-Ok-clause-ticks : goal.returns-in-Ok-clause-ticks
+returns-in-Ok-clause-ticks g c = by_still c.args.ms _ _ _ c.tick_all.ensures.ticks c.tick_agents.ensures.unticked
