@@ -14,6 +14,7 @@ ghost use Rattle.cat_model.specs.contracts.applied.Applied as applied;
 ghost use Rattle.lock_delay.specs.contracts.table.LockDelay as delays;
 ghost use Rattle.session_ttl.specs.contracts.office.Office as office;
 ghost use Rattle.replica.specs.contracts.replica.Replica as replica;
+ghost use Rattle.agent_state.specs.contracts.agent.Agent as agent;
 ghost use Rattle.open_requests.specs.contracts.requests.Requests as requests;
 ghost use Rattle.cat_outside.specs.contracts.mem_keeper.MemKeeper as mem_keeper;
 ghost use Rattle.cat_outside.specs.contracts.mem_keeper.MemKeeperKeeper.TheImpl.{ghosts};
@@ -21,6 +22,7 @@ ghost use Rattle.raft_world.specs.contracts.world.World as world;
 ghost use Rattle.cluster_servers.specs.contracts.servers.Servers as servers;
 ghost use Rattle.cluster.specs.contracts.cluster.Cluster as cluster;
 
+use agent_state::Agent;
 use cat_model::{Applied, Command};
 use cat_outside::MemKeeper;
 use catalog_store::Store;
@@ -118,6 +120,12 @@ fn replicas_send()
     sends::<Replica>();
 }
 
+fn agents_send()
+    ensures { IsSend agent.the_row }
+{
+    sends::<Agent>();
+}
+
 fn requests_send()
     ensures { IsSend requests.the_row }
 {
@@ -143,6 +151,7 @@ pub fn clusters_send()
     ensures { IsSend (cluster.the_row mem_keeper.the_row ghosts) }
 {
     servers_send();
+    agents_send();
     requests_send();
     sends::<Cluster<MemKeeper>>();
 }

@@ -1,14 +1,18 @@
-use denote.Param.Send.{IsSend, arg_send, view_send, param_send, recorded_send, struct_send}
+use denote.Param.Send.{IsSend, arg_send, sendable, view_send, param_send, recorded_send, struct_send}
 use denote.Exit.{no}
 use denote.Struct.Declared as declared
-use Rattle.std.proofs.Crossing.{Vec-send}
+use Rattle.std.proofs.Crossing.{crosses}
 use Rattle.cat_outside.specs.contracts.mem_keeper.MemKeeper as mem_keeper
 use Rattle.cat_outside.specs.contracts.mem_keeper.MemKeeperKeeper.TheImpl.{ghosts}
+use Rattle.cluster.specs.contracts.agents.Agents as agents
+use Rattle.cluster.specs.contracts.agents.Agents.TheInside as inner
 use Rattle.cluster.specs.contracts.cluster.Cluster as whole
 use Rattle.cluster.specs.contracts.cluster.Cluster.TheInside as inside
 use Rattle.cluster_sending.proofs.clusters_send.Goals as goal
 
 pub sends-requires-send-T : goal.sends-requires-send-T
 sends-requires-send-T c κs =
-    let i : IsSend (inside.the_row mem_keeper.the_row ghosts) = recorded_send (inside.the_field mem_keeper.the_row ghosts).row _ _ (inside.the_type mem_keeper.the_row ghosts).to_one (struct_send (declared.shape (inside.the_type mem_keeper.the_row ghosts)) (c.servers_send.ensures, (c.requests_send.ensures, tt))) in
+    let b : IsSend inner.the_row = recorded_send (inner.the_field).row _ _ (inner.the_type).to_one (struct_send (declared.shape inner.the_type) (search (sendable, crosses, c.agents_send.ensures) depth 24, tt)) in
+    let a : IsSend agents.the_row = view_send _ _ _ _ _ b in
+    let i : IsSend (inside.the_row mem_keeper.the_row ghosts) = recorded_send (inside.the_field mem_keeper.the_row ghosts).row _ _ (inside.the_type mem_keeper.the_row ghosts).to_one (struct_send (declared.shape (inside.the_type mem_keeper.the_row ghosts)) (c.servers_send.ensures, (a, (c.requests_send.ensures, tt)))) in
     let s : IsSend (whole.the_row mem_keeper.the_row ghosts) = view_send _ _ _ _ _ i in param_send 0 _ (arg_send _ no _ s)
