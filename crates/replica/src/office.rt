@@ -70,6 +70,9 @@ impl Replica {
         requires within { kept ≤ length endings.now }
         ensures { (rows : List SpecSession) (o : SpecOffice) → endings.now ≡ map ending_of rows → self.old.office ≡ ended_too rows o → self.new ≡ in_office (ended_too (take kept rows) o) self.old }
     {
+        if kept >= endings.len() {
+            return;
+        }
         self.office.keep_first(endings, kept);
         self.quiet_until = 0;
     }
