@@ -18,7 +18,7 @@ use cat_outside::Keeper;
 use open_requests::{Content, MarkedReply, Start, copy_asked};
 
 fn copy_of(row: Option<&SessionRow>) -> Result<Option<SessionRow>, Memory>
-    ensures { IfOk result (λ copy. copy ≡ option_copied row) }
+    ensures { IfOk result (λ copy. copy ≡ option_copied row.entry) }
 {
     match row {
         None => Ok(None),
@@ -28,7 +28,7 @@ fn copy_of(row: Option<&SessionRow>) -> Result<Option<SessionRow>, Memory>
 
 // The reply to a renewal at this prefix, where the session has this row, or is not there.
 fn renewed(number: u64, prefix: u64, row: Option<&SessionRow>) -> Result<MarkedReply, Memory>
-    ensures { IfOk result (λ reply. reply ≡ reply_with number (SpecKind.Seen SpecMode.Default prefix) false 0 (replies.Renews (option_copied row))) }
+    ensures { IfOk result (λ reply. reply ≡ reply_with number (SpecKind.Seen SpecMode.Default prefix) false 0 (replies.Renews (option_copied row.entry))) }
 {
     let content = Content::Renews(copy_of(row)?);
     let kind = Kind::Seen {

@@ -1,6 +1,6 @@
 //! How a cluster begins.
 
-ghost use Rattle.std.specs.Prelude.{◌≡◌, ◌<◌, ◌^◌, All, IfErr, IfOk, length, map};
+ghost use Rattle.std.specs.Prelude.{◌≡◌, ◌<◌, ◌≤◌, ◌^◌, All, IfErr, IfOk, length, map};
 ghost use Rattle.std.specs.Option.{ForSome};
 ghost use Rattle.raft_node.specs.Nodes.{KeepsLimits};
 ghost use Rattle.raft_node.specs.Steps.{stored};
