@@ -29,7 +29,6 @@ use Rattle.cluster.specs.Moving.{Ends, MarksStep, Seats, seen_of}
 use Rattle.cluster.specs.Standing.{Stands}
 use Rattle.cluster.proofs.Carried.{Goes, all_officed, arming_goes, carries, sound_officed}
 use Rattle.cluster.proofs.Forgetting.{forgot}
-use Rattle.cluster.proofs.Kept.{each_item, each_set}
 use Rattle.cluster.proofs.Marking.{cluster_marked, stands_marked, with_room}
 use Rattle.agent_rules.specs.Agents.{Agent}
 

@@ -33,9 +33,9 @@ use Rattle.cluster.specs.declared.work.Work.TheVariants.{Hold}
 use Rattle.cluster.specs.Looking.{is_early, is_late, is_look_due, is_round_over, is_stand_due, is_stand_late, waits_on}
 use Rattle.cluster.specs.Standing.{IsAwaited, IsHeld, IsLookedFor, Stands}
 use Rattle.cluster.specs.Working.{IsFound, IsWork}
-use Rattle.agent_rules.specs.Agents.{Agent}
+use Rattle.agent_rules.specs.Agents.{Agent as AgentRows}
 
-module _ (gs : List Agent) where
+module _ (gs : List AgentRows) where
   -- the cluster of these parts, with these agents
   abbrev cluster_of : World → List Server → Requests → Cluster
   cluster_of w servers r = whole_of w servers gs r

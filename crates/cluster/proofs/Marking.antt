@@ -3,7 +3,7 @@ use Rattle.std.proofs.Common.{◌≡◌, ℕ, ◌+◌, ◌-◌, ◌≤◌, Bool,
 use Rattle.std.proofs.lemmas.List.{length-take, take-append-drop}
 use Rattle.raft_model.specs.World.{World, IsReached}
 use Rattle.raft_world.specs.Steps.{KeepsAgreement}
-use Rattle.cluster_rules.specs.Cluster.{Server}
+use Rattle.cluster_rules.specs.Cluster.{Cluster, Server}
 use Rattle.cluster_rules.specs.Requests.{moved_with}
 use Rattle.open_requests.proofs.Lifting.{moves_by}
 use Rattle.open_requests.specs.declared.note.Note.{Note}

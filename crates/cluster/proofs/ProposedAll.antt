@@ -1,5 +1,5 @@
 -- What a leading server proposes for no request: one command, and several in their order.
-use Rattle.std.proofs.Common.{◌≡◌, inl, inr, ℕ, zero, suc, ◌+◌, ◌≤◌, Bool, true, false, cond, not, length, take, map, List, [], ◌∷◌, ◌++◌, Result, Ok, Err, refl, sym, ◌∙◌, ap, subst, arith}
+use Rattle.std.proofs.Common.{◌≡◌, ◌⊎◌, inl, inr, ℕ, zero, suc, ◌+◌, ◌≤◌, Bool, true, false, cond, not, length, take, map, List, [], ◌∷◌, ◌++◌, Result, Ok, Err, refl, sym, ◌∙◌, ap, subst, arith}
 use Rattle.std.specs.Prelude.{IfOk, OnErr, ◌&&◌}
 use Rattle.cat_model.specs.declared.command.Command.{Command}
 use Rattle.cat_model.specs.declared.memory.Memory as memory
@@ -36,11 +36,12 @@ entered_last i [] command c c₁ c' no_more e = one_more e no_more
 entered_last i (x ∷ commands) command c c₁ c' (one_more {c₁ = d} f all) e = one_more f (entered_last i commands command d c₁ c' all e)
 
 -- what is entered first, and then proposed
-pub entered_then : (i : ℕ) (commands more : List Command) (c c₁ c' : Cluster) (n : ℕ) (whole : Bool) → AllEntered i commands c c₁ → Proposals i more c₁ n c' whole → Proposals i (commands ++ more) c (length commands + n) c' whole
-entered_then i [] more c c₁ c' n whole no_more p = p
-entered_then i (x ∷ commands) more c c₁ c' n whole (one_more {c₁ = d} f all) p =
-    let rest : Proposals i (commands ++ more) (moved i f.world c) (length commands + n) c' whole = subst (λ (z : Cluster). Proposals i (commands ++ more) z (length commands + n) c' whole) f.is (entered_then i commands more d c₁ c' n whole all p) in
-    enters f.world f.leads f.room f.acts f.runs rest
+pub entered_then : (i : ℕ) (commands more : List Command) (c c₁ c' : Cluster) (n m : ℕ) (whole : Bool) → AllEntered i commands c c₁ → Proposals i more c₁ n c' whole → m ≡ length commands + n → Proposals i (commands ++ more) c m c' whole
+entered_then i [] more c c₁ c' n m whole no_more p e = let same : n ≡ m = omega (arith, e) in subst (λ k. Proposals i more c k c' whole) same p
+entered_then i (x ∷ commands) more c c₁ c' n m whole (one_more {c₁ = d} f all) p e =
+    let rest : Proposals i (commands ++ more) (moved i f.world c) (length commands + n) c' whole = subst (λ (z : Cluster). Proposals i (commands ++ more) z (length commands + n) c' whole) f.is (entered_then i commands more d c₁ c' n (length commands + n) whole all p refl) in
+    let last : suc (length commands + n) ≡ m = omega (arith, e) in
+    subst (λ k. Proposals i (x ∷ commands ++ more) c k c' whole) last (enters f.world f.leads f.room f.acts f.runs rest)
 
 -- one that is refused ends it, as does want of memory
 pub refused_one : (i : ℕ) (command : Command) (more : List Command) (c c' : Cluster) → IsRefused i command c c' → Proposals i (command ∷ more) c 0 c' true

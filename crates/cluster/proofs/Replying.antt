@@ -25,9 +25,9 @@ use Rattle.open_requests.specs.Contents.{write_content}
 use Rattle.cluster.specs.Looking.{IsAppliedLast, RepliesLast}
 use Rattle.open_requests.specs.Requests.{Requests, cluster_of as whole_of}
 use Rattle.cluster.specs.Standing.{HasPlace, IsAwaited, Stands}
-use Rattle.agent_rules.specs.Agents.{Agent}
+use Rattle.agent_rules.specs.Agents.{Agent as AgentRows}
 
-module _ (gs : List Agent) where
+module _ (gs : List AgentRows) where
   -- the cluster of these parts, with these agents
   abbrev cluster_of : World → List Server → Requests → Cluster
   cluster_of w servers r = whole_of w servers gs r

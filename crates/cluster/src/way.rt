@@ -1,11 +1,10 @@
 //! Where a request goes.
 
 ghost use Rattle.std.specs.Prelude.{◌≡◌, ◌<◌, ◌≤◌, ◌+◌, IfOk, None, Some, false, true, length, ℕ};
-ghost use Rattle.script_runs.specs.Taken.{IsTakenAsked};
 ghost use Rattle.cluster_rules.specs.Cluster.{no_node, node_of, runs_leading};
 ghost use Rattle.cluster_rules.specs.Reached.{IsAgentNumber, IsServerNumber};
 ghost use Rattle.cluster_rules.specs.Requests.{Goes, asked_server, is_stale_read, to_leader, way_of as rules_way};
-ghost use Rattle.cluster_turns.specs.AgentEvents.{sync_way};
+ghost use Rattle.cluster_turns.specs.AgentEvents.{is_for_agent, sync_way};
 ghost use Rattle.cluster_turns.specs.Turns.{GoesBy, way_of};
 ghost use Rattle.cluster.specs.Going.{held_of};
 
@@ -121,11 +120,11 @@ impl<K: Keeper> Cluster<K> {
         self.way_to(server, node.leader())
     }
 
-    /// Where a request of an agent goes.
+    /// Where a request goes that an agent is asked, and that it does not answer itself.
     #[tactic(auto, using(crate::proofs::Going::way_is))]
     pub(crate) fn way_of(&self, agent: u32, asked: &Asked) -> Result<Way, Memory>
         requires agent { IsAgentNumber self.now agent }
-        requires takes { IsTakenAsked asked.now }
+        requires plain { is_for_agent asked.now ≡ false }
         ensures way { IfOk result (λ way. GoesBy agent asked.now (way_of way) self.now) }
         ensures server { IfOk result (λ way. (server : ℕ) → way_of way ≡ Goes server → IsServerNumber self.now server) }
     {
