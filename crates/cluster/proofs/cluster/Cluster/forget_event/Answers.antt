@@ -14,5 +14,5 @@ invariant_of-self g c =
 
 pub returns : goal.returns
 returns g c = λ made d e.
-    ap (λ (r : Requests). cluster_of c.self.inside.servers.world c.self.inside.servers.servers r) c.forget.ensures
+    ap (λ (r : Requests). cluster_of c.self.inside.servers.world c.self.inside.servers.servers c.self.inside.agents r) c.forget.ensures
     ∙ forgotten_is c.self.inside.agents c.self.inside.servers.world c.self.inside.servers.servers c.self.inside.requests made d c.self.invariant (c.self.view_is ∙ e)
