@@ -4,6 +4,7 @@ pub mod Beginning
 pub mod Carried
 pub mod Dues
 pub mod Entered
+pub mod Executed
 pub mod ProposedAll
 pub mod Finding
 pub mod Forgetting

@@ -70,4 +70,4 @@ module _ (gs : List Agent) where
       let longer : w'.agreed ≡ w.agreed ++ more = sym (take-append-drop (length w.agreed) w'.agreed) ∙ ap (λ l. l ++ more) (k s.reached).2 in
       ap (cluster_of w' servers) m
       ∙ ap (λ n. cluster_of w' servers (with_note (Joined n) (halted_with failed i r))) count
-      ∙ moves_by failed i w w' servers r more s.joined longer
+      ∙ moves_by failed i w w' servers gs r more s.joined longer

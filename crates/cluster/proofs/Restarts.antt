@@ -110,6 +110,6 @@ module _ (gs : List Agent) where
       let marks : IsMarked failed i (length w'.agreed - length w.agreed) r₁ r₂ = subst (λ (z : Seen). IsMarked failed i (length w'.agreed - z.agreed) r₁ r₂) was (subst (λ (z : Seen). IsMarked z.halted i (z.agreed - before.agreed) r₁ r₂) seen m) in
       let stands = restart_stands failed i w w' servers r₁ r₂ p.0 k step marks in
       let moves = cluster_marked gs failed i w w' servers r₁ r₂ p.0 k marks in
-      let is : cluster_of w' (set_server servers i no_server) (ended_all i r₂) ≡ begun_anew i (cluster_of w' servers r₂) = ends_by w' (set_server servers i no_server) r₂ i in
+      let is : cluster_of w' (set_server servers i no_server) (ended_all i r₂) ≡ begun_anew i (cluster_of w' servers r₂) = ends_by w' (set_server servers i no_server) gs r₂ i in
       let whole : ActedWhole gs i (event.Restart i) (cluster_of w servers r₁) w' (set_server servers i no_server) (ended_all i r₂) = record { stands = stands; whole = (restarts w' refl refl step (is ∙ ap (begun_anew i) moves), tt) } in
       subst (λ (q : Requests). ActedWhole gs i (event.Restart i) c w' servers' q) (sym e) (whole_with gs i (event.Restart i) (cluster_of w servers r₁) c w' (set_server servers i no_server) servers' (ended_all i r₂) (p.1 ∙ view) same whole)

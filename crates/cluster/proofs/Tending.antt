@@ -1,7 +1,7 @@
 -- The second act of a tick: a leading server proposes the ends of the sessions that are over by its clock, and then the
 -- reap that is due.
-use Rattle.std.proofs.Common.{◌≡◌, ℕ, zero, suc, ◌<◌, ◌≤◌, Bool, true, false, cond, not, List, [], ◌∷◌, length, map, take, refl, sym, ◌∙◌, ap, subst, arith}
-use Rattle.std.specs.Prelude.{◌&&◌, if◌then◌else◌}
+use Rattle.std.proofs.Common.{◌≡◌, inr, ℕ, zero, suc, ◌<◌, ◌≤◌, Bool, true, false, cond, not, List, [], ◌∷◌, length, map, take, Result, Ok, Err, refl, sym, ◌∙◌, ap, subst, arith}
+use Rattle.std.specs.Prelude.{OnErr, OnOk, ◌&&◌, if◌then◌else◌}
 use Rattle.cat_model.specs.declared.command.Command.{Command}
 use Rattle.cat_model.specs.declared.command.Command.TheVariants.{Reap}
 use Rattle.cat_model.specs.declared.row.SessionRow.{SessionRow}
@@ -13,8 +13,12 @@ use Rattle.cluster_rules.specs.Proposals.{Proposals, none_left, breaks, enters, 
 use Rattle.cluster_rules.specs.Reached.{IsServerNumber}
 use Rattle.cluster_rules.specs.Requests.{moved}
 use Rattle.cluster_rules.proofs.Tools.{item_same, length_set_server}
+use Rattle.agent_rules.specs.Agents.{Agent}
+use Rattle.cluster_servers.specs.Servers.{Servers, officed}
+use Rattle.open_requests.specs.Requests.{Requests, cluster_of}
 use Rattle.session_ttl.specs.Endings.{ending_of}
 use Rattle.session_ttl.specs.declared.ending.Ending.{Ending}
+use Rattle.cluster_turns.specs.Turns.{TendsInPart}
 use Rattle.cluster.specs.Tending.{EndsProposed, ReapsProposed, end_command, is_reap_due}
 
 -- a server in its own place
@@ -64,9 +68,12 @@ ends_told i c noted proposed new n whole there is p same e =
     let size : length proposed.servers ≡ length c.servers = ap length same ∙ ap (λ (z : Cluster). length z.servers) is ∙ length_set_server c.servers i _ in
     let here : IsServerNumber proposed i = (there.0, omega (arith, there.1, size)) in
     let office : office_of before i ≡ own = office_is i proposed here own in
-    let last : with_office i (ended_too (take n rows) own) before ≡ with_office i (ended_too (take n rows) own) proposed = office_again i proposed here (ended_too (take n rows) own) own in
-    (n, before, subst (λ (z : Cluster). Proposals i (ends_of rows) z n before whole) back (proposals_officed i own (ends_of rows) noted n proposed whole p),
-    e ∙ sym last ∙ ap (λ (o : Office). with_office i (ended_too (take n rows) o) before) (sym office))
+    let last : with_office i (ended_too (take n rows) own) before ≡ with_office i (ended_too (take n rows) own) proposed = office_again i proposed here (ended_too (take n rows) own) own in (
+      n,
+      before,
+      subst (λ (z : Cluster). Proposals i (ends_of rows) z n before whole) back (proposals_officed i own (ends_of rows) noted n proposed whole p),
+      e ∙ sym last ∙ ap (λ (o : Office). with_office i (ended_too (take n rows) o) before) (sym office),
+    )
 
 -- the commands that end sessions
 pub ends_are : (rows : List SessionRow) (endings : List Ending) → endings ≡ map ending_of rows → map end_command endings ≡ ends_of rows
@@ -91,3 +98,51 @@ tends_on i c c₁ c₂ whole lead (n, d, p, e) (m, r) = in_turn n m d c₂ lead 
 
 pub tends_cut : (i : ℕ) (c c₁ : Cluster) → runs_leading c.world i ≡ true → EndsProposed i c false c₁ → Tends i c c₁ false
 tends_cut i c c₁ lead (n, d, p, e) = cut_off n d lead p e
+
+-- Proposals change no server's part.
+proposals_servers : (i : ℕ) (commands : List Command) (c : Cluster) (n : ℕ) (c' : Cluster) (whole : Bool) → Proposals i commands c n c' whole → c'.servers ≡ c.servers
+proposals_servers i [] c n c' whole none_left = refl
+proposals_servers i commands c n c' whole breaks = refl
+proposals_servers i (command ∷ commands) c n c' whole (enters {n = m} w' lead room a up more) = proposals_servers i commands (moved i w' c) m c' whole more
+proposals_servers i (command ∷ commands) c n c' whole (refuses w' lead a why) = refl
+
+pub ends_there : (i : ℕ) (c c' : Cluster) (whole : Bool) → IsServerNumber c i → EndsProposed i c whole c' → IsServerNumber c' i
+ends_there i c c' whole there (n, d, p, e) =
+    let size : length c'.servers ≡ length c.servers = ap (λ (z : Cluster). length z.servers) e ∙ length_set_server d.servers i _ ∙ ap length (proposals_servers i (ends_of (over_rows c i)) c n d whole p) in
+    (there.0, omega (arith, there.1, size))
+
+-- the last time in office that was noted
+pub noted_office : (i : ℕ) (c noted proposed : Cluster) (o : Office) → IsServerNumber c i → noted ≡ with_office i o c → proposed.servers ≡ noted.servers → office_of proposed i ≡ o
+noted_office i c noted proposed o there is same = ap (λ (l : List Server). (server_of l i).office) (same ∙ ap (λ (z : Cluster). z.servers) is) ∙ office_is i c there o
+
+-- The servers before, once the ends were noted, once they were proposed, and at last.
+pub noted_is : (gs : List Agent) (i : ℕ) (s s₁ : Servers) (r : Requests) (c : Cluster) → cluster_of s.world s.servers gs r ≡ c → s₁ ≡ officed i (ended_too (over_rows c i) (server_of s.servers i).office) s
+    → cluster_of s₁.world s₁.servers gs r ≡ with_office i (ended_too (over_rows c i) (office_of c i)) c
+noted_is gs i s s₁ r c view moved_to =
+    ap (λ (z : Servers). cluster_of z.world z.servers gs r) moved_to ∙ ap (λ (d : Cluster). with_office i (ended_too (over_rows c i) (office_of d i)) d) view
+
+pub proposed_office : (gs gs₂ : List Agent) (i : ℕ) (s s₁ s₂ : Servers) (r r₂ : Requests) (c proposed : Cluster) → cluster_of s.world s.servers gs r ≡ c → IsServerNumber c i → s₁ ≡ officed i (ended_too (over_rows c i) (server_of s.servers i).office) s
+    → proposed.servers ≡ s₁.servers → cluster_of s₂.world s₂.servers gs₂ r₂ ≡ proposed → (server_of s₂.servers i).office ≡ ended_too (over_rows c i) (office_of c i)
+proposed_office gs gs₂ i s s₁ s₂ r r₂ c proposed view there moved_to same seen =
+    ap (λ (d : Cluster). office_of d i) seen ∙ noted_office i c (cluster_of s₁.world s₁.servers gs r) proposed (ended_too (over_rows c i) (office_of c i)) there (noted_is gs i s s₁ r c view moved_to) same
+
+pub ends_done : (gs gs₂ : List Agent) (i : ℕ) (s s₁ s₂ s₃ : Servers) (r r₂ : Requests) (c proposed : Cluster) (endings : List Ending) (commands : List Command) (n : ℕ) (whole : Bool) → cluster_of s.world s.servers gs r ≡ c → IsServerNumber c i
+    → endings ≡ map ending_of (over_rows c i) → commands ≡ map end_command endings → s₁ ≡ officed i (ended_too (over_rows c i) (server_of s.servers i).office) s
+    → Proposals i commands (cluster_of s₁.world s₁.servers gs r) n proposed whole → proposed.servers ≡ s₁.servers → cluster_of s₂.world s₂.servers gs₂ r₂ ≡ proposed
+    → s₃ ≡ officed i (ended_too (take n (over_rows c i)) (office_of c i)) s₂ → EndsProposed i c whole (cluster_of s₃.world s₃.servers gs₂ r₂)
+ends_done gs gs₂ i s s₁ s₂ s₃ r r₂ c proposed endings commands n whole view there over commands_are moved_to p same seen kept =
+    let noted : Cluster = cluster_of s₁.world s₁.servers gs r in
+    let p' : Proposals i (ends_of (over_rows c i)) noted n proposed whole = subst (λ (cs : List Command). Proposals i cs noted n proposed whole) (commands_are ∙ ends_are (over_rows c i) endings over) p in
+    ends_told i c noted proposed (cluster_of s₃.world s₃.servers gs₂ r₂) n whole there (noted_is gs i s s₁ r c view moved_to) p' same
+    (ap (λ (z : Servers). cluster_of z.world z.servers gs₂ r₂) kept ∙ ap (with_office i (ended_too (take n (over_rows c i)) (office_of c i))) seen)
+
+-- the look alone
+pub looked_is : (gs : List Agent) (i : ℕ) (s s₁ : Servers) (r : Requests) (c : Cluster) → cluster_of s.world s.servers gs r ≡ c → s₁ ≡ officed i (looks_on (clock_of s.world i) (server_of s.servers i).office) s
+    → cluster_of s₁.world s₁.servers gs r ≡ looked i c
+looked_is gs i s s₁ r c view moved_to = ap (λ (z : Servers). cluster_of z.world z.servers gs r) moved_to ∙ ap (looked i) view
+
+-- what the second act did, by what became of the reap
+pub tended : {A B : Type 0} (i : ℕ) (c c₁ c₂ : Cluster) (result : Result A B) → runs_leading c.world i ≡ true → EndsProposed i c true c₁ → OnOk result (ReapsProposed i c₁ true c₂) → OnErr result (ReapsProposed i c₁ false c₂)
+    → OnOk result (Tends i c c₂ true) × OnErr result (TendsInPart i c c₂)
+tended i c c₁ c₂ (Ok x) lead ends ok err = (tends_on i c c₁ c₂ true lead ends ok, tt)
+tended i c c₁ c₂ (Err x) lead ends ok err = (tt, inr (tends_on i c c₁ c₂ false lead ends err))

@@ -1,21 +1,45 @@
 //! How a cluster begins.
 
-ghost use Rattle.std.specs.Prelude.{◌≡◌, ◌<◌, ◌≤◌, ◌^◌, All, IfErr, IfOk, length, map};
+ghost use Rattle.std.specs.Prelude.{◌≡◌, ◌<◌, ◌≤◌, ◌^◌, ℕ, All, IfErr, IfOk, length, map, replicate};
 ghost use Rattle.std.specs.Option.{ForSome};
 ghost use Rattle.raft_node.specs.Nodes.{KeepsLimits};
 ghost use Rattle.raft_node.specs.Steps.{stored};
 ghost use Rattle.raft_world.specs.Starting.{AreGivenBack};
+ghost use Rattle.agent_rules.specs.Agents.{new_agent};
 ghost use Rattle.cluster.specs.Beginning.{HasBegun, MayBegin};
 
 use crate::agents::Agents;
 use crate::cluster::Cluster;
-use cat_model::List;
+use cat_model::{List, Memory};
 use cat_outside::{KeepFail, Keeper};
 use cluster_servers::Servers;
 use open_requests::Requests;
 use std::alloc::Global;
 
 impl<K: Keeper + Drop> Cluster<K> {
+    // Servers begin with what these stores hold, beside these agents.
+    fn with_agents(
+        alloc: Global,
+        agents: Agents,
+        keepers: List<K>,
+    ) -> Result<Cluster<K>, (List<K>, KeepFail)>
+        requires some { 0 < length keepers }
+        requires few { length keepers < 2 ^ 32 }
+        requires limits { All (λ k. ForSome (K.held k) KeepsLimits) keepers }
+        requires kept { MayBegin (map (λ k. stored (K.held k) (K.armed k) (K.faults k)) keepers) }
+        ensures begun { (count : ℕ) → agents ≡ replicate count new_agent → IfOk result (HasBegun (map (λ k. stored (K.held k) (K.armed k) (K.faults k)) keepers) count) }
+        ensures back { IfErr result (λ why. AreGivenBack why.1 (map (λ k. stored (K.held k) (K.armed k) (K.faults k)) keepers) (map (λ k. stored (K.held k) (K.armed k) (K.faults k)) why.0)) }
+    {
+        match Servers::new(alloc, keepers) {
+            Ok(servers) => Ok(Cluster {
+                servers,
+                agents,
+                requests: Requests::new(alloc),
+            }),
+            Err(back) => Err(back),
+        }
+    }
+
     /// Servers 1, 2, .. begin with what these stores hold, and nothing was asked. Where a store cannot be read, or there
     /// is no memory, all are handed back in their order: those before it were read, those behind it were not tried.
     pub fn new(
@@ -31,19 +55,9 @@ impl<K: Keeper + Drop> Cluster<K> {
         ensures begun { IfOk result (HasBegun (map (λ k. stored (K.held k) (K.armed k) (K.faults k)) keepers) agents) }
         ensures back { IfErr result (λ why. AreGivenBack why.1 (map (λ k. stored (K.held k) (K.armed k) (K.faults k)) keepers) (map (λ k. stored (K.held k) (K.armed k) (K.faults k)) why.0)) }
     {
-        let Ok(agents) = Agents::new(alloc, agents) else {
-            return Err((keepers, KeepFail::Memory));
-        };
-        match Servers::new(alloc, keepers) {
-            Ok(servers) => Ok(Cluster {
-                servers,
-                agents,
-                requests: Requests::new(alloc),
-            }),
-            Err(back) => {
-                drop(agents);
-                Err(back)
-            }
+        match Agents::new(alloc, agents) {
+            Ok(agents) => Cluster::with_agents(alloc, agents, keepers),
+            Err(Memory) => Err((keepers, KeepFail::Memory)),
         }
     }
 }

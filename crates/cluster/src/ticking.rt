@@ -1,15 +1,17 @@
 //! The two acts of a tick: a server's clock goes on, and then it does what is due by it.
 
-ghost use Rattle.std.specs.Prelude.{◌≡◌, IfOk, OnErr, OnOk, map, true};
+ghost use Rattle.std.specs.Prelude.{◌≡◌, ◌&&◌, [], ◌∷◌, IfOk, OnErr, OnOk, false, map, true};
+ghost use Rattle.cat_model.specs.declared.command.Command.TheVariants.{Reap};
 ghost use Rattle.cat_model.specs.declared.request.Event.TheVariants as event;
 ghost use Rattle.cluster_rules.specs.Cluster.{runs_leading};
-ghost use Rattle.cluster_rules.specs.Proposals.{Tends, over_rows};
+ghost use Rattle.cluster_rules.specs.Proposals.{Proposals, Tends, looked, over_rows};
 ghost use Rattle.cluster_rules.specs.Reached.{Fits, IsServerNumber};
 ghost use Rattle.cluster_turns.specs.Turns.{TendsInPart, Ticks};
 ghost use Rattle.session_ttl.specs.Endings.{ending_of};
 ghost use Rattle.cluster.specs.Tending.{EndsProposed, ReapsProposed, end_command, is_reap_due};
 
 use crate::cluster::Cluster;
+use crate::proposals::Proposed;
 use cat_model::{Command, Memory};
 use cat_outside::Keeper;
 use session_ttl::Ending;
@@ -45,28 +47,30 @@ impl<K: Keeper + Drop> Cluster<K> {
         self.servers.is_reap_due(server)
     }
 
-    // The ends of these sessions, which are over, are proposed, and not again unless they are renewed.
+    // Notes that the ends of these sessions are proposed, proposes them, and notes no more those that were not entered.
     #[tactic(auto, using(crate::proofs::Numbers::is_number))]
     fn propose_ends(
         &mut self,
         alloc: Global,
         server: u32,
         endings: &[Ending],
+        commands: &[Command],
     ) -> Result<bool, Memory>
         requires server { IsServerNumber self.old server }
         requires leads { runs_leading self.old.world server ≡ true }
         requires over { endings.now ≡ map ending_of (over_rows self.old server) }
+        requires commands { commands.now ≡ map end_command endings.now }
         ensures told { IfOk result (λ whole. EndsProposed server self.old whole self.new) }
         ensures same { OnErr result (self.new ≡ self.old) }
     {
-        let commands = ends_of(alloc, endings)?;
         self.servers.end(server, endings)?;
-        let proposed = self.propose_all(alloc, server, commands.as_slice());
+        let proposed = self.propose_all(alloc, server, commands);
         self.servers.keep_first(server, endings, proposed.entered);
         Ok(proposed.whole)
     }
 
-    // The ends of the sessions that are over by the clock of a server that leads.
+    // Proposes the ends of the sessions that are over by the clock of a server that leads, and says whether memory
+    // sufficed. They are not proposed again unless they are renewed.
     #[tactic(auto, using(crate::proofs::Numbers::is_number))]
     fn end_sessions(&mut self, alloc: Global, server: u32) -> Result<bool, Memory>
         requires server { IsServerNumber self.old server }
@@ -75,22 +79,44 @@ impl<K: Keeper + Drop> Cluster<K> {
         ensures same { OnErr result (self.new ≡ self.old) }
     {
         let endings = self.servers.over(alloc, server)?;
-        self.propose_ends(alloc, server, endings.as_slice())
+        let commands = ends_of(alloc, endings.as_slice())?;
+        self.propose_ends(alloc, server, endings.as_slice(), commands.as_slice())
+    }
+
+    // A server that leads has a reap to propose.
+    fn reaps_now(&self, server: u32) -> bool
+        requires { IsServerNumber self.now server }
+        ensures { result ≡ (runs_leading self.now.world server && is_reap_due self.now server) }
+    {
+        self.runs_leading(server) && self.is_reap_due(server)
+    }
+
+    // A server looks for the next reap later, and proposes a reap.
+    #[tactic(auto, using(crate::proofs::Numbers::is_number))]
+    fn propose_reap(&mut self, alloc: Global, server: u32) -> Proposed
+        requires server { IsServerNumber self.old server }
+        requires leads { runs_leading self.old.world server ≡ true }
+        ensures { Proposals server (Reap ∷ []) (looked server self.old) result.entered self.new result.whole }
+    {
+        self.servers.look(server);
+        self.propose_all(alloc, server, &[Command::Reap])
     }
 
     // A server proposes the reap that is due, if it leads, and looks for the next one later.
     #[tactic(auto, using(crate::proofs::Numbers::is_number))]
-    fn reap(&mut self, alloc: Global, server: u32) -> bool
+    fn reap(&mut self, alloc: Global, server: u32) -> Result<(), Memory>
         requires { IsServerNumber self.old server }
-        ensures { ReapsProposed server self.old result self.new }
+        ensures whole { OnOk result (ReapsProposed server self.old true self.new) }
+        ensures cut { OnErr result (ReapsProposed server self.old false self.new) }
     {
-        let due = self.runs_leading(server) && self.is_reap_due(server);
-        self.servers.look(server);
-        if due {
-            self.propose_all(alloc, server, &[Command::Reap]).whole
-        } else {
-            true
+        if self.reaps_now(server) {
+            if self.propose_reap(alloc, server).whole {
+                return Ok(());
+            }
+            return Err(Memory);
         }
+        self.servers.look(server);
+        Ok(())
     }
 
     /// A server that leads proposes what is due by its clock: the ends of sessions whose TTL is over, and then a reap,
@@ -103,10 +129,10 @@ impl<K: Keeper + Drop> Cluster<K> {
         if !self.runs_leading(server) {
             return Ok(());
         }
-        if self.end_sessions(alloc, server)? && self.reap(alloc, server) {
-            Ok(())
-        } else {
-            Err(Memory)
+        match self.end_sessions(alloc, server) {
+            Ok(true) => self.reap(alloc, server),
+            Ok(false) => Err(Memory),
+            Err(Memory) => Err(Memory),
         }
     }
 }

@@ -1,11 +1,7 @@
-use Rattle.std.proofs.Common.{length, sym, subst}
+use Rattle.std.proofs.Common.{◌<◌, ℕ, length, sym, subst}
 use Rattle.std.proofs.lemmas.List.{length-map}
-use Rattle.open_requests.specs.Requests as own
-use Rattle.cluster.specs.Standing.{Stands}
-use Rattle.cluster.proofs.Beginning.{begun_stands}
+use Rattle.cluster.proofs.Beginning.{none_read}
 use Rattle.cluster.proofs.cluster.Cluster.new.Goals as goal
 
-pub invariant_of-result : goal.invariant_of-result
-invariant_of-result g c =
-    subst (λ (r : own.Requests). Stands c.in-Ok.servers.world c.in-Ok.servers.servers r) (sym c.new-in-Ok.ensures)
-    (begun_stands _ (length c.args.keepers) c.in-Ok.servers.world c.in-Ok.servers.servers c.requires.kept c.in-Ok.ensures.world c.requires.some (length-map c.args.keepers _) c.in-Ok.ensures.servers)
+pub returns-in-Err-clause-back : goal.returns-in-Err-clause-back
+returns-in-Err-clause-back g c = none_read _ (subst (λ (n : ℕ). 0 < n) (sym (length-map c.args.keepers _)) c.requires.some)

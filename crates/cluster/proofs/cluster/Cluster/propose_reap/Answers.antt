@@ -1,0 +1,15 @@
+use Rattle.std.proofs.Common.{◌≡◌, ◌∷◌, [], ap, ◌∙◌, sym, subst}
+use Rattle.cat_model.specs.declared.command.Command.TheVariants.{Reap}
+use Rattle.office_rules.specs.Offices.{looks_on}
+use Rattle.cluster_rules.specs.Cluster.{Cluster, clock_of, server_of}
+use Rattle.cluster_rules.specs.Proposals.{Proposals, looked}
+use Rattle.cluster_servers.specs.Servers.{Servers}
+use Rattle.cluster.specs.Standing.{Stands}
+use Rattle.cluster.proofs.Acts.{stands_officed}
+use Rattle.cluster.proofs.Tending.{looked_is}
+use Rattle.cluster.proofs.cluster.Cluster.propose_reap.Goals as goal
+
+pub invariant_of-self : goal.invariant_of-self
+invariant_of-self g c =
+    subst (λ (z : Servers). Stands z.world z.servers c.self.inside.requests) (sym c.look.ensures)
+    (stands_officed c.self.inside.agents c.args.server (looks_on (clock_of c.self.inside.servers.world c.args.server) (server_of c.self.inside.servers.servers c.args.server).office) c.self.inside.servers.world c.self.inside.servers.servers c.self.inside.requests c.self.invariant)

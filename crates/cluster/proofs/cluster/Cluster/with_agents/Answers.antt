@@ -1,0 +1,11 @@
+use Rattle.std.proofs.Common.{length, sym, subst}
+use Rattle.std.proofs.lemmas.List.{length-map}
+use Rattle.open_requests.specs.Requests as own
+use Rattle.cluster.specs.Standing.{Stands}
+use Rattle.cluster.proofs.Beginning.{begun_stands}
+use Rattle.cluster.proofs.cluster.Cluster.with_agents.Goals as goal
+
+pub invariant_of-result : goal.invariant_of-result
+invariant_of-result g c =
+    subst (λ (r : own.Requests). Stands c.in-Ok.servers.world c.in-Ok.servers.servers r) (sym c.new-in-Ok.ensures)
+    (begun_stands _ (length c.args.keepers) c.in-Ok.servers.world c.in-Ok.servers.servers c.requires.kept c.in-Ok.ensures.world c.requires.some (length-map c.args.keepers _) c.in-Ok.ensures.servers)
