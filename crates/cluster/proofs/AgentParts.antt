@@ -1,5 +1,5 @@
 -- An agent's own part of an event, in the terms of the rules' cluster.
-use Rattle.std.proofs.Common.{◌≡◌, ℕ, suc, ◌+◌, ◌<◌, ◌≤◌, Bool, true, false, cond, not, nat_lt, List, [], ◌∷◌, length, Option, None, Some, Result, Ok, Err, refl, sym, ◌∙◌, ap, subst, arith}
+use Rattle.std.proofs.Common.{◌≡◌, ℕ, suc, ◌+◌, Bool, true, false, cond, not, nat_lt, List, [], ◌∷◌, length, Option, None, Some, Result, Ok, Err, refl, sym, ◌∙◌, ap, subst, arith}
 use Rattle.std.specs.Prelude.{OnErr, OnOk, if◌then◌else◌, is_err}
 use Rattle.cat_model.specs.declared.command.Command.TheVariants.{Reap}
 use Rattle.cat_model.specs.declared.reply.Kind.{Kind}

@@ -1,6 +1,5 @@
 -- A cluster that has just begun.
 use Rattle.std.proofs.Common.{◌≡◌, inl, inr, ℕ, zero, suc, ◌<◌, get_or, length, replicate, List, [], ◌∷◌, refl, sym, ap, ◌∙◌, subst, arith}
-use Rattle.std.specs.List.{AllByRecursion as Each}
 use Rattle.cat_outside.specs.declared.faults.KeepFail.TheVariants.{Memory}
 use Rattle.raft_model.specs.Node.{Store}
 use Rattle.raft_model.specs.World.{World, Begins, IsReached, empty, again}

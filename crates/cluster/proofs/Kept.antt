@@ -1,13 +1,11 @@
 -- What stands of a cluster once something was done.
-use Rattle.std.proofs.Common.{◌≡◌, ◌⊎◌, inl, inr, ℕ, zero, suc, ◌+◌, ◌<◌, ◌≤◌, ◌==◌, ◌||◌, Bool, true, false, cond, length, take, List, [], ◌∷◌, ◌++◌, Option, Some, None, Result, Ok, Err, refl, sym, ap, ◌∙◌, subst, arith}
+use Rattle.std.proofs.Common.{◌≡◌, ◌⊎◌, inl, inr, ℕ, suc, ◌<◌, ◌≤◌, ◌==◌, ◌||◌, Bool, true, false, cond, length, take, List, [], ◌∷◌, ◌++◌, Option, Some, None, Result, Ok, Err, refl, sym, ap, ◌∙◌, subst, arith}
 use Rattle.std.specs.Prelude.{OnOk, OnErr, ◌&&◌}
-use Rattle.std.specs.List.{AllByRecursion as Each, find, list_all}
-use Rattle.std.proofs.lemmas.List.{length-append, map-append}
-use Rattle.cat_model.specs.declared.command.Command.{Command}
+use Rattle.std.specs.List.{AllByRecursion as Each, find}
+use Rattle.std.proofs.lemmas.List.{length-append}
 use Rattle.cat_model.specs.declared.command.Entry.{Entry}
 use Rattle.cat_model.specs.declared.request.Asked.{Asked}
 use Rattle.cat_model.specs.declared.reply.Kind.{Kind}
-use Rattle.cat_model.specs.Log.{commands_of}
 use Rattle.raft_model.specs.Log.{Log, entry_at}
 use Rattle.raft_model.specs.Node.{set_server}
 use Rattle.raft_model.specs.World.{World}

@@ -1,5 +1,5 @@
 -- What a leading server proposes for no request: one command, and several in their order.
-use Rattle.std.proofs.Common.{◌≡◌, ◌⊎◌, inl, inr, ℕ, zero, suc, ◌+◌, ◌≤◌, Bool, true, false, cond, not, length, take, drop, get_or, map, List, [], ◌∷◌, ◌++◌, append-nil, append_assoc, Result, Ok, Err, refl, sym, ◌∙◌, ap, subst, arith}
+use Rattle.std.proofs.Common.{◌≡◌, ◌⊎◌, inl, inr, ℕ, suc, ◌+◌, ◌≤◌, Bool, true, false, not, length, take, drop, get_or, List, [], ◌∷◌, ◌++◌, append-nil, append_assoc, Result, Ok, Err, refl, sym, ◌∙◌, ap, subst, arith}
 use Rattle.std.specs.Prelude.{IfOk, OnErr, ◌&&◌, ◌<◌}
 use Rattle.std.proofs.lemmas.List.{length-take, take-append-drop, take_more}
 use Rattle.cat_model.specs.declared.command.Command.{Command}
@@ -13,7 +13,7 @@ use Rattle.raft_node.specs.declared.fault.ProposeFault.{ProposeFault}
 use Rattle.raft_node.specs.declared.fault.ProposeFault.TheVariants as fault
 use Rattle.raft_world.specs.Steps.{KeepsAgreement, Proposes}
 use Rattle.cluster_rules.specs.Cluster.{Cluster, Server, node_of, runs_leading}
-use Rattle.cluster_rules.specs.Proposals.{Proposals, none_left, breaks, enters, refuses}
+use Rattle.cluster_rules.specs.Proposals.{Proposals, none_left, enters, refuses}
 use Rattle.cluster_rules.specs.Requests.{moved}
 use Rattle.cluster_rules.proofs.Boundary.{acts_greatest, acts_server, leader_there, leading_tells, leads_on}
 use Rattle.cluster_rules.proofs.Tools.{is_node}

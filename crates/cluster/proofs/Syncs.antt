@@ -1,5 +1,5 @@
 -- The outs of syncs, and what a sync proposes, in the terms of the rules' cluster.
-use Rattle.std.proofs.Common.{◌≡◌, inl, inr, ℕ, zero, suc, ◌+◌, ◌<◌, ◌≤◌, Bool, true, false, cond, List, [], ◌∷◌, length, Option, None, Some, refl, sym, ◌∙◌, ap, subst, arith}
+use Rattle.std.proofs.Common.{◌≡◌, ℕ, ◌<◌, Bool, true, false, List, [], ◌∷◌, length, Option, None, Some, refl, sym, ◌∙◌, ap, subst, arith}
 use Rattle.cat_model.specs.declared.command.Command.{Command}
 use Rattle.cat_model.specs.Syncs.{plan}
 use Rattle.cat_model.specs.declared.row.ServiceRow.{ServiceRow}
@@ -16,7 +16,7 @@ use Rattle.cluster_rules.specs.Requests.{moved}
 use Rattle.open_requests.specs.Requests.{Requests, cluster_of as whole_of, told_sync}
 use Rattle.cluster.specs.Agents.{agent_at}
 use Rattle.cluster.specs.Standing.{Stands}
-use Rattle.cluster.specs.Syncing.{IsPlan, PlansInPart, PlansWhole}
+use Rattle.cluster.specs.Syncing.{IsPlan, PlansWhole}
 
 -- An out that was told last.
 pub told_there : (gs : List Agent) (w : World) (servers : List Server) (r : Requests) (agent : ℕ) (c : Cluster) → whole_of w servers gs r ≡ synced agent None c → r ≡ told_sync agent None (record r { fresh = c.fresh })

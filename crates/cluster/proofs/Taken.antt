@@ -1,5 +1,5 @@
 -- What is known of a request that is taken.
-use Rattle.std.proofs.Common.{◌≡◌, ℕ, Bool, true, false, List, [], ◌∷◌, Option, Some, None, refl}
+use Rattle.std.proofs.Common.{◌≡◌, ℕ, true, false, List, Some, refl}
 use Rattle.cat_model.specs.declared.command.Command.{Command}
 use Rattle.cat_model.specs.declared.command.Command.TheVariants.{Noop, KvLock, Txn, QuerySet}
 use Rattle.cat_model.specs.LogLimits.{is_noop}

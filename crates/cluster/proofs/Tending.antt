@@ -1,15 +1,14 @@
 -- The second act of a tick: a leading server proposes the ends of the sessions that are over by its clock, and then the
 -- reap that is due.
-use Rattle.std.proofs.Common.{◌≡◌, inr, ℕ, zero, suc, ◌<◌, ◌≤◌, Bool, true, false, cond, not, List, [], ◌∷◌, length, map, take, Result, Ok, Err, refl, sym, ◌∙◌, ap, subst, arith}
+use Rattle.std.proofs.Common.{◌≡◌, inr, ℕ, zero, suc, Bool, true, false, List, [], ◌∷◌, length, map, take, Result, Ok, Err, refl, sym, ◌∙◌, ap, subst, arith}
 use Rattle.std.specs.Prelude.{OnErr, OnOk, ◌&&◌, if◌then◌else◌}
 use Rattle.cat_model.specs.declared.command.Command.{Command}
 use Rattle.cat_model.specs.declared.command.Command.TheVariants.{Reap}
 use Rattle.cat_model.specs.declared.row.SessionRow.{SessionRow}
 use Rattle.raft_model.specs.Node.{set_server}
-use Rattle.raft_model.specs.World.{World}
 use Rattle.office_rules.specs.Offices.{Office, ended_too, looks_on}
 use Rattle.cluster_rules.specs.Cluster.{Cluster, Server, clock_of, no_server, office_of, runs_leading, server_of, with_office}
-use Rattle.cluster_rules.specs.Proposals.{Proposals, none_left, breaks, enters, refuses, Tends, in_turn, cut_off, ends_of, looked, over_rows, reaps_of, with_ends}
+use Rattle.cluster_rules.specs.Proposals.{Proposals, none_left, breaks, enters, refuses, Tends, in_turn, cut_off, ends_of, looked, over_rows, reaps_of}
 use Rattle.cluster_rules.specs.Reached.{IsServerNumber}
 use Rattle.cluster_rules.specs.Requests.{moved}
 use Rattle.cluster_rules.proofs.Tools.{item_same, length_set_server}

@@ -1,4 +1,4 @@
-use Rattle.std.proofs.Common.{◌<◌, ℕ, length, sym, subst}
+use Rattle.std.proofs.Common.{◌<◌, ℕ, sym, subst}
 use Rattle.std.proofs.lemmas.List.{length-map}
 use Rattle.cluster.proofs.Beginning.{none_read}
 use Rattle.cluster.proofs.cluster.Cluster.new.Goals as goal

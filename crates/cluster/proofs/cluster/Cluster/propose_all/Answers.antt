@@ -1,4 +1,4 @@
-use Rattle.std.proofs.Common.{◌≡◌, ◌+◌, ◌∷◌, ◌≤◌, false, true, Bool, List, drop, length, refl, sym, subst, ap, ◌∙◌, arith, rules}
+use Rattle.std.proofs.Common.{◌≡◌, ◌+◌, ◌∷◌, false, true, Bool, List, drop, length, refl, sym, subst, ap, ◌∙◌, arith}
 use Rattle.cat_model.specs.declared.command.Command.{Command}
 use Rattle.cluster_rules.specs.Cluster.{Cluster}
 use Rattle.cluster_rules.specs.Proposals.{Proposals, breaks}

@@ -1,5 +1,5 @@
 use Rattle.std.proofs.Common.{◌≡◌, rules}
-use Rattle.cluster.proofs.ProposedAll.{one_ended, one_told}
+use Rattle.cluster.proofs.ProposedAll.{one_ended}
 use Rattle.cluster.proofs.cluster.Cluster.propose_one.Goals as goal
 
 pub invariant_of-self-2 : goal.invariant_of-self-2

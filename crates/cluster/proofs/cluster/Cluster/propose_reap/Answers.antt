@@ -1,12 +1,9 @@
-use Rattle.std.proofs.Common.{◌≡◌, ◌∷◌, [], ap, ◌∙◌, sym, subst}
-use Rattle.cat_model.specs.declared.command.Command.TheVariants.{Reap}
+use Rattle.std.proofs.Common.{sym, subst}
 use Rattle.office_rules.specs.Offices.{looks_on}
-use Rattle.cluster_rules.specs.Cluster.{Cluster, clock_of, server_of}
-use Rattle.cluster_rules.specs.Proposals.{Proposals, looked}
+use Rattle.cluster_rules.specs.Cluster.{clock_of, server_of}
 use Rattle.cluster_servers.specs.Servers.{Servers}
 use Rattle.cluster.specs.Standing.{Stands}
 use Rattle.cluster.proofs.Acts.{stands_officed}
-use Rattle.cluster.proofs.Tending.{looked_is}
 use Rattle.cluster.proofs.cluster.Cluster.propose_reap.Goals as goal
 
 pub invariant_of-self : goal.invariant_of-self

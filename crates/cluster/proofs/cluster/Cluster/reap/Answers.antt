@@ -1,7 +1,7 @@
-use Rattle.std.proofs.Common.{◌≡◌, ◌∷◌, [], true, false, Bool, ap, ◌∙◌, sym, subst}
+use Rattle.std.proofs.Common.{◌∷◌, [], true, false, Bool, ◌∙◌, sym, subst}
 use Rattle.cat_model.specs.declared.command.Command.TheVariants.{Reap}
 use Rattle.office_rules.specs.Offices.{looks_on}
-use Rattle.cluster_rules.specs.Cluster.{Cluster, clock_of, server_of}
+use Rattle.cluster_rules.specs.Cluster.{clock_of, server_of}
 use Rattle.cluster_rules.specs.Proposals.{Proposals, looked}
 use Rattle.cluster_servers.specs.Servers.{Servers}
 use Rattle.cluster.specs.Standing.{Stands}

@@ -1,4 +1,4 @@
-use Rattle.std.proofs.Common.{◌≡◌, ◌∙◌, OnErr, OnOk, Bool, false, inr, refl, sym, subst, true}
+use Rattle.std.proofs.Common.{◌∙◌, Bool, inr, refl, sym, subst, true}
 use Rattle.cluster_rules.specs.Proposals.{idles}
 use Rattle.cluster.specs.Tending.{EndsProposed}
 use Rattle.cluster.proofs.Tending.{ends_there, tended, tends_cut}
