@@ -19,7 +19,7 @@ use Rattle.cat_model.specs.Queries.{answer}
 use Rattle.raft_model.proofs.Tests.{eq_tells, le_tells}
 use Rattle.raft_model.specs.declared.message.Round.{Round}
 use Rattle.raft_model.specs.World.{World}
-use Rattle.script_runs.specs.Taken.{IsTakenAsked}
+use Rattle.request_rules.specs.Taken.{IsTakenAsked}
 use Rattle.cluster_rules.proofs.Tools.{both}
 use Rattle.cluster_rules.specs.Replies.{Question, Runs, id_in, shown, shown_read, shown_seen}
 use Rattle.cluster_rules.specs.Cluster.{Cluster, Pending, Server, Stand, AtPlace, InRound, ForIndex, Ended, applied_of, clock_of, node_of}

@@ -10,7 +10,7 @@ use Rattle.cat_model.specs.Log.{commands_of}
 use Rattle.raft_model.specs.Facts.{IsPlaced}
 use Rattle.raft_model.specs.Log.{Log}
 use Rattle.raft_model.specs.World.{World, IsReached}
-use Rattle.script_runs.specs.Taken.{IsTakenAsked}
+use Rattle.request_rules.specs.Taken.{IsTakenAsked}
 use Rattle.cluster_rules.specs.Cluster.{Stand, AtPlace, ForIndex, Pending, Server, node_of, server_of}
 use Rattle.cluster_rules.specs.Lasting.{IsWrite}
 use Rattle.cluster_rules.specs.Replies.{Question, entered}

@@ -4,7 +4,7 @@ ghost use Rattle.std.specs.Prelude.{◌≡◌, ◌≢◌, ◌≤◌, ℕ, None, 
 ghost use Rattle.std.specs.List.{find};
 ghost use Rattle.cat_model.specs.declared.reply.Kind.TheVariants as kinds;
 ghost use Rattle.cat_model.specs.declared.reply.Refusal.TheVariants as refusals;
-ghost use Rattle.script_runs.specs.Taken.{IsTakenAsked};
+ghost use Rattle.request_rules.specs.Taken.{IsTakenAsked};
 ghost use Rattle.cluster_rules.specs.Cluster as rules;
 ghost use Rattle.cluster_rules.specs.Cluster.{AtPlace, applied_of};
 ghost use Rattle.cluster_rules.specs.Due.{Replies, due, early_stand, early_work, first_work, is_ended, landed, late_work, next_work, or_work};

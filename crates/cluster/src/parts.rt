@@ -7,7 +7,7 @@ use cluster_turns::{AgentEvent, Cut, Impulse, Parts, Way};
 use std::alloc::Global;
 
 impl<K: Keeper + Drop> Parts for Cluster<K> {
-    ghost use Rattle.script_runs.specs.Taken.{IsTakenAsked};
+    ghost use Rattle.request_rules.specs.Taken.{IsTakenAsked};
 
     ghost state = { λ c. c };
 

@@ -9,7 +9,7 @@ ghost use Rattle.cat_model.specs.Indexes.{index_of};
 ghost use Rattle.cat_model.specs.Log.{commands_of};
 ghost use Rattle.cat_model.specs.Machine.{catalog_at};
 ghost use Rattle.cat_model.specs.Queries.{answer};
-ghost use Rattle.script_runs.specs.Taken.{IsTakenAsked};
+ghost use Rattle.request_rules.specs.Taken.{IsTakenAsked};
 ghost use Rattle.cluster_rules.specs.Cluster as rules;
 ghost use Rattle.cluster_rules.specs.Cluster.{applied_of, clock_of};
 ghost use Rattle.cluster_rules.specs.Due.{Replies, asks, asks_read, has_looked, waiting, waits};

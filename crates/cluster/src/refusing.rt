@@ -2,7 +2,7 @@
 
 ghost use Rattle.std.specs.Prelude.{◌≡◌, OnErr, OnOk};
 ghost use Rattle.cat_model.specs.declared.request.Event.TheVariants as event;
-ghost use Rattle.script_runs.specs.Taken.{IsTakenAsked};
+ghost use Rattle.request_rules.specs.Taken.{IsTakenAsked};
 ghost use Rattle.cluster_rules.specs.Requests.{refused};
 ghost use Rattle.cluster_rules.specs.Step.{marked};
 ghost use Rattle.cluster_turns.specs.Turns.{newest};

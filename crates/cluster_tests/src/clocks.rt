@@ -1,5 +1,5 @@
 ghost use Rattle.cluster_turns.specs.Turns.{IsTaken};
-ghost use Rattle.script_runs.specs.Taken.{IsTakenAsked};
+ghost use Rattle.request_rules.specs.Taken.{IsTakenAsked};
 
 use cat_model::{Event, Memory};
 use cat_outside::MemKeeper;

@@ -3,3 +3,7 @@ pub mod Texts
 pub mod Numbers
 pub mod Pairs
 pub mod Refused
+pub mod Answers
+pub mod Bodies
+pub mod TableRows
+pub mod Taken

@@ -8,6 +8,7 @@ mod checks;
 mod error;
 mod health;
 mod kv;
+pub mod laws;
 mod method;
 mod params;
 mod query;

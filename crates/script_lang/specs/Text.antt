@@ -5,7 +5,7 @@ use Rattle.std.specs.Fmt.{decimal, digit_glyph}
 use Rattle.cat_model.specs.declared.reply.Reply.{Reply}
 use Rattle.cat_model.specs.declared.reply.Out as out
 use Rattle.script_lang.specs.declared.bad_line.BadLine.{BadLine}
-use Rattle.script_lang.specs.declared.bad_line.BadLine.TheVariants.{ExpectedCluster, UnknownLine, BadNumber, BadRequestLine, NotBuilt, NoSuchServer, NoSuchAgent, NoSuchMessage, ClockTooFar, Memory}
+use Rattle.script_lang.specs.declared.bad_line.BadLine.TheVariants.{ExpectedCluster, UnknownLine, BadNumber, BadRequestLine, NoSuchServer, NoSuchAgent, NoSuchMessage, ClockTooFar, Memory}
 
 -- why a line is refused
 abbrev pub reason_text : BadLine → List ℕ
@@ -13,7 +13,6 @@ reason_text ExpectedCluster = codes "expected cluster"
 reason_text UnknownLine = codes "unknown line"
 reason_text BadNumber = codes "bad number"
 reason_text BadRequestLine = codes "bad request line"
-reason_text NotBuilt = codes "not built"
 reason_text NoSuchServer = codes "no such server"
 reason_text NoSuchAgent = codes "no such agent"
 reason_text NoSuchMessage = codes "no such message"

@@ -12,8 +12,6 @@ pub enum BadLine {
     BadNumber,
     /// A request's method, target or body is none.
     BadRequestLine,
-    /// It asks for something that isn't taken yet.
-    NotBuilt,
     NoSuchServer,
     NoSuchAgent,
     NoSuchMessage,
@@ -34,7 +32,6 @@ impl fmt::Display for BadLine {
             BadLine::UnknownLine => write!(f, "unknown line"),
             BadLine::BadNumber => write!(f, "bad number"),
             BadLine::BadRequestLine => write!(f, "bad request line"),
-            BadLine::NotBuilt => write!(f, "not built"),
             BadLine::NoSuchServer => write!(f, "no such server"),
             BadLine::NoSuchAgent => write!(f, "no such agent"),
             BadLine::NoSuchMessage => write!(f, "no such message"),

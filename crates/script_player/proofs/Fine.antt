@@ -19,13 +19,16 @@ use Rattle.script_lang.specs.declared.line.Line.{Line}
 use Rattle.script_lang.specs.declared.line.Line.TheVariants as line
 use Rattle.script_lang.specs.declared.numbers.Bounds.{Bounds}
 use Rattle.script_lang.specs.Numbers.{number_in, is_number, is_within, is_filled, one_number, two_numbers}
-use Rattle.script_lang.specs.Requests.{asked_of}
+use Rattle.script_lang.specs.Requests.{asked_of, body_of, is_token}
+use Rattle.http_routes.specs.Routes.{route_of}
+use Rattle.http_routes.proofs.Taken.{route_is_taken}
+use Rattle.request_rules.specs.Taken.{IsTakenAsked}
 use Rattle.script_lang.specs.Words.{words_of, is_nothing, rest_of}
 use Rattle.script_lang.specs.Lines.{form_of, opening, asking, said, formed, worded, line_of, servers, agents, any32, any64, tick_ms, messages, calls}
 use Rattle.script_lang.specs.Text.{reason_text}
 use Rattle.script_runs.specs.Lines.{Said, Makes, Refuses, misfit, misfit_text}
 use Rattle.script_player.specs.declared.reading.Says.{Says}
-use Rattle.script_player.specs.Script.{bad_of, is_built, said as said_by_line}
+use Rattle.script_player.specs.Script.{bad_of, said as said_by_line}
 use Rattle.script_player.specs.Stage.{IsFine, IsMisfit, IsWorded, IsRead}
 
 -- a step and what follows it
@@ -79,6 +82,12 @@ opening-fine (s ∷ a ∷ seed ∷ []) =
     tt
 opening-fine (s ∷ a ∷ seed ∷ x ∷ more) = tt
 
+-- what a line asks for is taken
+asked-taken : (method target : List ℕ) (rest : Option (List ℕ)) → IfOk (asked_of method target rest) IsTakenAsked
+asked-taken method target rest =
+    if_test (is_token method && is_token target) (body_of rest >>= λ body. Ok (route_of method target body)) bad.BadRequestLine IsTakenAsked
+    (λ e. if_bind (body_of rest) (λ body. Ok (route_of method target body)) (λ body. Unit {0}) IsTakenAsked (anything (body_of rest)) (λ body u. route_is_taken method target body))
+
 abbrev asks : ℕ → ℕ → ℕ → Asked → Result Line BadLine
 asks number seed agent asked = Ok (line.Event (event.Ask agent asked (record { hi = seed; lo = number })))
 
@@ -88,7 +97,7 @@ asking-fine number seed (a ∷ []) = tt
 asking-fine number seed (a ∷ method ∷ []) = tt
 asking-fine number seed (a ∷ method ∷ target ∷ rest) =
     fine_any (number_in any32 a) (λ agent. asked_of method target (rest_of rest) >>= asks number seed agent)
-    (λ agent. fine_any (asked_of method target (rest_of rest)) (asks number seed agent) (λ asked. tt))
+    (λ agent. fine_bind (asked_of method target (rest_of rest)) (asks number seed agent) IsTakenAsked (asked-taken method target (rest_of rest)) (λ asked taken. taken))
 
 said-fine : (number seed : ℕ) (f : Form) (words : List (List ℕ)) → IsFine (said number seed f words)
 said-fine number seed form.Cluster words = opening-fine words
@@ -115,20 +124,6 @@ worded-fine number seed (name ∷ words) = formed-fine number seed (form_of name
 pub line_fine : (number seed : ℕ) (bytes : List ℕ) → IsFine (line_of number seed bytes)
 line_fine number seed bytes =
     fine_test (is_nothing bytes) (Ok line.Nothing) (worded number seed (words_of bytes)) tt (worded-fine number seed (words_of bytes))
-
--- an event that is built may be played
-pub built_is_played : (made : Event) → is_built made ≡ true → IsPlayed made
-built_is_played (event.Ask agent (Good request) draw) e = e
-built_is_played (event.Ask agent (Bad why) draw) e = tt
-built_is_played (event.Sync agent) e = tt
-built_is_played (event.AgentTick agent ms) e = tt
-built_is_played (event.Timeout server) e = tt
-built_is_played (event.Beat server) e = tt
-built_is_played (event.Tick server ms) e = tt
-built_is_played (event.Deliver number) e = tt
-built_is_played (event.Drop number) e = tt
-built_is_played (event.Restart server) e = tt
-built_is_played (event.FailKeep server nth) e = tt
 
 misfit-text : (miss : Misfit) → reason_text (bad_of miss) ≡ misfit_text miss
 misfit-text NoServer = refl

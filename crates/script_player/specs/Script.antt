@@ -1,8 +1,5 @@
 -- A script: the line that opens its cluster, and what each later line says.
-use Rattle.std.specs.Prelude.{ℕ, ◌+◌, Bool, true, if◌then◌else◌, List, [], ◌∷◌, Result, Ok, Err, codes}
-use Rattle.cat_model.specs.declared.request.Asked.TheVariants.{Good}
-use Rattle.cat_model.specs.declared.request.Event.{Event}
-use Rattle.cat_model.specs.declared.request.Event.TheVariants as event
+use Rattle.std.specs.Prelude.{ℕ, ◌+◌, if◌then◌else◌, List, [], ◌∷◌, Result, Ok, Err, codes}
 use Rattle.script_runs.specs.declared.misfit.Misfit.{Misfit}
 use Rattle.script_runs.specs.declared.misfit.Misfit.TheVariants.{NoServer, NoAgent, NoMessage, Clock}
 use Rattle.script_lang.specs.declared.bad_line.BadLine.{BadLine}
@@ -12,20 +9,14 @@ use Rattle.script_lang.specs.declared.line.Line.TheVariants as line
 use Rattle.script_lang.specs.Lines.{line_of, opens_cluster}
 use Rattle.script_lang.specs.Text.{reason_text}
 use Rattle.script_runs.specs.Lines.{Said, Nothing, Makes, Settles, Refuses}
-use Rattle.script_runs.specs.Taken.{is_taken}
 use Rattle.script_player.specs.declared.opening.Opening.{Opening}
 use Rattle.script_player.specs.Line.{lines_of, is_nothing}
-
--- The event is one that the cluster takes: each one, and of requests those that are taken, or none.
-abbrev pub is_built : Event → Bool
-is_built (event.Ask agent (Good request) draw) = is_taken request
-is_built other = true
 
 -- what a line after the opening says
 abbrev pub said_of : Result Line BadLine → Said
 said_of (Ok line.Nothing) = Nothing
 said_of (Ok (line.Cluster servers agents seed)) = Refuses (codes "unknown line")
-said_of (Ok (line.Event made)) = if is_built made then Makes made else Refuses (codes "not built")
+said_of (Ok (line.Event made)) = Makes made
 said_of (Ok (line.Settle most)) = Settles most
 said_of (Err why) = Refuses (reason_text why)
 

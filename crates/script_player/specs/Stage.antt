@@ -45,11 +45,11 @@ pub record IsOpening (opening : Opening) : Type 0 where
   pub most : opening.servers ≤ 7
   pub few : opening.agents ≤ 64
 
--- what a line says is within its bounds
+-- What a line says is within its bounds, and a request is one that the cluster takes.
 abbrev pub IsFine : Result Line BadLine → Type 0
 IsFine (Ok line.Nothing) = Unit {0}
 IsFine (Ok (line.Cluster servers agents seed)) = IsOpening (record { servers = servers; agents = agents; seed = seed })
-IsFine (Ok (line.Event made)) = Unit {0}
+IsFine (Ok (line.Event made)) = IsPlayed made
 IsFine (Ok (line.Settle most)) = Unit {0}
 IsFine (Err why) = Unit {0}
 

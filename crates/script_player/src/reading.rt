@@ -1,14 +1,13 @@
-ghost use Rattle.std.specs.Prelude.{◌≡◌, suc, ◌+◌, IfOk, Ok};
+ghost use Rattle.std.specs.Prelude.{◌≡◌, suc, ◌+◌, IfOk};
 ghost use Rattle.script_lang.specs.Lines.{line_of};
 ghost use Rattle.script_runs.specs.Lines.{Said};
-ghost use Rattle.script_lang.specs.declared.line.Line.TheVariants as line;
-ghost use Rattle.script_player.specs.Script.{said, said_of, is_built, bad_of as bad_for};
+ghost use Rattle.script_player.specs.Script.{said, bad_of as bad_for};
 ghost use Rattle.script_player.specs.Stage.{IsFine, IsWorded, IsRead};
 
-use cat_model::{Asked, Event, Memory};
+use cat_model::{Event, Memory};
 use cluster_interface::ClusterInterface;
 use script_lang::{BadLine, Line, opens_cluster, read_line};
-use script_runs::{Misfit, is_taken};
+use script_runs::Misfit;
 use std::alloc::Global;
 
 /// What a line after the opening says: nothing, an event, a settling of at most so many messages, or why it is refused.
@@ -38,31 +37,6 @@ pub fn answer(
     }
 }
 
-// The event is one that the cluster takes.
-fn is_built(event: &Event) -> bool
-    ensures { result ≡ is_built event.now }
-{
-    match event {
-        Event::Ask {
-            asked: Asked::Good(request),
-            ..
-        } => is_taken(request),
-        _ => true,
-    }
-}
-
-// What a line says that is an event, where the cluster takes it.
-#[tactic(auto, using(crate::proofs::Fine::built_is_played))]
-fn making(event: Event) -> Says
-    ensures { IsWorded (said_of (Ok (line.Event event))) result }
-{
-    if is_built(&event) {
-        Says::Makes(event)
-    } else {
-        Says::Refuses(BadLine::NotBuilt)
-    }
-}
-
 // What the words of a line after the opening say.
 fn worded(alloc: Global, line: &[u8], number: u64, seed: u64) -> Result<Says, Memory>
     ensures { IfOk result (IsWorded (said seed number line.now)) }
@@ -73,7 +47,7 @@ fn worded(alloc: Global, line: &[u8], number: u64, seed: u64) -> Result<Says, Me
     match answer(alloc, line, number, seed)? {
         Ok(Line::Nothing) => Ok(Says::Nothing),
         Ok(Line::Cluster { .. }) => Ok(Says::Refuses(BadLine::UnknownLine)),
-        Ok(Line::Event(event)) => Ok(making(event)),
+        Ok(Line::Event(event)) => Ok(Says::Makes(event)),
         Ok(Line::Settle(most)) => Ok(Says::Settles(most)),
         Err(why) => Ok(Says::Refuses(why)),
     }

@@ -1,4 +1,3 @@
-pub mod Taken
 pub mod Lines
 pub mod Plays
 pub mod Holds

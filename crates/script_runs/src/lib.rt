@@ -3,7 +3,5 @@
 
 pub mod laws;
 mod misfit;
-mod taken;
 
 pub use misfit::Misfit;
-pub use taken::is_taken;

@@ -8,7 +8,6 @@ use Rattle.cat_model.specs.declared.request.Asked.{Asked}
 use Rattle.cat_model.specs.declared.request.Asked.TheVariants.{Good, Bad}
 use Rattle.cat_model.specs.declared.request.Draw.{Draw}
 use Rattle.cat_model.specs.declared.request.Request.{Request}
-use Rattle.cat_model.specs.declared.reply.Refusal.TheVariants.{Unsupported}
 use Rattle.cat_model.specs.declared.reply.Mark.{Mark}
 use Rattle.cat_outside.specs.declared.faults.Failed.{Failed}
 use Rattle.cluster_rules.specs.Replies.{Reply}
@@ -78,22 +77,21 @@ some_of used piece (gots.Message raw) old new m t k l = t
 some_of used piece (gots.Refused why) old new m t k l = absurd k
 some_of used piece gots.Memory old new m t k l = absurd k
 
-module _ (shows : ℕ → Ask → Reply → List Mark → Type 0) (takes : Asked → Type 0) (c : Connection) where
-  reply_later : (m : Raw) (n : ℕ) (reply : Reply) (v w : Knowledge Mark) → Grows v w → IsReply shows takes c m n reply v → IsReply shows takes c m n reply w
+module _ (shows : ℕ → Ask → Reply → List Mark → Type 0) (c : Connection) where
+  reply_later : (m : Raw) (n : ℕ) (reply : Reply) (v w : Knowledge Mark) → Grows v w → IsReply shows c m n reply v → IsReply shows c m n reply w
   reply_later m n reply v w g (unrouted why asks is) = unrouted why asks is
-  reply_later m n reply v w g (not_taken request asks untaken is) = not_taken request asks untaken is
   reply_later m n reply v w g (answered request asks a) = answered request asks (answered_later shows _ reply v w g a)
 
-  true_later : (es : List Exchange) (v w : Knowledge Mark) → Grows v w → AreTrue shows takes c es v → AreTrue shows takes c es w
+  true_later : (es : List Exchange) (v w : Knowledge Mark) → Grows v w → AreTrue shows c es v → AreTrue shows c es w
   true_later [] v w g a = a
   true_later (continued ∷ es) v w g a = true_later es v w g a
   true_later (replied m reply ∷ es) v w g a = (reply_later m (count_of es + 1) reply v w g a.0, true_later es v w g a.1)
 
-  passed_later : (link : LinkState) (v w : Knowledge Mark) (es : List Exchange) (read written : List ℕ) → Grows v w → Passed shows takes c link v es read written → Passed shows takes c link w es read written
+  passed_later : (link : LinkState) (v w : Knowledge Mark) (es : List Exchange) (read written : List ℕ) → Grows v w → Passed shows c link v es read written → Passed shows c link w es read written
   passed_later link v w es read written g p = record { heard = p.heard; said = p.said; are_true = true_later es v w g p.are_true; grown = grows_on c.begun v w p.grown g; later = p.later }
 
   passed_wrote : (old new : LinkState) (v : Knowledge Mark) (es : List Exchange) (read written more : List ℕ) → IsAfterWrite old new → new.said ≡ append_known old.said more
-      → Passed shows takes c old v es read written → Passed shows takes c new v es read (written ++ more)
+      → Passed shows c old v es read written → Passed shows c new v es read (written ++ more)
   passed_wrote old new v es read written more after said p = record {
     heard = after.heard ∙ p.heard;
     said = known_on c.first.said old.said new.said written more p.said said;
@@ -103,13 +101,13 @@ module _ (shows : ℕ → Ask → Reply → List Mark → Type 0) (takes : Asked
   }
 
   -- the same exchanges with one more
-  passed_true : (link : LinkState) (v : Knowledge Mark) (es fs : List Exchange) (read written : List ℕ) → AreTrue shows takes c fs v → Passed shows takes c link v es read written → Passed shows takes c link v fs read written
+  passed_true : (link : LinkState) (v : Knowledge Mark) (es fs : List Exchange) (read written : List ℕ) → AreTrue shows c fs v → Passed shows c link v es read written → Passed shows c link v fs read written
   passed_true link v es fs read written a p = record { heard = p.heard; said = p.said; are_true = a; grown = p.grown; later = p.later }
 
-  passed_as : (link : LinkState) (v : Knowledge Mark) (es : List Exchange) (read read' written : List ℕ) → read' ≡ read → Passed shows takes c link v es read written → Passed shows takes c link v es read' written
-  passed_as link v es read read' written e p = subst (λ (l : List ℕ). Passed shows takes c link v es l written) (sym e) p
+  passed_as : (link : LinkState) (v : Knowledge Mark) (es : List Exchange) (read read' written : List ℕ) → read' ≡ read → Passed shows c link v es read written → Passed shows c link v es read' written
+  passed_as link v es read read' written e p = subst (λ (l : List ℕ). Passed shows c link v es l written) (sym e) p
 
-  pub cut_later : (link : LinkState) (v w : Knowledge Mark) (requests : ℕ) → Grows v w → IsCut shows takes c link v requests → IsCut shows takes c link w requests
+  pub cut_later : (link : LinkState) (v w : Knowledge Mark) (requests : ℕ) → Grows v w → IsCut shows c link v requests → IsCut shows c link w requests
   cut_later link v w requests g x = record {
     es = x.es;
     rejection = x.rejection;
@@ -120,32 +118,24 @@ module _ (shows : ℕ → Ask → Reply → List Mark → Type 0) (takes : Asked
     came = record { stream = x.came.stream; written = x.came.written; passed = passed_later link v w x.es _ _ g x.came.passed; gives = x.came.gives; due = x.came.due };
   }
 
-  replies : (m : Raw) (n : ℕ) (reply : Reply) (asked : Asked) (v : Knowledge Mark) → asked ≡ asked_by m → IsResponse shows takes c asked n v reply → IsReply shows takes c m n reply v
-  replies m n reply (Good request) v e (inl u) = not_taken request (sym e) u.0 u.1
-  replies m n reply (Good request) v e (inr a) = answered request (sym e) a
+  replies : (m : Raw) (n : ℕ) (reply : Reply) (asked : Asked) (v : Knowledge Mark) → asked ≡ asked_by m → IsResponse shows c asked n v reply → IsReply shows c m n reply v
+  replies m n reply (Good request) v e a = answered request (sym e) a
   replies m n reply (Bad why) v e is = unrouted why (sym e) is
 
-  pub routed_reply : (m : Raw) (n : ℕ) (r : Result Reply Memory) (asked : Asked) (v : Knowledge Mark) → asked ≡ asked_by m → IfOk r (IsResponse shows takes c asked n v) → IfOk r (λ reply. IsReply shows takes c m n reply v)
+  pub routed_reply : (m : Raw) (n : ℕ) (r : Result Reply Memory) (asked : Asked) (v : Knowledge Mark) → asked ≡ asked_by m → IfOk r (IsResponse shows c asked n v) → IfOk r (λ reply. IsReply shows c m n reply v)
   routed_reply m n (Ok reply) asked v e i = replies m n reply asked v e i
   routed_reply m n (Err f) asked v e i = tt
 
-  -- the answer to what the cluster takes, and the refusal of what it does not take
-  pub answered_reply : (request : Request) (n : ℕ) (d : Draw) (o : Option Reply) (reply : Reply) (v : Knowledge Mark) → o ≡ Some reply → d ≡ draw_of c.draw n
-      → MatchOption o (takes (Good request) → ⊥) (λ r. IsAnswered shows (record { agent = c.agent; asked = Good request; draw = d }) r v.seen v.mine) → IsReplyTo shows takes c request n v reply
-  answered_reply request n d o reply v e f a =
-      let now : IsAnswered shows (record { agent = c.agent; asked = Good request; draw = d }) reply v.seen v.mine = subst (λ (z : Option Reply). MatchOption z (takes (Good request) → ⊥) (λ r. IsAnswered shows (record { agent = c.agent; asked = Good request; draw = d }) r v.seen v.mine)) e a in
-      inr (subst (λ (z : Draw). IsAnswered shows (record { agent = c.agent; asked = Good request; draw = z }) reply v.seen v.mine) f now)
-
-  pub untaken_reply : (request : Request) (n : ℕ) (d : Draw) (o : Option Reply) (r : Result Reply Memory) (v : Knowledge Mark) → o ≡ None
-      → MatchOption o (takes (Good request) → ⊥) (λ r. IsAnswered shows (record { agent = c.agent; asked = Good request; draw = d }) r v.seen v.mine) → IfOk r (λ reply. reply ≡ refusing Unsupported) → IfOk r (IsReplyTo shows takes c request n v)
-  untaken_reply request n d o (Ok reply) v e a is = inl (subst (λ (z : Option Reply). MatchOption z (takes (Good request) → ⊥) (λ r. IsAnswered shows (record { agent = c.agent; asked = Good request; draw = d }) r v.seen v.mine)) e a, is)
-  untaken_reply request n d o (Err f) v e a is = tt
+  pub answered_reply : (request : Request) (n : ℕ) (d : Draw) (r : Result Reply Memory) (v : Knowledge Mark) → d ≡ draw_of c.draw n
+      → IfOk r (λ reply. IsAnswered shows (record { agent = c.agent; asked = Good request; draw = d }) reply v.seen v.mine) → IfOk r (IsReplyTo shows c request n v)
+  answered_reply request n d (Ok reply) v f a = subst (λ (z : Draw). IsAnswered shows (record { agent = c.agent; asked = Good request; draw = z }) reply v.seen v.mine) f a
+  answered_reply request n d (Err m) v f a = tt
 
   -- all that is due was written
-  came_whole : (link : LinkState) (v : Knowledge Mark) (es : List Exchange) (stream rest : List ℕ) → Passed shows takes c link v es (stream ++ rest) (bytes_of es) → GivesAll stream (items_of es) None → Came shows takes c link v es None rest []
+  came_whole : (link : LinkState) (v : Knowledge Mark) (es : List Exchange) (stream rest : List ℕ) → Passed shows c link v es (stream ++ rest) (bytes_of es) → GivesAll stream (items_of es) None → Came shows c link v es None rest []
   came_whole link v es stream rest p gives = record { stream = stream; written = bytes_of es; passed = p; gives = gives; due = refl }
 
-  so_far : (s : Stage) (rest : List ℕ) → Talks shows takes c s rest → IsCut shows takes c s.link s.known s.requests
+  so_far : (s : Stage) (rest : List ℕ) → Talks shows c s rest → IsCut shows c s.link s.known s.requests
   so_far s rest x = let n = x.count in record {
     es = x.es;
     rejection = None;
@@ -157,8 +147,8 @@ module _ (shows : ℕ → Ask → Reply → List Mark → Type 0) (takes : Asked
   }
 
   -- what is due was written in part
-  came_part : (old new : LinkState) (v : Knowledge Mark) (es : List Exchange) (rejection : Option Rejection) (stream rest before piece : List ℕ) (r : Result Unit Cause) → Passed shows takes c old v es (stream ++ rest) before
-      → GivesAll stream (items_of es) rejection → bytes_of es ++ last_bytes rejection ≡ before ++ piece → (w : Wrote old piece r new) → Came shows takes c new v es rejection rest w.unwritten
+  came_part : (old new : LinkState) (v : Knowledge Mark) (es : List Exchange) (rejection : Option Rejection) (stream rest before piece : List ℕ) (r : Result Unit Cause) → Passed shows c old v es (stream ++ rest) before
+      → GivesAll stream (items_of es) rejection → bytes_of es ++ last_bytes rejection ≡ before ++ piece → (w : Wrote old piece r new) → Came shows c new v es rejection rest w.unwritten
   came_part old new v es rejection stream rest before piece r p gives due w = record {
     stream = stream;
     written = before ++ w.written;
@@ -168,7 +158,7 @@ module _ (shows : ℕ → Ask → Reply → List Mark → Type 0) (takes : Asked
   }
 
   -- what a write that stopped leaves
-  stopped : (why : Cause) (old new : LinkState) (v : Knowledge Mark) (requests : ℕ) → IsLater c.first old → StopsBy why old.write_faults new.write_faults → IsCut shows takes c new v requests → EndsBy shows takes c why new v requests
+  stopped : (why : Cause) (old new : LinkState) (v : Knowledge Mark) (requests : ℕ) → IsLater c.first old → StopsBy why old.write_faults new.write_faults → IsCut shows c new v requests → EndsBy shows c why new v requests
   stopped cause.WriteFault old new v requests l s x = (x, rose_from c.first.write_faults old.write_faults new.write_faults l.write_faults s)
   stopped cause.Memory old new v requests l s x = x
   stopped cause.Closed old new v requests l s x = absurd s
@@ -176,7 +166,7 @@ module _ (shows : ℕ → Ask → Reply → List Mark → Type 0) (takes : Asked
   stopped cause.ReadFault old new v requests l s x = absurd s
 
   -- a Continue
-  pub continues : (s : Stage) (new : LinkState) (rest : List ℕ) (r : Result Unit Cause) → Wrote s.link continue_bytes r new → Owes shows takes c s rest go_on → GoesOn shows takes c r (record s { link = new }) rest
+  pub continues : (s : Stage) (new : LinkState) (rest : List ℕ) (r : Result Unit Cause) → Wrote s.link continue_bytes r new → Owes shows c s rest go_on → GoesOn shows c r (record s { link = new }) rest
   continues s new rest (Ok u) w o = record {
     es = continued ∷ o.es;
     stream = o.stream;
@@ -198,14 +188,14 @@ module _ (shows : ℕ → Ask → Reply → List Mark → Type 0) (takes : Asked
   })
 
   -- the reply to a request
-  module _ (s : Stage) (before : Knowledge Mark) (rest : List ℕ) (m : Raw) (reply : Reply) (n : ℕ) (o : Owes shows takes c (record s { known = before }) rest (whole m)) (g : Grows before s.known) (e : n ≡ s.requests + 1) (is : IsReply shows takes c m n reply s.known) where
+  module _ (s : Stage) (before : Knowledge Mark) (rest : List ℕ) (m : Raw) (reply : Reply) (n : ℕ) (o : Owes shows c (record s { known = before }) rest (whole m)) (g : Grows before s.known) (e : n ≡ s.requests + 1) (is : IsReply shows c m n reply s.known) where
     abbrev es : List Exchange
     es = replied m reply ∷ o.es
 
-    are_true : AreTrue shows takes c es s.known
-    are_true = (subst (λ (z : ℕ). IsReply shows takes c m z reply s.known) (e ∙ ap (λ z. z + 1) o.count) is, true_later o.es before s.known g o.passed.are_true)
+    are_true : AreTrue shows c es s.known
+    are_true = (subst (λ (z : ℕ). IsReply shows c m z reply s.known) (e ∙ ap (λ z. z + 1) o.count) is, true_later o.es before s.known g o.passed.are_true)
 
-    passed : Passed shows takes c s.link s.known es (o.stream ++ rest) (bytes_of o.es)
+    passed : Passed shows c s.link s.known es (o.stream ++ rest) (bytes_of o.es)
     passed = passed_true s.link s.known o.es es _ _ are_true (passed_later s.link before s.known o.es _ _ g o.passed)
 
     counted : n ≡ count_of es
@@ -214,7 +204,7 @@ module _ (shows : ℕ → Ask → Reply → List Mark → Type 0) (takes : Asked
     gives : GivesAll o.stream (items_of es) None
     gives = gives_none o.stream (items_of es) s.reader.held o.told
 
-    pub gave : (new : LinkState) {u : Unit {0}} → Wrote s.link (text_of reply m.close) (Ok u) new → Talks shows takes c (record s { link = new; requests = n }) rest
+    pub gave : (new : LinkState) {u : Unit {0}} → Wrote s.link (text_of reply m.close) (Ok u) new → Talks shows c (record s { link = new; requests = n }) rest
     gave new w = record {
       es = es;
       stream = o.stream;
@@ -225,7 +215,7 @@ module _ (shows : ℕ → Ask → Reply → List Mark → Type 0) (takes : Asked
       unshut = w.after.shut ∙ o.unshut;
     }
 
-    pub gave_last : (new : LinkState) {u : Unit {0}} → Wrote s.link (text_of reply m.close) (Ok u) new → m.close ≡ true → EndsBy shows takes c cause.Closed new s.known n
+    pub gave_last : (new : LinkState) {u : Unit {0}} → Wrote s.link (text_of reply m.close) (Ok u) new → m.close ≡ true → EndsBy shows c cause.Closed new s.known n
     gave_last new w closes = record {
       es = es;
       rest = rest;
@@ -234,7 +224,7 @@ module _ (shows : ℕ → Ask → Reply → List Mark → Type 0) (takes : Asked
       ends = inr closes;
     }
 
-    pub gave_part : (new : LinkState) (why : Cause) → Wrote s.link (text_of reply m.close) (Err why) new → EndsBy shows takes c why new s.known s.requests
+    pub gave_part : (new : LinkState) (why : Cause) → Wrote s.link (text_of reply m.close) (Err why) new → EndsBy shows c why new s.known s.requests
     gave_part new why w = stopped why s.link new s.known s.requests o.passed.later w.stopped (let k = o.count in record {
       es = es;
       rejection = None;
@@ -246,22 +236,22 @@ module _ (shows : ℕ → Ask → Reply → List Mark → Type 0) (takes : Asked
     })
 
     pub gave_next : (new : LinkState) {u : Unit {0}} (r : Result Unit Cause) → Wrote s.link (text_of reply m.close) (Ok u) new → MatchResult r (λ _. m.close ≡ false) (λ why. (m.close ≡ true) × (why ≡ cause.Closed))
-        → GoesOn shows takes c r (record s { link = new; requests = n }) rest
+        → GoesOn shows c r (record s { link = new; requests = n }) rest
     gave_next new (Ok v) w x = gave new w
-    gave_next new (Err why) w x = subst (λ (z : Cause). EndsBy shows takes c z new s.known n) (sym x.1) (gave_last new w x.0)
+    gave_next new (Err why) w x = subst (λ (z : Cause). EndsBy shows c z new s.known n) (sym x.1) (gave_last new w x.0)
 
   -- the reply to what is refused
-  pub refuses : (s : Stage) (new : LinkState) (why : Rejection) {u : Unit {0}} → Wrote s.link (last_bytes (Some why)) (Ok u) new → OwesRefusal shows takes c s.link s.known s.requests why → EndsBy shows takes c (cause.Refused why) new s.known s.requests
+  pub refuses : (s : Stage) (new : LinkState) (why : Rejection) {u : Unit {0}} → Wrote s.link (last_bytes (Some why)) (Ok u) new → OwesRefusal shows c s.link s.known s.requests why → EndsBy shows c (cause.Refused why) new s.known s.requests
   refuses s new why {u} w o = record {
     es = o.es;
     rest = [];
-    came = subst (λ (l : List ℕ). Came shows takes c new s.known o.es (Some why) [] l) w.whole
+    came = subst (λ (l : List ℕ). Came shows c new s.known o.es (Some why) [] l) w.whole
         (came_part s.link new s.known o.es (Some why) o.stream [] (bytes_of o.es) (last_bytes (Some why)) (Ok u) (passed_as s.link s.known o.es o.stream (o.stream ++ []) _ (append-nil o.stream) o.passed) o.gives refl w);
     count = o.count;
     ends = refl;
   }
 
-  pub refuses_part : (s : Stage) (new : LinkState) (why : Rejection) (cut : Cause) → Wrote s.link (last_bytes (Some why)) (Err cut) new → OwesRefusal shows takes c s.link s.known s.requests why → EndsBy shows takes c cut new s.known s.requests
+  pub refuses_part : (s : Stage) (new : LinkState) (why : Rejection) (cut : Cause) → Wrote s.link (last_bytes (Some why)) (Err cut) new → OwesRefusal shows c s.link s.known s.requests why → EndsBy shows c cut new s.known s.requests
   refuses_part s new why cut w o = stopped cut s.link new s.known s.requests o.passed.later w.stopped (let k = o.count in record {
     es = o.es;
     rejection = Some why;
@@ -273,7 +263,7 @@ module _ (shows : ℕ → Ask → Reply → List Mark → Type 0) (takes : Asked
   })
 
   -- what a read leaves
-  pub read_more : (s : Stage) (new : LinkState) (into : List ℕ) (n : ℕ) (r : Result ℕ Failed) → r ≡ Ok n → Reads s.link into r new → Talks shows takes c s [] → Talks shows takes c (record s { link = new }) (take n into)
+  pub read_more : (s : Stage) (new : LinkState) (into : List ℕ) (n : ℕ) (r : Result ℕ Failed) → r ≡ Ok n → Reads s.link into r new → Talks shows c s [] → Talks shows c (record s { link = new }) (take n into)
   read_more s new into n r e w x = record {
     es = x.es;
     stream = x.stream;
@@ -291,7 +281,7 @@ module _ (shows : ℕ → Ask → Reply → List Mark → Type 0) (takes : Asked
     unshut = w.shut ∙ x.unshut;
   }
 
-  came_read : (s : Stage) (new : LinkState) (into : List ℕ) (r : Result ℕ Failed) → new.heard ≡ s.link.heard → Reads s.link into r new → (x : Talks shows takes c s []) → Came shows takes c new s.known x.es None [] []
+  came_read : (s : Stage) (new : LinkState) (into : List ℕ) (r : Result ℕ Failed) → new.heard ≡ s.link.heard → Reads s.link into r new → (x : Talks shows c s []) → Came shows c new s.known x.es None [] []
   came_read s new into r heard w x = came_whole new s.known x.es x.stream [] (record {
     heard = heard ∙ x.passed.heard;
     said = w.said ∙ x.passed.said;
@@ -300,7 +290,7 @@ module _ (shows : ℕ → Ask → Reply → List Mark → Type 0) (takes : Asked
     later = later_read c.first s.link new into r w x.passed.later;
   }) (gives_none x.stream (items_of x.es) s.reader.held x.told)
 
-  pub read_end : (s : Stage) (new : LinkState) (into : List ℕ) {n : ℕ} → Reads s.link into (Ok n) new → n ≡ 0 → 0 < length into → Talks shows takes c s [] → EndsBy shows takes c cause.Closed new s.known s.requests
+  pub read_end : (s : Stage) (new : LinkState) (into : List ℕ) {n : ℕ} → Reads s.link into (Ok n) new → n ≡ 0 → 0 < length into → Talks shows c s [] → EndsBy shows c cause.Closed new s.known s.requests
   read_end s new into {n} w e room x = record {
     es = x.es;
     rest = [];
@@ -309,7 +299,7 @@ module _ (shows : ℕ → Ask → Reply → List Mark → Type 0) (takes : Asked
     ends = inl (refl, rose_from c.first.ends s.link.ends new.ends x.passed.later.ends (w.at_end.at_end (ap Ok e) room));
   }
 
-  pub read_fault : (s : Stage) (new : LinkState) (into : List ℕ) {f : Failed} → Reads s.link into (Err f) new → Talks shows takes c s [] → EndsBy shows takes c cause.ReadFault new s.known s.requests
+  pub read_fault : (s : Stage) (new : LinkState) (into : List ℕ) {f : Failed} → Reads s.link into (Err f) new → Talks shows c s [] → EndsBy shows c cause.ReadFault new s.known s.requests
   read_fault s new into {f} w x = record {
     es = x.es;
     rest = [];
@@ -318,7 +308,7 @@ module _ (shows : ℕ → Ask → Reply → List Mark → Type 0) (takes : Asked
     ends = (refl, rose_from c.first.read_faults s.link.read_faults new.read_faults x.passed.later.read_faults w.cause.failed);
   }
 
-  pub begins : (reader : Reader) → Read [] [] reader.held → reader.stop ≡ None → c.first.shut ≡ false → Talks shows takes c (record { link = c.first; reader = reader; known = c.begun; requests = 0 }) []
+  pub begins : (reader : Reader) → Read [] [] reader.held → reader.stop ≡ None → c.first.shut ≡ false → Talks shows c (record { link = c.first; reader = reader; known = c.begun; requests = 0 }) []
   begins reader told going unshut = record {
     es = [];
     stream = [];
@@ -336,12 +326,12 @@ module _ (shows : ℕ → Ask → Reply → List Mark → Type 0) (takes : Asked
   }
 
   -- what a call of the reader leaves to be done
-  module _ (s : Stage) (after : Reader) (piece : List ℕ) (used : ℕ) (x : Talks shows takes c s piece) where
+  module _ (s : Stage) (after : Reader) (piece : List ℕ) (used : ℕ) (x : Talks shows c s piece) where
     -- the stream up to the bytes that were taken, and the rest of the piece
     taken : (x.stream ++ take used piece) ++ drop used piece ≡ x.stream ++ piece
     taken = append_assoc x.stream (take used piece) (drop used piece) ∙ ap (λ (l : List ℕ). x.stream ++ l) (take-append-drop used piece)
 
-    owes : (given : Given) → Read (x.stream ++ take used piece) (items_of x.es ++ given ∷ []) after.held → after.stop ≡ None → Owes shows takes c (record s { reader = after }) (drop used piece) given
+    owes : (given : Given) → Read (x.stream ++ take used piece) (items_of x.es ++ given ∷ []) after.held → after.stop ≡ None → Owes shows c (record s { reader = after }) (drop used piece) given
     owes given told going = record {
       es = x.es;
       stream = x.stream ++ take used piece;
@@ -354,7 +344,7 @@ module _ (shows : ℕ → Ask → Reply → List Mark → Type 0) (takes : Asked
     }
 
     pub comes : (got : Got) → (got ≢ gots.Memory → Told (x.stream ++ seen_by got used piece) (items_of x.es ++ given_by got) after.held after.stop) → after.stop ≡ stop_of got → Moves s.reader.held piece used got after.held
-        → Comes shows takes c (record s { reader = after }) (drop used piece) got
+        → Comes shows c (record s { reader = after }) (drop used piece) got
     comes gots.More told stop moves =
         let none = drop_all piece used moves.0 in record {
           es = x.es;
@@ -383,22 +373,22 @@ module _ (shows : ℕ → Ask → Reply → List Mark → Type 0) (takes : Asked
     comes gots.Memory told stop moves = so_far s piece x
 
   -- the same, of what a call ensures
-  pub fed_comes : (s : Stage) (after : Reader) (piece : List ℕ) (fed : Fed) → Talks shows takes c s piece → Feeds s.reader piece fed after → Tells s.reader piece fed after → Comes shows takes c (record s { reader = after }) (drop fed.used piece) fed.got
+  pub fed_comes : (s : Stage) (after : Reader) (piece : List ℕ) (fed : Fed) → Talks shows c s piece → Feeds s.reader piece fed after → Tells s.reader piece fed after → Comes shows c (record s { reader = after }) (drop fed.used piece) fed.got
   fed_comes s after piece fed x feeds tells =
       let f : FeedsFrom None s.reader piece fed.used fed.got after = subst (λ (o : Option Stop). FeedsFrom o s.reader piece fed.used fed.got after) x.going feeds in
       comes s after piece fed.used x fed.got (tells x.stream (items_of x.es) (subst (λ (o : Option Stop). Told x.stream (items_of x.es) s.reader.held o) (sym x.going) x.told)) f.1 f.0
 
-  pub some_used : (s : Stage) (after : Reader) (piece : List ℕ) (fed : Fed) → Talks shows takes c s piece → Feeds s.reader piece fed after → Takes fed.got fed.used → IsTaking fed.got → 0 < length piece → 0 < fed.used
+  pub some_used : (s : Stage) (after : Reader) (piece : List ℕ) (fed : Fed) → Talks shows c s piece → Feeds s.reader piece fed after → Takes fed.got fed.used → IsTaking fed.got → 0 < length piece → 0 < fed.used
   some_used s after piece fed x feeds takes_some taking some =
       let f : FeedsFrom None s.reader piece fed.used fed.got after = subst (λ (o : Option Stop). FeedsFrom o s.reader piece fed.used fed.got after) x.going feeds in
       some_of fed.used piece fed.got s.reader.held after.held f.0 takes_some taking some
 
 -- A connection that is shut behind its end has ended in the same way.
-module _ (shows : ℕ → Ask → Reply → List Mark → Type 0) (takes : Asked → Type 0) (c : Connection) (link : LinkState) where
+module _ (shows : ℕ → Ask → Reply → List Mark → Type 0) (c : Connection) (link : LinkState) where
   abbrev shut_link : LinkState
   shut_link = record link { shut = true }
 
-  came_shut : (v : Knowledge Mark) (es : List Exchange) (rejection : Option Rejection) (rest unwritten : List ℕ) → Came shows takes c link v es rejection rest unwritten → Came shows takes c shut_link v es rejection rest unwritten
+  came_shut : (v : Knowledge Mark) (es : List Exchange) (rejection : Option Rejection) (rest unwritten : List ℕ) → Came shows c link v es rejection rest unwritten → Came shows c shut_link v es rejection rest unwritten
   came_shut v all rejection rest unwritten x = let p = x.passed in let l = p.later in record {
     stream = x.stream;
     written = x.written;
@@ -413,18 +403,18 @@ module _ (shows : ℕ → Ask → Reply → List Mark → Type 0) (takes : Asked
     };
   }
 
-  cut_shut : (v : Knowledge Mark) (n : ℕ) → IsCut shows takes c link v n → IsCut shows takes c shut_link v n
+  cut_shut : (v : Knowledge Mark) (n : ℕ) → IsCut shows c link v n → IsCut shows c shut_link v n
   cut_shut v n x = record { es = x.es; rejection = x.rejection; rest = x.rest; unwritten = x.unwritten; came = came_shut v x.es x.rejection x.rest x.unwritten x.came; least = x.least; most = x.most }
 
-  whole_shut : (Ends : List Exchange → List ℕ → Type 0) (rejection : Option Rejection) (v : Knowledge Mark) (n : ℕ) → IsWhole shows takes c Ends rejection link v n → IsWhole shows takes c Ends rejection shut_link v n
+  whole_shut : (Ends : List Exchange → List ℕ → Type 0) (rejection : Option Rejection) (v : Knowledge Mark) (n : ℕ) → IsWhole shows c Ends rejection link v n → IsWhole shows c Ends rejection shut_link v n
   whole_shut Ends rejection v n x = record { es = x.es; rest = x.rest; came = came_shut v x.es rejection x.rest [] x.came; count = x.count; ends = x.ends }
 
-  ends_at : (why : Cause) (v : Knowledge Mark) (n : ℕ) → EndsBy shows takes c why link v n → EndsBy shows takes c why shut_link v n
+  ends_at : (why : Cause) (v : Knowledge Mark) (n : ℕ) → EndsBy shows c why link v n → EndsBy shows c why shut_link v n
   ends_at cause.Closed v n x = whole_shut _ None v n x
   ends_at (cause.Refused why) v n x = whole_shut _ (Some why) v n x
   ends_at cause.ReadFault v n x = whole_shut _ None v n x
   ends_at cause.WriteFault v n x = (cut_shut v n x.0, x.1)
   ends_at cause.Memory v n x = cut_shut v n x
 
-  pub ends_shut : (d : Connection) (now : LinkState) (why : Cause) (v : Knowledge Mark) (n : ℕ) → c ≡ d → now ≡ shut_link → EndsBy shows takes c why link v n → EndsBy shows takes d why now v n
-  ends_shut d now why v n e f x = subst (λ (z : Connection). EndsBy shows takes z why now v n) e (subst (λ (z : LinkState). EndsBy shows takes c why z v n) (sym f) (ends_at why v n x))
+  pub ends_shut : (d : Connection) (now : LinkState) (why : Cause) (v : Knowledge Mark) (n : ℕ) → c ≡ d → now ≡ shut_link → EndsBy shows c why link v n → EndsBy shows d why now v n
+  ends_shut d now why v n e f x = subst (λ (z : Connection). EndsBy shows z why now v n) e (subst (λ (z : LinkState). EndsBy shows c why z v n) (sym f) (ends_at why v n x))

@@ -16,7 +16,7 @@ use Rattle.serve_loop.specs.declared.cluster.Collected.TheVariants as collected
 use Rattle.serve_loop.specs.declared.served.Turned.{Turned}
 use Rattle.serve_loop.specs.Marks.{AddsAsked, AddsCut, AddsQuiet, AreKept, answered_mark, answers, asked_mark, opens, takes}
 use Rattle.serve_loop.specs.Collects.{Collects}
-use Rattle.serve_loop.specs.Turns.{Asks, Turns}
+use Rattle.serve_loop.specs.Turns.{Turns}
 use Rattle.cluster_rules.specs.Sound.{IsAmong}
 use Rattle.cat_model.specs.declared.request.Asked.{Asked}
 use Rattle.serve_loop.specs.Waiting.{Grows, IsAnswered, IsBehind, Looks, Stands, Waits}
@@ -75,14 +75,10 @@ rests_next shows mine k t old new own x = let m = x.made.1 in
 pub rests_cut : (mine : List ℕ) (old new : List Mark) → AddsCut old new → Rests mine old new
 rests_cut mine old new x = record { rest = x.rest; are = x.are; own = λ k a. absurd (subst (Among k) x.takes_none a) }
 
-rests_same : (mine : List ℕ) (old new : List Mark) → new ≡ old → Rests mine old new
-rests_same mine old new e = record { rest = []; are = e ∙ sym (append-nil old); own = λ k a. absurd a }
-
-pub rests_first_or : (shows : ℕ → Ask → Reply → List Mark → Type 0) (taken : Asked → Type 0) (mine : List ℕ) (ask : Ask) (r : Result (Option Turned) Memory) (old new : List Mark)
-    → MatchResult r (λ o. Asks shows taken ask o old new) (λ _. AddsCut old new) → Rests mine old new
-rests_first_or shows taken mine ask (Ok (Some t)) old new x = rests_first shows mine ask 0 t old new x
-rests_first_or shows taken mine ask (Ok None) old new x = rests_same mine old new x.1
-rests_first_or shows taken mine ask (Err e) old new x = rests_cut mine old new x
+pub rests_first_or : (shows : ℕ → Ask → Reply → List Mark → Type 0) (mine : List ℕ) (ask : Ask) (k : ℕ) (r : Result Turned Memory) (old new : List Mark)
+    → MatchResult r (λ t. Turns shows (Some ask) k t old new) (λ _. AddsCut old new) → Rests mine old new
+rests_first_or shows mine ask k (Ok t) old new x = rests_first shows mine ask k t old new x
+rests_first_or shows mine ask k (Err e) old new x = rests_cut mine old new x
 
 pub rests_next_or : (shows : ℕ → Ask → Reply → List Mark → Type 0) (mine : List ℕ) (k : ℕ) (r : Result Turned Memory) (old new : List Mark) → Among k mine
     → MatchResult r (λ t. Turns shows None k t old new) (λ _. AddsCut old new) → Rests mine old new
@@ -199,12 +195,11 @@ grows v w old new mine e r s m = record {
   mine = m;
 }
 
-pub turned_first : (shows : ℕ → Ask → Reply → List Mark → Type 0) (taken : Asked → Type 0) (ask : Ask) (r : Result (Option Turned) Memory) (old new : List Mark) (mine : List ℕ) (w : Knowledge Mark)
-    → MatchResult r (λ o. Asks shows taken ask o old new) (λ _. AddsCut old new) → AreKept old → AreKept new → w.seen ≡ new
-    → w.mine ≡ mine ++ numbers opens (drop (length old) new) → IfOk r (λ o. MatchOption o (taken ask.asked → ⊥) (λ t. Stands shows t.number ask t.got w))
-turned_first shows taken ask (Ok (Some t)) old new mine w x before after s m = stands_first shows ask 0 t old new mine w x before after s m
-turned_first shows taken ask (Ok None) old new mine w x before after s m = x.0
-turned_first shows taken ask (Err e) old new mine w x before after s m = tt
+pub turned_first : (shows : ℕ → Ask → Reply → List Mark → Type 0) (ask : Ask) (k : ℕ) (r : Result Turned Memory) (old new : List Mark) (mine : List ℕ) (w : Knowledge Mark)
+    → MatchResult r (λ t. Turns shows (Some ask) k t old new) (λ _. AddsCut old new) → AreKept old → AreKept new → w.seen ≡ new
+    → w.mine ≡ mine ++ numbers opens (drop (length old) new) → IfOk r (λ t. Stands shows t.number ask t.got w)
+turned_first shows ask k (Ok t) old new mine w x before after s m = stands_first shows ask k t old new mine w x before after s m
+turned_first shows ask k (Err e) old new mine w x before after s m = tt
 
 pub turned_next : (shows : ℕ → Ask → Reply → List Mark → Type 0) (k : ℕ) (r : Result Turned Memory) (seen old new : List Mark) (mine : List ℕ) (w : Knowledge Mark)
     → Extends opens takes mine seen old → MatchResult r (λ t. Turns shows None k t old new) (λ _. AddsCut old new) → AreKept new → w.seen ≡ new
@@ -212,16 +207,15 @@ pub turned_next : (shows : ℕ → Ask → Reply → List Mark → Type 0) (k : 
 turned_next shows k (Ok t) seen old new mine w e x after s m = λ ask waits. stands_next shows ask k t seen old new mine w waits e x after s m
 turned_next shows k (Err e) seen old new mine w ext x after s m = tt
 
-pub behind : (shows : ℕ → Ask → Reply → List Mark → Type 0) (taken : Asked → Type 0) (ask : Ask) (r : Result (Option Turned) Memory) (seen old new seen' : List Mark) (mine : List ℕ)
-    → Extends opens takes mine seen old → MatchResult r (λ o. Asks shows taken ask o old new) (λ _. AddsCut old new) → seen' ≡ new → IfOk r (λ o. IfSome o (λ t. IsBehind t.number ask seen seen'))
-behind shows taken ask (Ok (Some t)) seen old new seen' mine e x s =
+pub behind : (shows : ℕ → Ask → Reply → List Mark → Type 0) (ask : Ask) (k : ℕ) (r : Result Turned Memory) (seen old new seen' : List Mark) (mine : List ℕ)
+    → Extends opens takes mine seen old → MatchResult r (λ t. Turns shows (Some ask) k t old new) (λ _. AddsCut old new) → seen' ≡ new → IfOk r (λ t. IsBehind t.number ask seen seen')
+behind shows ask k (Ok t) seen old new seen' mine e x s =
     let m = x.made in let l = leaves shows t.number t.got x.mid new x.got in record {
       more = e.0 ++ (m.rest ++ l.rest);
       seen_is = s ∙ joined seen old new e.0 (m.rest ++ l.rest) e.1 (joined old x.mid new m.rest l.rest m.are l.are);
       asked = in_right (asked_mark t.number ask) e.0 (m.rest ++ l.rest) (in_left (asked_mark t.number ask) m.rest l.rest m.asked);
     }
-behind shows taken ask (Ok None) seen old new seen' mine e x s = tt
-behind shows taken ask (Err m) seen old new seen' mine e x s = tt
+behind shows ask k (Err m) seen old new seen' mine e x s = tt
 
 pub grows_none : (v : Knowledge Mark) → Grows v v
 grows_none v = record { rest = []; more = []; seen = sym (append-nil v.seen); mine = sym (append-nil v.mine) }

@@ -142,12 +142,12 @@ module _ {R S Cl G L : Type 0} {H : Ghosts S Mark} where
       (subst (All Each) (sym (are ∙ ap (λ (l : List (Task P D)). l ++ task ∷ []) same)) (all_one_more Each items task before one))
 
 -- a link that was served, by what its job promised
-later_number : (c : Connection) (shows : ℕ → Ask → Reply → List Mark → Type 0) (takes : Asked → Type 0) (why : Cause) (link : LinkState) (v : Knowledge Mark) (n : ℕ) → EndsBy shows takes c why link v n → link.number ≡ c.first.number
-later_number c shows takes cause.Closed link v n x = x.came.passed.later.number
-later_number c shows takes (cause.Refused why) link v n x = x.came.passed.later.number
-later_number c shows takes cause.ReadFault link v n x = x.came.passed.later.number
-later_number c shows takes cause.WriteFault link v n x = x.0.came.passed.later.number
-later_number c shows takes cause.Memory link v n x = x.came.passed.later.number
+later_number : (c : Connection) (shows : ℕ → Ask → Reply → List Mark → Type 0) (why : Cause) (link : LinkState) (v : Knowledge Mark) (n : ℕ) → EndsBy shows c why link v n → link.number ≡ c.first.number
+later_number c shows cause.Closed link v n x = x.came.passed.later.number
+later_number c shows (cause.Refused why) link v n x = x.came.passed.later.number
+later_number c shows cause.ReadFault link v n x = x.came.passed.later.number
+later_number c shows cause.WriteFault link v n x = x.0.came.passed.later.number
+later_number c shows cause.Memory link v n x = x.came.passed.later.number
 
 -- what a pass knows that others were put into
 pub told_before : (old theirs new : List (List Mark)) (own : List Mark) → new ≡ own ∷ (old ++ theirs) → (seen : List Mark) → IsAmong seen old → IsAmong seen new
@@ -165,12 +165,12 @@ or_false : (b : Bool) → (b || false) ≡ b
 or_false true = refl
 or_false false = refl
 
-module _ (shows : ℕ → Ask → Reply → List Mark → Type 0) (takes : Asked → Type 0) (agents : ℕ) (draws : Option (List Draw)) where
+module _ (shows : ℕ → Ask → Reply → List Mark → Type 0) (agents : ℕ) (draws : Option (List Draw)) where
   module _ (Knows : List Mark → Type 0) where
     pub is_served : (c : Connection) (link : LinkState) (known : Knowledge Mark) (why : Cause) (requests : ℕ) → Knows known.seen → IsNew c.first.number c.first → c.agent ≡ agent_of agents c.first.number → IsDrawn draws c.first.number c.draw
-        → EndsBy shows takes c why link known requests → link.shut ≡ true → IsServed shows takes agents draws Knows link why
+        → EndsBy shows c why link known requests → link.shut ≡ true → IsServed shows agents draws Knows link why
     is_served c link known why requests seen new agent drawn ends shut =
-        let number : c.first.number ≡ link.number = sym (later_number c shows takes why link known requests ends) in record {
+        let number : c.first.number ≡ link.number = sym (later_number c shows why link known requests ends) in record {
           first = c.first;
           draw = c.draw;
           begun = c.begun;
@@ -179,28 +179,28 @@ module _ (shows : ℕ → Ask → Reply → List Mark → Type 0) (takes : Asked
           seen = seen;
           new = subst (λ (n : ℕ). IsNew n c.first) number new;
           drawn = subst (λ (n : ℕ). IsDrawn draws n c.draw) number drawn;
-          ends = subst (λ (a : ℕ). EndsBy shows takes (record { agent = a; draw = c.draw; first = c.first; begun = c.begun }) why link known requests) (agent ∙ ap (agent_of agents) number) ends;
+          ends = subst (λ (a : ℕ). EndsBy shows (record { agent = a; draw = c.draw; first = c.first; begun = c.begun }) why link known requests) (agent ∙ ap (agent_of agents) number) ends;
           shut = shut;
         }
 
-    pub served_none : (old : List LinkState) (n : ℕ) → AllServed shows takes agents draws Knows old old (n - n) false
+    pub served_none : (old : List LinkState) (n : ℕ) → AllServed shows agents draws Knows old old (n - n) false
     served_none old n = record { links = []; are = sym (append-nil old); each = tt; count_is = let e : 0 ≡ n - n = omega arith in e; short_is = refl }
 
-    served_more : (a b c : List LinkState) (k : ℕ) (short one : Bool) → AllServed shows takes agents draws Knows a b k short → ServesOne shows takes agents draws Knows b c one
-        → AllServed shows takes agents draws Knows a c (k + 1) (short || one)
+    served_more : (a b c : List LinkState) (k : ℕ) (short one : Bool) → AllServed shows agents draws Knows a b k short → ServesOne shows agents draws Knows b c one
+        → AllServed shows agents draws Knows a c (k + 1) (short || one)
     served_more a b c k short one x y =
         let last : List (LinkState × Cause) = (y.link, y.why) ∷ [] in
         let test : LinkState × Cause → Bool = λ l. is_short l.1 in record {
           links = x.links ++ last;
           are = y.are ∙ (ap (λ (l : List LinkState). l ++ y.link ∷ []) x.are ∙ (append_assoc a (map (λ l. l.0) x.links) (y.link ∷ []) ∙ ap (λ (l : List LinkState). a ++ l) (sym (map-append (λ l. l.0) x.links last))));
-          each = each_more (λ l. IsServed shows takes agents draws Knows l.0 l.1) x.links last x.each (y.is, tt);
+          each = each_more (λ l. IsServed shows agents draws Knows l.0 l.1) x.links last x.each (y.is, tt);
           count_is = length-append x.links last ∙ ap (λ z. z + 1) x.count_is;
           short_is = ap (λ b. b || one) x.short_is ∙ (ap (λ b. list_any test x.links || b) (y.short_is ∙ sym (or_false (is_short y.why))) ∙ sym (list_any-append test x.links last));
         }
 
   -- what was seen may be known in another way
   each_known : (Knows Knows' : List Mark → Type 0) → ((seen : List Mark) → Knows seen → Knows' seen) → (links : List (LinkState × Cause))
-      → AllByRecursion (λ l. IsServed shows takes agents draws Knows l.0 l.1) links → AllByRecursion (λ l. IsServed shows takes agents draws Knows' l.0 l.1) links
+      → AllByRecursion (λ l. IsServed shows agents draws Knows l.0 l.1) links → AllByRecursion (λ l. IsServed shows agents draws Knows' l.0 l.1) links
   each_known Knows Knows' f [] a = a
   each_known Knows Knows' f (l ∷ ls) a = let i = a.0 in (
     record { first = i.first; draw = i.draw; begun = i.begun; known = i.known; requests = i.requests; seen = f i.known.seen i.seen; new = i.new; drawn = i.drawn; ends = i.ends; shut = i.shut },
@@ -208,21 +208,21 @@ module _ (shows : ℕ → Ask → Reply → List Mark → Type 0) (takes : Asked
   )
 
   pub served_known : (Knows Knows' : List Mark → Type 0) → ((seen : List Mark) → Knows seen → Knows' seen) → (a b : List LinkState) (n : ℕ) (short : Bool)
-      → AllServed shows takes agents draws Knows a b n short → AllServed shows takes agents draws Knows' a b n short
+      → AllServed shows agents draws Knows a b n short → AllServed shows agents draws Knows' a b n short
   served_known Knows Knows' f a b n short x = record { links = x.links; are = x.are; each = each_known Knows Knows' f x.links x.each; count_is = x.count_is; short_is = x.short_is }
 
   -- the last of the tasks is gone
   pub served_pop : (Knows Knows' : List Mark → Type 0) → ((seen : List Mark) → Knows seen → Knows' seen) → {T : Type 0} → (a b c : List LinkState) (n : ℕ) (short one now : Bool) (xs ys : List T) (x : T) → ys ≡ xs ++ x ∷ [] → length ys ≤ n
-      → AllServed shows takes agents draws Knows a b (n - length ys) short → ServesOne shows takes agents draws Knows' b c one → now ≡ (short || one) → AllServed shows takes agents draws Knows' a c (n - length xs) now
+      → AllServed shows agents draws Knows a b (n - length ys) short → ServesOne shows agents draws Knows' b c one → now ≡ (short || one) → AllServed shows agents draws Knows' a c (n - length xs) now
   served_pop Knows Knows' f a b c n short one now xs ys x e l all last is =
       let d = ap length e ∙ length-append xs (x ∷ []) in
       let more = served_more Knows' a b c (n - length ys) short one (served_known Knows Knows' f a b (n - length ys) short all) last in
-      subst (λ (k : ℕ). AllServed shows takes agents draws Knows' a c k now) (let q : (n - length ys) + 1 ≡ n - length xs = omega (arith, d) in q)
-      (subst (λ (o : Bool). AllServed shows takes agents draws Knows' a c ((n - length ys) + 1) o) (sym is) more)
+      subst (λ (k : ℕ). AllServed shows agents draws Knows' a c k now) (let q : (n - length ys) + 1 ≡ n - length xs = omega (arith, d) in q)
+      (subst (λ (o : Bool). AllServed shows agents draws Knows' a c ((n - length ys) + 1) o) (sym is) more)
 
-  pub hands_back : (Knows : List Mark → Type 0) (a b c : List LinkState) (f g n m m' t s : ℕ) (r r' : Result Unit Stop) (short : Bool) → Starts a b f g n m t s r → AllServed shows takes agents draws Knows b c s short → n ≡ 0 → t ≡ 0 → m' ≡ m
-      → r' ≡ outcome_of r short → HandsBack shows takes agents draws Knows a c f g m' r'
-  hands_back Knows a b c f g n m m' t s r r' short x y e d same is = subst (λ (z : Result Unit Stop). HandsBack shows takes agents draws Knows a c f g m' z) (sym is) (record {
+  pub hands_back : (Knows : List Mark → Type 0) (a b c : List LinkState) (f g n m m' t s : ℕ) (r r' : Result Unit Stop) (short : Bool) → Starts a b f g n m t s r → AllServed shows agents draws Knows b c s short → n ≡ 0 → t ≡ 0 → m' ≡ m
+      → r' ≡ outcome_of r short → HandsBack shows agents draws Knows a c f g m' r'
+  hands_back Knows a b c f g n m m' t s r r' short x y e d same is = subst (λ (z : Result Unit Stop). HandsBack shows agents draws Knows a c f g m' z) (sym is) (record {
     turned = x.turned;
     served = s;
     lacked = lacking r;

@@ -19,12 +19,12 @@ module _ {R S Cl G L : Type 0} {H : Ghosts S Mark} (state : L → LinkState) whe
   abbrev pub connection_of : ServeJob R S Cl G L Mark H → Connection
   connection_of job = record { agent = job.agent; draw = job.draw; first = state job.link; begun = known job.pass }
 
-module _ {R S Cl G L : Type 0} {H : Ghosts S Mark} (shows : ℕ → Ask → Reply → List Mark → Type 0) (takes : Asked → Type 0) (state : L → LinkState) where
+module _ {R S Cl G L : Type 0} {H : Ghosts S Mark} (shows : ℕ → Ask → Reply → List Mark → Type 0) (state : L → LinkState) where
   -- the job's connection has ended and is shut, and its pass is of the same board
   abbrev pub HasEnded : ServeJob R S Cl G L Mark H → Finished L S Mark H → Type 0
   HasEnded job done =
       ((done.pass.seat.table_id ≡ job.pass.seat.table_id) × IsFree done.pass.seat)
-      × EndsBy shows takes (connection_of state job) done.cause (state done.link) (known done.pass) done.requests
+      × EndsBy shows (connection_of state job) done.cause (state done.link) (known done.pass) done.requests
       × ((state done.link).shut ≡ true)
 
 -- the n-th connection speaks to agent ((n - 1) mod A) + 1

@@ -97,7 +97,7 @@ outcome_of (Ok u) false = Ok u
 outcome_of (Err why) short = Err why
 
 -- `Knows` tells which beginnings of the marks were seen
-module _ (shows : ℕ → Ask → Reply → List Mark → Type 0) (takes : Asked → Type 0) (agents : ℕ) (draws : Option (List Draw)) (Knows : List Mark → Type 0) where
+module _ (shows : ℕ → Ask → Reply → List Mark → Type 0) (agents : ℕ) (draws : Option (List Draw)) (Knows : List Mark → Type 0) where
   -- The link came new, was served to its end, which had this cause, and was shut. Its number says whose agent was asked
   -- and which draw it had.
   pub record IsServed (link : LinkState) (why : Cause) : Type 0 where
@@ -109,7 +109,7 @@ module _ (shows : ℕ → Ask → Reply → List Mark → Type 0) (takes : Asked
     pub seen : Knows known.seen
     pub new : IsNew link.number first
     pub drawn : IsDrawn draws link.number draw
-    pub ends : EndsBy shows takes (record { agent = agent_of agents link.number; draw = draw; first = first; begun = begun }) why link known requests
+    pub ends : EndsBy shows (record { agent = agent_of agents link.number; draw = draw; first = first; begun = begun }) why link known requests
     pub shut : link.shut ≡ true
 
   -- so many links were served and handed back; `short` tells whether one of them ended for want of memory

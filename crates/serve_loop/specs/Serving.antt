@@ -6,7 +6,6 @@ use Rattle.cat_model.specs.declared.request.Asked.TheVariants.{Good, Bad}
 use Rattle.cat_model.specs.declared.request.Draw.{Draw}
 use Rattle.cat_model.specs.declared.request.Request.{Request}
 use Rattle.cat_model.specs.declared.reply.Refusal.{Refusal}
-use Rattle.cat_model.specs.declared.reply.Refusal.TheVariants.{Unsupported}
 use Rattle.cat_model.specs.declared.reply.Mark.{Mark}
 use Rattle.cat_outside.specs.Causes.{Rose}
 use Rattle.cluster_rules.specs.Replies.{Reply}
@@ -81,21 +80,18 @@ pub record IsLater (first now : LinkState) : Type 0 where
   pub read_faults : first.read_faults ≤ now.read_faults
   pub write_faults : first.write_faults ≤ now.write_faults
 
--- `shows` and `takes` are the cluster's
-module _ (shows : ℕ → Ask → Reply → List Mark → Type 0) (takes : Asked → Type 0) (c : Connection) where
-  -- The reply to the n-th request: the refusal of its route, or of what the cluster does not take, or the answer to what
-  -- was asked.
+-- `shows` is the cluster's
+module _ (shows : ℕ → Ask → Reply → List Mark → Type 0) (c : Connection) where
+  -- the reply to the n-th request: the refusal of its route, or the answer to what was asked
   pub data IsReply (raw : Raw) (n : ℕ) (reply : Reply) (known : Knowledge Mark) : Type 0 where
     unrouted : (why : Refusal) → asked_by raw ≡ Bad why → reply ≡ refusing why → IsReply raw n reply known
-    not_taken : (request : Request) → asked_by raw ≡ Good request → (takes (Good request) → ⊥) → reply ≡ refusing Unsupported → IsReply raw n reply known
     answered : (request : Request) → asked_by raw ≡ Good request
         → IsAnswered shows (record { agent = c.agent; asked = Good request; draw = draw_of c.draw n }) reply known.seen known.mine → IsReply raw n reply known
 
   -- the same of a request that was routed
   abbrev pub IsReplyTo : Request → ℕ → Knowledge Mark → Reply → Type 0
   IsReplyTo request n known reply =
-      ((takes (Good request) → ⊥) × (reply ≡ refusing Unsupported))
-      ⊎ IsAnswered shows (record { agent = c.agent; asked = Good request; draw = draw_of c.draw n }) reply known.seen known.mine
+      IsAnswered shows (record { agent = c.agent; asked = Good request; draw = draw_of c.draw n }) reply known.seen known.mine
 
   abbrev pub IsResponse : Asked → ℕ → Knowledge Mark → Reply → Type 0
   IsResponse (Good request) n known reply = IsReplyTo request n known reply

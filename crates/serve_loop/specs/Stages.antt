@@ -56,12 +56,12 @@ pub record Stage : Type 0 where
   pub known : Knowledge Mark
   pub requests : ℕ
 
-module _ (shows : ℕ → Ask → Reply → List Mark → Type 0) (takes : Asked → Type 0) (c : Connection) where
+module _ (shows : ℕ → Ask → Reply → List Mark → Type 0) (c : Connection) where
   -- The connection goes on: all that came was answered, but for `rest`, which was read and not taken yet.
   pub record Talks (s : Stage) (rest : List ℕ) : Type 0 where
     pub es : List Exchange
     pub stream : List ℕ
-    pub passed : Passed shows takes c s.link s.known es (stream ++ rest) (bytes_of es)
+    pub passed : Passed shows c s.link s.known es (stream ++ rest) (bytes_of es)
     pub told : Read stream (items_of es) s.reader.held
     pub going : s.reader.stop ≡ None
     pub count : s.requests ≡ count_of es
@@ -71,18 +71,18 @@ module _ (shows : ℕ → Ask → Reply → List Mark → Type 0) (takes : Asked
   pub record Owes (s : Stage) (rest : List ℕ) (given : Given) : Type 0 where
     pub es : List Exchange
     pub stream : List ℕ
-    pub passed : Passed shows takes c s.link s.known es (stream ++ rest) (bytes_of es)
+    pub passed : Passed shows c s.link s.known es (stream ++ rest) (bytes_of es)
     pub told : Read stream (items_of es ++ given ∷ []) s.reader.held
     pub going : s.reader.stop ≡ None
     pub count : s.requests ≡ count_of es
     pub unshut : s.link.shut ≡ false
-    pub before : IsCut shows takes c s.link s.known s.requests
+    pub before : IsCut shows c s.link s.known s.requests
 
   -- The rest of the stream is refused, and that is to be answered.
   pub record OwesRefusal (link : LinkState) (known : Knowledge Mark) (requests : ℕ) (why : Rejection) : Type 0 where
     pub es : List Exchange
     pub stream : List ℕ
-    pub passed : Passed shows takes c link known es stream (bytes_of es)
+    pub passed : Passed shows c link known es stream (bytes_of es)
     pub gives : GivesAll stream (items_of es) (Some why)
     pub count : requests ≡ count_of es
 
@@ -92,9 +92,9 @@ module _ (shows : ℕ → Ask → Reply → List Mark → Type 0) (takes : Asked
   Comes s rest gots.Continue = Owes s rest go_on
   Comes s rest (gots.Message m) = Owes s rest (whole (raw m))
   Comes s rest (gots.Refused why) = OwesRefusal s.link s.known s.requests why
-  Comes s rest gots.Memory = IsCut shows takes c s.link s.known s.requests
+  Comes s rest gots.Memory = IsCut shows c s.link s.known s.requests
 
   -- the connection goes on, or has ended
   abbrev pub GoesOn : {T : Type 0} → Result T Cause → Stage → List ℕ → Type 0
   GoesOn (Ok value) s rest = Talks s rest
-  GoesOn (Err why) s rest = EndsBy shows takes c why s.link s.known s.requests
+  GoesOn (Err why) s rest = EndsBy shows c why s.link s.known s.requests

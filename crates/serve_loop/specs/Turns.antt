@@ -1,7 +1,7 @@
 -- What a turn does.
 use Rattle.std.specs.Prelude.{◌≡◌, ℕ, ◌+◌, ◌-◌, min, List, Option, Some, None}
 use Rattle.cat_model.specs.declared.reply.Mark.{Mark}
-use Rattle.cat_model.specs.declared.request.Asked.{Asked}
+use Rattle.request_rules.specs.Taken.{IsTakenAsked}
 use Rattle.cluster_rules.specs.Replies.{Reply}
 use Rattle.serve_loop.specs.declared.cluster.Ask.{Ask}
 use Rattle.serve_loop.specs.declared.served.Turned.{Turned}
@@ -9,8 +9,8 @@ use Rattle.serve_loop.specs.Marks.{AddsAsked, AddsQuiet, Fits, TicksBy, TicksNon
 use Rattle.serve_loop.specs.Collects.{Collects}
 
 -- the agent is one of the cluster's, and the cluster takes what is asked
-abbrev pub MayAsk : ℕ → (Asked → Type 0) → Ask → Type 0
-MayAsk agents takes a = Fits agents a × takes a.asked
+abbrev pub MayAsk : ℕ → Ask → Type 0
+MayAsk agents a = Fits agents a × IsTakenAsked a.asked
 
 -- How many milliseconds a turn makes up for, whose last one made up for all up to `last`: a day at most, and none where
 -- the outside clock has fallen.
@@ -35,8 +35,3 @@ pub record Turns (shows : ℕ → Ask → Reply → List Mark → Type 0) (ask :
   pub mid : List Mark
   pub made : Makes ask number t.number old mid
   pub got : Collects shows t.number t.got mid new
-
--- the same of a request that is asked, if the cluster takes it; else nothing was done
-abbrev pub Asks : (ℕ → Ask → Reply → List Mark → Type 0) → (Asked → Type 0) → Ask → Option Turned → List Mark → List Mark → Type 0
-Asks shows takes ask (Some t) old new = Turns shows (Some ask) 0 t old new
-Asks shows takes ask None old new = (takes ask.asked → ⊥) × (new ≡ old)

@@ -1,7 +1,6 @@
 //! The cluster as the turns use it.
 
-ghost use Rattle.std.specs.Prelude.{◌≡◌, ℕ, List, true, IfOk, OnErr, ◌↔◌};
-ghost use Rattle.cat_model.specs.declared.request.Asked.{Asked as SpecAsked};
+ghost use Rattle.std.specs.Prelude.{ℕ, List, IfOk, OnErr};
 ghost use Rattle.cat_model.specs.declared.reply.Mark.{Mark as SpecMark};
 ghost use Rattle.cluster_rules.specs.Replies.{Reply as SpecReply};
 ghost use Rattle.serve_loop.specs.declared.cluster.Ask.{Ask as SpecAsk};
@@ -43,13 +42,6 @@ pub trait SharedCluster: Drop {
     /// tell.
     ghost shows: { ℕ → SpecAsk → SpecReply → List SpecMark → Type 0 };
 
-    /// The cluster can be asked this.
-    ghost takes: { SpecAsked → Type 0 };
-
-    /// Whether the cluster can be asked this. Nothing happens.
-    fn takes(&self, asked: &Asked) -> bool
-        ensures { result ≡ true ↔ takes asked.now };
-
     /// A law, which does nothing: each number is asked at most once and answered at most once, and only what was asked
     /// is taken.
     fn kept(&self)
@@ -64,7 +56,7 @@ pub trait SharedCluster: Drop {
     /// Asks an agent, and gives the request's number, which was never given before. The reply comes later. An ask that
     /// finds no memory may have put its mark.
     fn ask(&mut self, alloc: Global, ask: Ask) -> Result<u64, Memory>
-        requires { MayAsk agents takes ask }
+        requires { MayAsk agents ask }
         ensures asked { IfOk result (λ n. AddsAsked n ask (marks self.old) (marks self.new)) }
         ensures cut { OnErr result (AddsCut (marks self.old) (marks self.new)) }
         ensures unticked { TicksNone (marks self.old) (marks self.new) };

@@ -59,7 +59,7 @@ pub fn serve_connection<
     requires fresh { (job.reader.stop ≡ None) × Told [] [] job.reader.held job.reader.stop }
     requires unshut { (L.state job.link).shut ≡ false }
     ensures ours { IsOurs (arc_value job.board) result.pass }
-    ensures ends { EndsBy C.shows C.takes (connection_of L.state job) result.cause (L.state result.link) (known result.pass) result.requests }
+    ensures ends { EndsBy C.shows (connection_of L.state job) result.cause (L.state result.link) (known result.pass) result.requests }
     ensures shut { (L.state result.link).shut ≡ true }
 {
     let ServeJob {
@@ -121,7 +121,7 @@ impl<R: Wait + Drop, C: SharedCluster, Cl: Clock + Drop, G: Gate + Drop, L: Link
         × ((job.reader.stop ≡ None) × Told [] [] job.reader.held job.reader.stop)
         × ((L.state job.link).shut ≡ false) };
 
-    ghost keeps = { λ job done. HasEnded C.shows C.takes L.state job done };
+    ghost keeps = { λ job done. HasEnded C.shows L.state job done };
 
     fn run(self) -> Finished<L, Served<C>> {
         serve_connection(self)

@@ -205,7 +205,7 @@ fn finish_task<
     L: Link,
 >(server: &Server<R, Served<C>, Cl, G>, task: TaskOf<R, C, Cl, G, L>) -> Finished<L, Served<C>>
     requires kept { IsKept ⟦<NoteOf<ServeJob<R, Served<C>, Cl, G, L>> as Promise<Finished<L, Served<C>>>>⟧.kept_by task }
-    ensures { HasEnded C.shows C.takes L.state (note_of task).0.value result }
+    ensures { HasEnded C.shows L.state (note_of task).0.value result }
 {
     finish(&server.rt, task)
 }
@@ -407,7 +407,7 @@ where
     ensures told { (seen : List SpecMark) → IsAmong seen (known pass.old).told → IsAmong seen (known pass.new).told }
     ensures given { L.given listener.new ≡ L.given listener.old }
     ensures faults { L.faults listener.new ≡ L.faults listener.old }
-    ensures served { ServesOne C.shows C.takes C.agents (W.draws words.now) (λ seen. IsAmong seen (known pass.new).told) (L.closed listener.old) (L.closed listener.new) result }
+    ensures served { ServesOne C.shows C.agents (W.draws words.now) (λ seen. IsAmong seen (known pass.new).told) (L.closed listener.old) (L.closed listener.new) result }
 {
     let Finished {
         link,
@@ -443,7 +443,7 @@ where
     ensures ours { IsOurs (arc_value server.now.board) pass.new }
     ensures given { L.given listener.new ≡ L.given listener.old }
     ensures faults { L.faults listener.new ≡ L.faults listener.old }
-    ensures served { AllServed C.shows C.takes C.agents (W.draws words.now) (λ seen. IsAmong seen (known pass.new).told) (L.closed listener.old) (L.closed listener.new) (length tasks.old.items) result }
+    ensures served { AllServed C.shows C.agents (W.draws words.now) (λ seen. IsAmong seen (known pass.new).told) (L.closed listener.old) (L.closed listener.new) (length tasks.old.items) result }
 {
     let mut short = false;
     while let Some(task) = tasks.pop() {
@@ -485,7 +485,7 @@ where
     requires agents { (0 < server.now.agents) × (server.now.agents ≡ C.agents) }
     requires fresh { (L.given listener.old ≡ 0) × HasDrawn (W.draws words.old) 0 }
     ensures given { OnOk result.1 (L.given listener.new ≡ count) }
-    ensures links { HandsBack C.shows C.takes C.agents (W.draws words.new) (λ seen. IsFront seen (C.marks result.0)) (L.closed listener.old) (L.closed listener.new) (Sp.faults spawner.old) (Sp.faults spawner.new) (L.given listener.new) result.1 }
+    ensures links { HandsBack C.shows C.agents (W.draws words.new) (λ seen. IsFront seen (C.marks result.0)) (L.closed listener.old) (L.closed listener.new) (Sp.faults spawner.old) (Sp.faults spawner.new) (L.given listener.new) result.1 }
     ensures kept { AreKept (C.marks result.0) }
     ensures cause { IfErr result.1 (λ why. why ≡ stops.Listener → Rose (L.faults listener.old) (L.faults listener.new)) }
 {

@@ -1,10 +1,10 @@
 //! What the turns lend: a cluster, and the time up to which its clocks have gone on.
 
-ghost use Rattle.std.specs.Prelude.{◌≡◌, MatchOption, MatchResult};
+ghost use Rattle.std.specs.Prelude.{MatchResult};
 ghost use Rattle.std.specs.Option.{ForSome};
 ghost use Rattle.serve_loop.specs.Collects.{Collects};
-ghost use Rattle.serve_loop.specs.Marks.{AddsCut, AddsQuiet, AreKept, Fits, opens, takes};
-ghost use Rattle.serve_loop.specs.Turns.{Asks, GoesOn, Makes, MayAsk, StandsStill, Turns};
+ghost use Rattle.serve_loop.specs.Marks.{AddsCut, AddsQuiet, AreKept, opens, takes};
+ghost use Rattle.serve_loop.specs.Turns.{GoesOn, Makes, MayAsk, StandsStill, Turns};
 
 use crate::cluster::{Ask, Collected, SharedCluster};
 use cat_model::{Mark, Memory};
@@ -59,7 +59,7 @@ impl<C: SharedCluster> Served<C> {
 
     // Makes the ask, if there is one, and gives the number of the request that is waited for.
     fn make(&mut self, alloc: Global, ask: Option<Ask>, number: u64) -> Result<u64, Memory>
-        requires { ForSome ask (MayAsk C.agents C.takes) }
+        requires { ForSome ask (MayAsk C.agents) }
         ensures made { MatchResult result
             (λ n. Makes ask number n (C.marks self.old.cluster) (C.marks self.new.cluster))
             (λ _. AddsCut (C.marks self.old.cluster) (C.marks self.new.cluster)) }
@@ -87,7 +87,7 @@ impl<C: SharedCluster> Served<C> {
 
     // Makes the ask and settles the messages.
     fn go_on(&mut self, alloc: Global, ask: Option<Ask>, number: u64) -> Result<u64, Memory>
-        requires { ForSome ask (MayAsk C.agents C.takes) }
+        requires { ForSome ask (MayAsk C.agents) }
         ensures made { MatchResult result
             (λ n. Makes ask number n (C.marks self.old.cluster) (C.marks self.new.cluster))
             (λ _. AddsCut (C.marks self.old.cluster) (C.marks self.new.cluster)) }
@@ -110,7 +110,7 @@ impl<C: SharedCluster> Served<C> {
         ask: Option<Ask>,
         number: u64,
     ) -> Result<u64, Memory>
-        requires { ForSome ask (MayAsk C.agents C.takes) }
+        requires { ForSome ask (MayAsk C.agents) }
         ensures made { MatchResult result
             (λ n. Makes ask number n (C.marks self.old.cluster) (C.marks self.new.cluster))
             (λ _. AddsCut (C.marks self.old.cluster) (C.marks self.new.cluster)) }
@@ -133,7 +133,7 @@ impl<C: SharedCluster> Served<C> {
         ask: Option<Ask>,
         number: u64,
     ) -> Result<Turned, Memory>
-        requires { ForSome ask (MayAsk C.agents C.takes) }
+        requires { ForSome ask (MayAsk C.agents) }
         ensures turned { MatchResult result
             (λ t. Turns C.shows ask number t (C.marks self.old.cluster) (C.marks self.new.cluster))
             (λ _. AddsCut (C.marks self.old.cluster) (C.marks self.new.cluster)) }
@@ -157,7 +157,7 @@ impl<C: SharedCluster> Served<C> {
         ask: Option<Ask>,
         number: u64,
     ) -> Result<Turned, Memory>
-        requires { ForSome ask (MayAsk C.agents C.takes) }
+        requires { ForSome ask (MayAsk C.agents) }
         ensures turned { MatchResult result
             (λ t. Turns C.shows ask number t (C.marks self.old.cluster) (C.marks self.new.cluster))
             (λ _. AddsCut (C.marks self.old.cluster) (C.marks self.new.cluster)) }
@@ -167,58 +167,6 @@ impl<C: SharedCluster> Served<C> {
     {
         self.cluster.kept();
         let turned = self.try_turn(alloc, now, ask, number);
-        self.cluster.kept();
-        turned
-    }
-
-    // The turn of a request that is asked, if the cluster takes it, of whose marks nothing more is said.
-    fn try_asking_turn(
-        &mut self,
-        alloc: Global,
-        now: u64,
-        ask: Ask,
-    ) -> Result<Option<Turned>, Memory>
-        requires { Fits C.agents ask }
-        ensures turned { MatchResult result
-            (λ o. Asks C.shows C.takes ask o (C.marks self.old.cluster) (C.marks self.new.cluster))
-            (λ _. AddsCut (C.marks self.old.cluster) (C.marks self.new.cluster)) }
-        ensures time { MatchResult result
-            (λ o. MatchOption o
-            (self.new ≡ self.old)
-            (λ _. GoesOn self.old.last_ms self.new.last_ms now (C.marks self.old.cluster) (C.marks self.new.cluster)))
-            (λ _. GoesOn self.old.last_ms self.new.last_ms now (C.marks self.old.cluster) (C.marks self.new.cluster)) }
-    {
-        if !self.cluster.takes(&ask.asked) {
-            drop(ask);
-            return Ok(None);
-        }
-        match self.try_turn(alloc, now, Some(ask), 0) {
-            Ok(turned) => Ok(Some(turned)),
-            Err(Memory) => Err(Memory),
-        }
-    }
-
-    /// The turn of a request that is asked. Where the cluster does not take it, there is no turn, and nothing is done.
-    pub fn asking_turn(
-        &mut self,
-        alloc: Global,
-        now: u64,
-        ask: Ask,
-    ) -> Result<Option<Turned>, Memory>
-        requires { Fits C.agents ask }
-        ensures turned { MatchResult result
-            (λ o. Asks C.shows C.takes ask o (C.marks self.old.cluster) (C.marks self.new.cluster))
-            (λ _. AddsCut (C.marks self.old.cluster) (C.marks self.new.cluster)) }
-        ensures time { MatchResult result
-            (λ o. MatchOption o
-            (self.new ≡ self.old)
-            (λ _. GoesOn self.old.last_ms self.new.last_ms now (C.marks self.old.cluster) (C.marks self.new.cluster)))
-            (λ _. GoesOn self.old.last_ms self.new.last_ms now (C.marks self.old.cluster) (C.marks self.new.cluster)) }
-        ensures before { AreKept (C.marks self.old.cluster) }
-        ensures after { AreKept (C.marks self.new.cluster) }
-    {
-        self.cluster.kept();
-        let turned = self.try_asking_turn(alloc, now, ask);
         self.cluster.kept();
         turned
     }

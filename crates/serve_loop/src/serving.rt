@@ -4,6 +4,8 @@ ghost use Rattle.std.specs.Prelude.{◌≡◌, ◌+◌, ◌<◌, ◌≤◌, [], 
 ghost use Rattle.cat_model.specs.declared.reply.Mark.{Mark};
 ghost use Rattle.turn_lock.specs.declared.knowledge.Knowledge.{Knowledge};
 ghost use Rattle.std.specs.Arc.{arc_value};
+ghost use Rattle.cat_model.specs.declared.request.Asked.TheVariants.{Good};
+ghost use Rattle.request_rules.specs.Taken.{IsTakenAsked};
 ghost use Rattle.http_wire.specs.Reader.{raw};
 ghost use Rattle.http_wire.specs.Stream.{go_on, whole};
 ghost use Rattle.serve_loop.specs.Boards.{IsOurs, known};
@@ -19,9 +21,10 @@ use crate::replies::refusing;
 use crate::served::Served;
 use crate::turning::ask_and_wait;
 use crate::writing::{send, send_continue, send_refusal};
-use cat_model::{Asked, Draw, Memory, Refusal, Request};
+use cat_model::{Asked, Draw, Memory, Request};
 use cat_outside::Failed;
 use crossbeam_utils::CachePadded;
+use http_routes::laws::routes_are_taken;
 use http_routes::route;
 use http_wire::{Fed, Got, RawRequest, Rejection, RequestReader};
 use open_requests::Reply;
@@ -87,9 +90,10 @@ fn ask<R: Wait, C: SharedCluster, Cl: Clock, G: Gate, L: Link>(
 ) -> Result<Reply, Memory>
     requires ours { IsOurs (arc_value service.now.board) pass.old }
     requires agent { (0 < service.now.agent) × (service.now.agent ≤ C.agents) }
+    requires taken { IsTakenAsked (Good request) }
     ensures ours { IsOurs (arc_value service.now.board) pass.new }
     ensures grown { Grows (known pass.old) (known pass.new) }
-    ensures reply { IfOk result (IsReplyTo C.shows C.takes (connection L.state service.now) request n (known pass.new)) }
+    ensures reply { IfOk result (IsReplyTo C.shows (connection L.state service.now) request n (known pass.new)) }
 {
     let ask = Ask {
         agent: service.agent,
@@ -97,7 +101,7 @@ fn ask<R: Wait, C: SharedCluster, Cl: Clock, G: Gate, L: Link>(
         draw: nth_draw(service.draw, n),
     };
     let lock = &**service.board;
-    match ask_and_wait(
+    ask_and_wait(
         &service.rt,
         service.alloc,
         lock,
@@ -105,11 +109,7 @@ fn ask<R: Wait, C: SharedCluster, Cl: Clock, G: Gate, L: Link>(
         &service.clock,
         &service.gate,
         ask,
-    ) {
-        Ok(Some(reply)) => Ok(reply),
-        Ok(None) => refusing(Refusal::Unsupported),
-        Err(Memory) => Err(Memory),
-    }
+    )
 }
 
 // The reply to the n-th request, as it was routed.
@@ -121,9 +121,10 @@ fn respond<R: Wait, C: SharedCluster, Cl: Clock, G: Gate, L: Link>(
 ) -> Result<Reply, Memory>
     requires ours { IsOurs (arc_value service.now.board) pass.old }
     requires agent { (0 < service.now.agent) × (service.now.agent ≤ C.agents) }
+    requires taken { IsTakenAsked asked }
     ensures ours { IsOurs (arc_value service.now.board) pass.new }
     ensures grown { Grows (known pass.old) (known pass.new) }
-    ensures reply { IfOk result (IsResponse C.shows C.takes (connection L.state service.now) asked n (known pass.new)) }
+    ensures reply { IfOk result (IsResponse C.shows (connection L.state service.now) asked n (known pass.new)) }
 {
     match asked {
         Asked::Good(request) => ask(service, pass, request, n),
@@ -133,8 +134,10 @@ fn respond<R: Wait, C: SharedCluster, Cl: Clock, G: Gate, L: Link>(
 
 // What a request asks for.
 fn routed(alloc: Global, message: &RawRequest) -> Result<Asked, Memory>
-    ensures { IfOk result (λ asked. asked ≡ asked_by (raw message.now)) }
+    ensures asked { IfOk result (λ asked. asked ≡ asked_by (raw message.now)) }
+    ensures taken { IfOk result IsTakenAsked }
 {
+    routes_are_taken();
     route(
         alloc,
         message.method.as_str().as_bytes(),
@@ -154,7 +157,7 @@ fn reply_to<R: Wait, C: SharedCluster, Cl: Clock, G: Gate, L: Link>(
     requires agent { (0 < service.now.agent) × (service.now.agent ≤ C.agents) }
     ensures ours { IsOurs (arc_value service.now.board) pass.new }
     ensures grown { Grows (known pass.old) (known pass.new) }
-    ensures reply { IfOk result (λ reply. IsReply C.shows C.takes (connection L.state service.now) (raw message.now) n reply (known pass.new)) }
+    ensures reply { IfOk result (λ reply. IsReply C.shows (connection L.state service.now) (raw message.now) n reply (known pass.new)) }
 {
     match routed(service.alloc, message) {
         Ok(asked) => respond(service, pass, asked, n),
@@ -167,7 +170,7 @@ impl<L: Link, C: SharedCluster> Serving<L, Served<C>> {
     fn go_on<R, Cl, G>(&mut self, service: &Service<R, Served<C>, Cl, G, L>) -> Result<(), Cause>
         requires unshut { (L.state self.old.link).shut ≡ false }
         ensures pass { self.new.pass ≡ self.old.pass }
-        ensures goes_on { (rest : List ℕ) → Owes C.shows C.takes (connection L.state service.now) (stage L.state self.old) rest go_on → GoesOn C.shows C.takes (connection L.state service.now) result (stage L.state self.new) rest }
+        ensures goes_on { (rest : List ℕ) → Owes C.shows (connection L.state service.now) (stage L.state self.old) rest go_on → GoesOn C.shows (connection L.state service.now) result (stage L.state self.new) rest }
     {
         send_continue(&mut self.link, service.alloc)
     }
@@ -183,9 +186,9 @@ impl<L: Link, C: SharedCluster> Serving<L, Served<C>> {
         requires next { n ≡ self.old.requests + 1 }
         requires unshut { (L.state self.old.link).shut ≡ false }
         ensures pass { self.new.pass ≡ self.old.pass }
-        ensures gives { (before : Knowledge Mark) (rest : List ℕ) → Owes C.shows C.takes (connection L.state service.now) (record (stage L.state self.old) { known = before }) rest (whole (raw message.now)) → Grows before (known self.old.pass)
-            → IsReply C.shows C.takes (connection L.state service.now) (raw message.now) n reply.now (known self.old.pass)
-            → GoesOn C.shows C.takes (connection L.state service.now) result (stage L.state self.new) rest }
+        ensures gives { (before : Knowledge Mark) (rest : List ℕ) → Owes C.shows (connection L.state service.now) (record (stage L.state self.old) { known = before }) rest (whole (raw message.now)) → Grows before (known self.old.pass)
+            → IsReply C.shows (connection L.state service.now) (raw message.now) n reply.now (known self.old.pass)
+            → GoesOn C.shows (connection L.state service.now) result (stage L.state self.new) rest }
     {
         match send(&mut self.link, service.alloc, reply, message.close) {
             Ok(()) => {
@@ -204,8 +207,8 @@ impl<L: Link, C: SharedCluster> Serving<L, Served<C>> {
     ) -> Cause
         requires unshut { (L.state self.old.link).shut ≡ false }
         ensures pass { self.new.pass ≡ self.old.pass }
-        ensures ends { OwesRefusal C.shows C.takes (connection L.state service.now) (L.state self.old.link) (known self.old.pass) self.old.requests why
-            → EndsBy C.shows C.takes (connection L.state service.now) result (L.state self.new.link) (known self.new.pass) self.new.requests }
+        ensures ends { OwesRefusal C.shows (connection L.state service.now) (L.state self.old.link) (known self.old.pass) self.old.requests why
+            → EndsBy C.shows (connection L.state service.now) result (L.state self.new.link) (known self.new.pass) self.new.requests }
     {
         match send_refusal(&mut self.link, service.alloc, why) {
             Ok(()) => Cause::Refused(why),
@@ -223,7 +226,7 @@ impl<L: Link, C: SharedCluster> Serving<L, Served<C>> {
         requires agent { (0 < service.now.agent) × (service.now.agent ≤ C.agents) }
         requires unshut { (L.state self.old.link).shut ≡ false }
         ensures ours { IsOurs (arc_value service.now.board) self.new.pass }
-        ensures goes_on { (rest : List ℕ) → Owes C.shows C.takes (connection L.state service.now) (stage L.state self.old) rest (whole (raw message.now)) → GoesOn C.shows C.takes (connection L.state service.now) result (stage L.state self.new) rest }
+        ensures goes_on { (rest : List ℕ) → Owes C.shows (connection L.state service.now) (stage L.state self.old) rest (whole (raw message.now)) → GoesOn C.shows (connection L.state service.now) result (stage L.state self.new) rest }
     {
         let Some(n) = self.requests.checked_add(1) else {
             return Err(Cause::Memory);
@@ -248,7 +251,7 @@ impl<L: Link, C: SharedCluster> Serving<L, Served<C>> {
         requires agent { (0 < service.now.agent) × (service.now.agent ≤ C.agents) }
         requires unshut { (L.state self.old.link).shut ≡ false }
         ensures ours { IsOurs (arc_value service.now.board) self.new.pass }
-        ensures goes_on { (rest : List ℕ) → Comes C.shows C.takes (connection L.state service.now) (stage L.state self.old) rest got → GoesOn C.shows C.takes (connection L.state service.now) result (stage L.state self.new) rest }
+        ensures goes_on { (rest : List ℕ) → Comes C.shows (connection L.state service.now) (stage L.state self.old) rest got → GoesOn C.shows (connection L.state service.now) result (stage L.state self.new) rest }
         ensures taking { OnOk result (IsTaking got) }
     {
         match got {
@@ -273,12 +276,12 @@ impl<L: Link, C: SharedCluster> Serving<L, Served<C>> {
         requires some { 0 < length piece.now }
         requires ours { IsOurs (arc_value service.now.board) self.old.pass }
         requires agent { (0 < service.now.agent) × (service.now.agent ≤ C.agents) }
-        requires talks { Talks C.shows C.takes (connection L.state service.now) (stage L.state self.old) piece.now }
+        requires talks { Talks C.shows (connection L.state service.now) (stage L.state self.old) piece.now }
         ensures ours { IsOurs (arc_value service.now.board) self.new.pass }
         ensures used { IfOk result (λ used. (0 < used) × (used ≤ length piece.now)) }
         ensures goes_on { MatchResult result
-            (λ used. Talks C.shows C.takes (connection L.state service.now) (stage L.state self.new) (drop used piece.now))
-            (λ why. EndsBy C.shows C.takes (connection L.state service.now) why (L.state self.new.link) (known self.new.pass) self.new.requests) }
+            (λ used. Talks C.shows (connection L.state service.now) (stage L.state self.new) (drop used piece.now))
+            (λ why. EndsBy C.shows (connection L.state service.now) why (L.state self.new.link) (known self.new.pass) self.new.requests) }
     {
         let Fed { used, got } = self.reader.feed(piece);
         match self.handle(service, got) {
@@ -295,9 +298,9 @@ impl<L: Link, C: SharedCluster> Serving<L, Served<C>> {
     ) -> Result<(), Cause>
         requires ours { IsOurs (arc_value service.now.board) self.old.pass }
         requires agent { (0 < service.now.agent) × (service.now.agent ≤ C.agents) }
-        requires talks { Talks C.shows C.takes (connection L.state service.now) (stage L.state self.old) piece.now }
+        requires talks { Talks C.shows (connection L.state service.now) (stage L.state self.old) piece.now }
         ensures ours { IsOurs (arc_value service.now.board) self.new.pass }
-        ensures goes_on { GoesOn C.shows C.takes (connection L.state service.now) result (stage L.state self.new) [] }
+        ensures goes_on { GoesOn C.shows (connection L.state service.now) result (stage L.state self.new) [] }
     {
         let mut done = 0;
         while done < piece.len() {
@@ -316,13 +319,13 @@ impl<L: Link, C: SharedCluster> Serving<L, Served<C>> {
         buffer: &mut [u8],
     ) -> Result<usize, Cause>
         requires room { 0 < length buffer.old }
-        requires talks { Talks C.shows C.takes (connection L.state service.now) (stage L.state self.old) [] }
+        requires talks { Talks C.shows (connection L.state service.now) (stage L.state self.old) [] }
         ensures most { IfOk result (λ n. n ≤ length buffer.new) }
         ensures room { length buffer.new ≡ length buffer.old }
         ensures pass { self.new.pass ≡ self.old.pass }
         ensures goes_on { MatchResult result
-            (λ n. Talks C.shows C.takes (connection L.state service.now) (stage L.state self.new) (take n buffer.new))
-            (λ why. EndsBy C.shows C.takes (connection L.state service.now) why (L.state self.new.link) (known self.new.pass) self.new.requests) }
+            (λ n. Talks C.shows (connection L.state service.now) (stage L.state self.new) (take n buffer.new))
+            (λ why. EndsBy C.shows (connection L.state service.now) why (L.state self.new.link) (known self.new.pass) self.new.requests) }
     {
         match self.link.read(buffer) {
             Ok(0) => Err(Cause::Closed),
@@ -338,9 +341,9 @@ impl<L: Link, C: SharedCluster> Serving<L, Served<C>> {
     ) -> Cause
         requires ours { IsOurs (arc_value service.now.board) self.old.pass }
         requires agent { (0 < service.now.agent) × (service.now.agent ≤ C.agents) }
-        requires talks { Talks C.shows C.takes (connection L.state service.now) (stage L.state self.old) [] }
+        requires talks { Talks C.shows (connection L.state service.now) (stage L.state self.old) [] }
         ensures ours { IsOurs (arc_value service.now.board) self.new.pass }
-        ensures ends { EndsBy C.shows C.takes (connection L.state service.now) result (L.state self.new.link) (known self.new.pass) self.new.requests }
+        ensures ends { EndsBy C.shows (connection L.state service.now) result (L.state self.new.link) (known self.new.pass) self.new.requests }
     {
         let mut buffer = [0; ROOM];
         for _ in service.rt.forever() {

@@ -1,11 +1,11 @@
 //! A connection's request, from its asking to its reply.
 
-ghost use Rattle.std.specs.Prelude.{◌≡◌, IfOk, IfSome, MatchOption};
+ghost use Rattle.std.specs.Prelude.{◌≡◌, IfOk};
 ghost use Rattle.turn_lock.specs.Lists.{Among};
 ghost use Rattle.turn_lock.specs.Passes.{IsFree, IsSame};
 ghost use Rattle.serve_loop.specs.declared.cluster.Ask.{Ask as SpecAsk};
 ghost use Rattle.serve_loop.specs.Boards.{known};
-ghost use Rattle.serve_loop.specs.Marks.{Fits};
+ghost use Rattle.serve_loop.specs.Turns.{MayAsk};
 ghost use Rattle.serve_loop.specs.Waiting.{Grows, IsAnswered, IsBehind, Stands, Waits};
 
 use crate::cluster::{Ask, Collected, SharedCluster};
@@ -17,7 +17,7 @@ use std::alloc::Global;
 use std::sync::Wait;
 use turn_lock::{HistoryLock, Pass};
 
-/// The first turn of a request, if the cluster takes it.
+/// The first turn of a request.
 pub(crate) fn first_turn<R: Wait, C: SharedCluster>(
     rt: &R,
     alloc: Global,
@@ -25,18 +25,18 @@ pub(crate) fn first_turn<R: Wait, C: SharedCluster>(
     pass: &mut Pass<Served<C>>,
     now: u64,
     ask: Ask,
-) -> Result<Option<Turned>, Memory>
+) -> Result<Turned, Memory>
     requires own { pass.old.seat.table_id ≡ lock.now.table.shared.table_id }
     requires free { IsFree pass.old.seat }
-    requires fits { Fits C.agents ask }
+    requires may { MayAsk C.agents ask }
     ensures own { IsSame pass.old.seat pass.new.seat }
     ensures free { IsFree pass.new.seat }
     ensures grown { Grows (known pass.old) (known pass.new) }
-    ensures behind { IfOk result (λ o. IfSome o (λ t. IsBehind t.number ask (known pass.old).seen (known pass.new).seen)) }
-    ensures stands { IfOk result (λ o. MatchOption o (C.takes ask.asked → ⊥) (λ t. Stands C.shows t.number ask t.got (known pass.new))) }
+    ensures behind { IfOk result (λ t. IsBehind t.number ask (known pass.old).seen (known pass.new).seen) }
+    ensures stands { IfOk result (λ t. Stands C.shows t.number ask t.got (known pass.new)) }
 {
     let mut turn = lock.take(rt, pass);
-    let turned = turn.state().asking_turn(alloc, now, ask);
+    let turned = turn.state().turn(alloc, now, Some(ask), 0);
     lock.give(turn, pass);
     turned
 }
@@ -64,7 +64,7 @@ pub(crate) fn next_turn<R: Wait, C: SharedCluster>(
     turned
 }
 
-/// Asks, and looks again and again until the reply is there; none comes where the cluster does not take the request.
+/// Asks, and looks again and again until the reply is there.
 pub(crate) fn ask_and_wait<R: Wait, C: SharedCluster, Cl: Clock, G: Gate>(
     rt: &R,
     alloc: Global,
@@ -73,21 +73,17 @@ pub(crate) fn ask_and_wait<R: Wait, C: SharedCluster, Cl: Clock, G: Gate>(
     clock: &Cl,
     gate: &G,
     ask: Ask,
-) -> Result<Option<Reply>, Memory>
+) -> Result<Reply, Memory>
     requires own { pass.old.seat.table_id ≡ lock.now.table.shared.table_id }
     requires free { IsFree pass.old.seat }
-    requires fits { Fits C.agents ask }
+    requires may { MayAsk C.agents ask }
     ensures own { IsSame pass.old.seat pass.new.seat }
     ensures free { IsFree pass.new.seat }
     ensures grown { Grows (known pass.old) (known pass.new) }
-    ensures answered { IfOk result (λ o. MatchOption o (C.takes ask.asked → ⊥) (λ reply. IsAnswered C.shows ask reply (known pass.new).seen (known pass.new).mine)) }
+    ensures answered { IfOk result (λ reply. IsAnswered C.shows ask reply (known pass.new).seen (known pass.new).mine) }
 {
     match first_turn(rt, alloc, lock, pass, clock.now_ms(), ask) {
-        Ok(Some(turned)) => match wait_for(rt, alloc, lock, pass, clock, gate, turned) {
-            Ok(reply) => Ok(Some(reply)),
-            Err(Memory) => Err(Memory),
-        },
-        Ok(None) => Ok(None),
+        Ok(turned) => wait_for(rt, alloc, lock, pass, clock, gate, turned),
         Err(Memory) => Err(Memory),
     }
 }

@@ -6,7 +6,7 @@ use Rattle.std.proofs.KnownBytes.{Appends-trans}
 use Rattle.cat_model.specs.declared.request.Draw.{Draw}
 use Rattle.cluster_rules.specs.Cluster.{Cluster}
 use Rattle.script_runs.specs.Plays.{Whole}
-use Rattle.script_runs.specs.Taken.{IsTakenAsked}
+use Rattle.request_rules.specs.Taken.{IsTakenAsked}
 use Rattle.script_player.specs.declared.report.Report.{Report}
 use Rattle.script_player.specs.Run.{IsReportOf, WritesPart}
 use Rattle.script_player.specs.Text.{last_text}

@@ -8,7 +8,7 @@ use Rattle.cat_outside.specs.Causes.{Rose}
 use Rattle.cat_outside.specs.declared.faults.KeepFail.{KeepFail}
 use Rattle.cat_outside.specs.declared.faults.KeepFail.TheVariants as keep_fail
 use Rattle.cluster_rules.specs.Cluster.{Cluster}
-use Rattle.script_runs.specs.Taken.{IsTakenAsked}
+use Rattle.request_rules.specs.Taken.{IsTakenAsked}
 use Rattle.script_player.specs.declared.report.Report.{Report}
 use Rattle.script_player.specs.Run.{IsReportOf, WritesPart}
 use Rattle.serve_outside.specs.Links.{LinkState}

@@ -151,7 +151,7 @@ where
     L::Link: Send + 'static,
     requires agents { (0 < options.now.agents) × (options.now.agents ≡ C.agents) }
     requires fresh { (L.given listener.old ≡ 0) × HasDrawn (W.draws words.old) 0 }
-    ensures links { IfOk result (λ r. HandsBack C.shows C.takes C.agents (W.draws words.new) (λ seen. IsFront seen (C.marks r.0)) (L.closed listener.old) (L.closed listener.new) (Sp.faults spawner.old) (Sp.faults spawner.new) (L.given listener.new) r.1) }
+    ensures links { IfOk result (λ r. HandsBack C.shows C.agents (W.draws words.new) (λ seen. IsFront seen (C.marks r.0)) (L.closed listener.old) (L.closed listener.new) (Sp.faults spawner.old) (Sp.faults spawner.new) (L.given listener.new) r.1) }
     ensures count { IfOk result (λ r. OnOk r.1 (L.given listener.new ≡ options.now.connections)) }
     ensures cause { IfOk result (λ r. IfErr r.1 (λ why. why ≡ loop.Listener → Rose (L.faults listener.old) (L.faults listener.new))) }
     ensures none { OnErr result ((listener.new ≡ listener.old) × (words.new ≡ words.old) × (spawner.new ≡ spawner.old)) }

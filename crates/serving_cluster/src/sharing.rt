@@ -1,7 +1,7 @@
 //! The cluster as its users' turns see it.
 
 ghost use Rattle.std.specs.Prelude.{◌≡◌, IfOk, OnErr, reverse};
-ghost use Rattle.script_runs.specs.Taken.{IsTakenAsked};
+ghost use Rattle.request_rules.specs.Taken.{IsTakenAsked};
 ghost use Rattle.serve_loop.specs.Collects.{Collects};
 ghost use Rattle.serve_loop.specs.Marks.{AddsAsked, AddsCut, AddsQuiet, TicksBy, TicksNone};
 ghost use Rattle.serve_loop.specs.Turns.{MayAsk};
@@ -12,7 +12,6 @@ ghost use Rattle.serving_cluster.specs.Ticks.{TicksOne};
 use crate::serving::{ClusterSize, ServingCluster};
 use cat_model::{Asked, Event, Memory};
 use cluster_interface::ClusterInterface;
-use script_runs::is_taken;
 use serve_loop::{Ask, Collected, SharedCluster};
 use std::alloc::Global;
 
@@ -109,7 +108,7 @@ impl<J: ClusterSize, S: ClusterInterface> ServingCluster<J, S> {
 
     // Asks an agent that is there.
     fn ask_agent(&mut self, alloc: Global, ask: &Ask) -> Result<u64, Memory>
-        requires { MayAsk J.size.agents IsTakenAsked ask.now }
+        requires { MayAsk J.size.agents ask.now }
         ensures asked { IfOk result (λ number. AddsAsked number ask.now (reverse self.old.past) (reverse self.new.past)) }
         ensures cut { OnErr result (AddsCut (reverse self.old.past) (reverse self.new.past)) }
         ensures unticked { TicksNone (reverse self.old.past) (reverse self.new.past) }
@@ -128,7 +127,6 @@ impl<J: ClusterSize, S: ClusterInterface> ServingCluster<J, S> {
 
 impl<J: ClusterSize, S: ClusterInterface> SharedCluster for ServingCluster<J, S> {
     ghost use Rattle.std.specs.Prelude.{reverse};
-    ghost use Rattle.script_runs.specs.Taken.{IsTakenAsked};
     ghost use Rattle.serving_cluster.specs.Shown.{Shows};
 
     ghost marks = { λ c. reverse c.past };
@@ -136,15 +134,6 @@ impl<J: ClusterSize, S: ClusterInterface> SharedCluster for ServingCluster<J, S>
     ghost agents = { J.size.agents };
 
     ghost shows = { Shows };
-
-    ghost takes = { IsTakenAsked };
-
-    fn takes(&self, asked: &Asked) -> bool {
-        match asked {
-            Asked::Good(request) => is_taken(request),
-            Asked::Bad(_) => true,
-        }
-    }
 
     fn kept(&self) {
         // What the type keeps is at hand once the cluster is read, whatever is read of it.

@@ -17,7 +17,7 @@ returns-clause-served g c =
     let told = c.give_back.new.pass.seat.me.0.told in let own = known done.pass in record {
       link = state done.link;
       why = done.cause;
-      is = is_served g.C.SharedCluster.shows g.C.SharedCluster.takes g.C.SharedCluster.agents (g.W.Words.draws c.args.words.now) (λ seen. IsAmong seen told) (connection_of state job) (state done.link) own done.cause done.requests
+      is = is_served g.C.SharedCluster.shows g.C.SharedCluster.agents (g.W.Words.draws c.args.words.now) (λ seen. IsAmong seen told) (connection_of state job) (state done.link) own done.cause done.requests
           (told_now (c.args.pass.now.seat.me.0.told ++ own.told) told own.seen c.give_back.ensures.told) s.new s.agent s.drawn e.1 e.2;
       are = c.close.ensures.closed;
       short_is = c.lacked_memory.ensures;

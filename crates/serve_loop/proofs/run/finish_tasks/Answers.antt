@@ -16,25 +16,25 @@ loop-task-init g c =
       refl,
       refl,
       omega arith,
-      served_none g.C.SharedCluster.shows g.C.SharedCluster.takes g.C.SharedCluster.agents draws knows (g.L.Listener.closed c.args.listener.now) (length c.args.tasks.now.items),
+      served_none g.C.SharedCluster.shows g.C.SharedCluster.agents draws knows (g.L.Listener.closed c.args.listener.now) (length c.args.tasks.now.items),
       c.requires.tasks,
     )
 
 pub finish_one-one-requires-clause-kept : goal.finish_one-one-requires-clause-kept
 finish_one-one-requires-clause-kept g c κs within =
     let state = g.L.Link.Link.state in
-    (last_task c.pop.new.self.items c.loop-task.tasks.items c.in-Some.task (λ p d. HasEnded g.C.SharedCluster.shows g.C.SharedCluster.takes state p.0.value d)
+    (last_task c.pop.new.self.items c.loop-task.tasks.items c.in-Some.task (λ p d. HasEnded g.C.SharedCluster.shows state p.0.value d)
     (λ p. IsStarted (arc_value c.args.server.now.board) g.C.SharedCluster.agents (g.W.Words.draws c.args.words.now) state p.0.value) c.in-Some.ensures.items c.loop-task.invariant.5).0
 
 pub finish_one-one-requires-clause-started : goal.finish_one-one-requires-clause-started
 finish_one-one-requires-clause-started g c κs within =
     let state = g.L.Link.Link.state in
-    (last_task c.pop.new.self.items c.loop-task.tasks.items c.in-Some.task (λ p d. HasEnded g.C.SharedCluster.shows g.C.SharedCluster.takes state p.0.value d)
+    (last_task c.pop.new.self.items c.loop-task.tasks.items c.in-Some.task (λ p d. HasEnded g.C.SharedCluster.shows state p.0.value d)
     (λ p. IsStarted (arc_value c.args.server.now.board) g.C.SharedCluster.agents (g.W.Words.draws c.args.words.now) state p.0.value) c.in-Some.ensures.items c.loop-task.invariant.5).1
 
 pub loop-task-preserved : goal.loop-task-preserved
 loop-task-preserved g c =
-    let shows = g.C.SharedCluster.shows in let takes = g.C.SharedCluster.takes in let agents = g.C.SharedCluster.agents in let draws = g.W.Words.draws c.args.words.now in
+    let shows = g.C.SharedCluster.shows in let agents = g.C.SharedCluster.agents in let draws = g.W.Words.draws c.args.words.now in
     let given = g.L.Listener.given in let faults = g.L.Listener.faults in
     let xs = c.pop.new.self.items in let ys = c.loop-task.tasks.items in let x = c.in-Some.task in let are = c.in-Some.ensures.items in let i = c.loop-task.invariant in
     let fewer = below_last xs ys x are in (
@@ -42,7 +42,7 @@ loop-task-preserved g c =
       ◌∙◌ {a = given c.finish_one-one.new.listener} c.finish_one-one.ensures.given i.1,
       ◌∙◌ {a = faults c.finish_one-one.new.listener} c.finish_one-one.ensures.faults i.2,
       omega (arith, fewer, i.3),
-      served_pop shows takes agents draws (λ seen. IsAmong seen c.loop-task.pass.seat.me.0.told) (λ seen. IsAmong seen c.finish_one-one.new.pass.seat.me.0.told) c.finish_one-one.ensures.told (g.L.Listener.closed c.args.listener.now) (g.L.Listener.closed c.loop-task.listener) (g.L.Listener.closed c.finish_one-one.new.listener)
+      served_pop shows agents draws (λ seen. IsAmong seen c.loop-task.pass.seat.me.0.told) (λ seen. IsAmong seen c.finish_one-one.new.pass.seat.me.0.told) c.finish_one-one.ensures.told (g.L.Listener.closed c.args.listener.now) (g.L.Listener.closed c.loop-task.listener) (g.L.Listener.closed c.finish_one-one.new.listener)
           (length c.args.tasks.now.items) c.loop-task.short c.finish_one-one.result c.either-short.result xs ys x are i.3 i.4 c.finish_one-one.ensures.served c.either-short.ensures,
-      tasks_before xs ys x (λ p d. HasEnded shows takes g.L.Link.Link.state p.0.value d) (λ p. IsStarted (arc_value c.args.server.now.board) agents draws g.L.Link.Link.state p.0.value) are i.5,
+      tasks_before xs ys x (λ p d. HasEnded shows g.L.Link.Link.state p.0.value d) (λ p. IsStarted (arc_value c.args.server.now.board) agents draws g.L.Link.Link.state p.0.value) are i.5,
     )

@@ -13,9 +13,9 @@ invariant-loop-task g l =
     × (g.L.Listener.given l.listener ≡ g.L.Listener.given l.fn.listener)
     × (g.L.Listener.faults l.listener ≡ g.L.Listener.faults l.fn.listener)
     × (length l.tasks.items ≤ length l.fn.tasks.items)
-    × AllServed g.C.SharedCluster.shows g.C.SharedCluster.takes g.C.SharedCluster.agents (g.W.Words.draws l.words) (λ seen. IsAmong seen l.pass.seat.me.0.told) (g.L.Listener.closed l.fn.listener) (g.L.Listener.closed l.listener) (length l.fn.tasks.items - length l.tasks.items) l.short
+    × AllServed g.C.SharedCluster.shows g.C.SharedCluster.agents (g.W.Words.draws l.words) (λ seen. IsAmong seen l.pass.seat.me.0.told) (g.L.Listener.closed l.fn.listener) (g.L.Listener.closed l.listener) (length l.fn.tasks.items - length l.tasks.items) l.short
     × AllTasks l.tasks.items
-    (λ p d. HasEnded g.C.SharedCluster.shows g.C.SharedCluster.takes g.L.Link.Link.state p.0.value d)
+    (λ p d. HasEnded g.C.SharedCluster.shows g.L.Link.Link.state p.0.value d)
     (λ p. IsStarted (arc_value l.server.board) g.C.SharedCluster.agents (g.W.Words.draws l.words) g.L.Link.Link.state p.0.value)
 
 abbrev pub decreases-loop-task : goal.decreases-loop-task

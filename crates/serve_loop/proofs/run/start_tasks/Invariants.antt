@@ -15,7 +15,7 @@ invariant-loop-n g l =
     × Starts (g.L.Listener.closed l.fn.listener) (g.L.Listener.closed l.listener) (g.Sp.Spawner.faults l.fn.spawner) (g.Sp.Spawner.faults l.spawner) (g.L.Listener.given l.fn.listener) (g.L.Listener.given l.listener) (length l.fn.tasks.items) (length l.tasks.items) (Ok tt)
     × (g.L.Listener.faults l.fn.listener ≤ g.L.Listener.faults l.listener)
     × AllTasks l.tasks.items
-    (λ p d. HasEnded g.C.SharedCluster.shows g.C.SharedCluster.takes g.L.Link.Link.state p.0.value d)
+    (λ p d. HasEnded g.C.SharedCluster.shows g.L.Link.Link.state p.0.value d)
     (λ p. IsStarted (arc_value l.server.board) g.C.SharedCluster.agents (g.W.Words.draws l.words) g.L.Link.Link.state p.0.value)
 
 abbrev pub decreases-loop-n : goal.decreases-loop-n

@@ -8,5 +8,5 @@ returns-in-Ok-clause-goes_on g c = λ rest o. c.give-given.ensures.gives (known 
 
 pub returns-in-Err-clause-goes_on : goal.returns-in-Err-clause-goes_on
 returns-in-Err-clause-goes_on g c =
-    let shows = g.C.SharedCluster.shows in let takes = g.C.SharedCluster.takes in let k = connection g.L.Link.state c.args.service.now in let s = stage g.L.Link.state c.args.self.now in
-    λ rest o. cut_later shows takes k s.link s.known (known c.reply_to.new.pass) s.requests c.reply_to.ensures.grown o.before
+    let shows = g.C.SharedCluster.shows in let k = connection g.L.Link.state c.args.service.now in let s = stage g.L.Link.state c.args.self.now in
+    λ rest o. cut_later shows k s.link s.known (known c.reply_to.new.pass) s.requests c.reply_to.ensures.grown o.before

@@ -5,10 +5,10 @@ use Rattle.serve_loop.proofs.serving.Serving+L+Served+C.give.Goals as goal
 
 pub returns-in-Ok-clause-gives : goal.returns-in-Ok-clause-gives
 returns-in-Ok-clause-gives g c =
-    let shows = g.C.SharedCluster.shows in let takes = g.C.SharedCluster.takes in let k = connection g.L.Link.state c.args.service.now in let s = stage g.L.Link.state c.args.self.now in
-    λ before rest o grown is. gave_next shows takes k s before rest (raw c.args.message.now) c.args.reply.now c.args.n o grown c.requires.next is (g.L.Link.state c.send.new.link) c.ends_here.result c.in-Ok.ensures c.ends_here.ensures
+    let shows = g.C.SharedCluster.shows in let k = connection g.L.Link.state c.args.service.now in let s = stage g.L.Link.state c.args.self.now in
+    λ before rest o grown is. gave_next shows k s before rest (raw c.args.message.now) c.args.reply.now c.args.n o grown c.requires.next is (g.L.Link.state c.send.new.link) c.ends_here.result c.in-Ok.ensures c.ends_here.ensures
 
 pub returns-in-Err-clause-gives : goal.returns-in-Err-clause-gives
 returns-in-Err-clause-gives g c =
-    let shows = g.C.SharedCluster.shows in let takes = g.C.SharedCluster.takes in let k = connection g.L.Link.state c.args.service.now in let s = stage g.L.Link.state c.args.self.now in
-    λ before rest o grown is. gave_part shows takes k s before rest (raw c.args.message.now) c.args.reply.now c.args.n o grown c.requires.next is (g.L.Link.state c.send.new.link) c.in-Err.why c.in-Err.ensures
+    let shows = g.C.SharedCluster.shows in let k = connection g.L.Link.state c.args.service.now in let s = stage g.L.Link.state c.args.self.now in
+    λ before rest o grown is. gave_part shows k s before rest (raw c.args.message.now) c.args.reply.now c.args.n o grown c.requires.next is (g.L.Link.state c.send.new.link) c.in-Err.why c.in-Err.ensures

@@ -4,10 +4,10 @@ use Rattle.serve_loop.proofs.serving.Serving+L+Served+C.refuse.Goals as goal
 
 pub returns-in-Ok-clause-ends : goal.returns-in-Ok-clause-ends
 returns-in-Ok-clause-ends g c =
-    let shows = g.C.SharedCluster.shows in let takes = g.C.SharedCluster.takes in let k = connection g.L.Link.state c.args.service.now in let s = stage g.L.Link.state c.args.self.now in
-    λ o. refuses shows takes k s (g.L.Link.state c.send_refusal.new.link) c.args.why c.in-Ok.ensures o
+    let shows = g.C.SharedCluster.shows in let k = connection g.L.Link.state c.args.service.now in let s = stage g.L.Link.state c.args.self.now in
+    λ o. refuses shows k s (g.L.Link.state c.send_refusal.new.link) c.args.why c.in-Ok.ensures o
 
 pub returns-in-Err-clause-ends : goal.returns-in-Err-clause-ends
 returns-in-Err-clause-ends g c =
-    let shows = g.C.SharedCluster.shows in let takes = g.C.SharedCluster.takes in let k = connection g.L.Link.state c.args.service.now in let s = stage g.L.Link.state c.args.self.now in
-    λ o. refuses_part shows takes k s (g.L.Link.state c.send_refusal.new.link) c.args.why c.in-Err.cut c.in-Err.ensures o
+    let shows = g.C.SharedCluster.shows in let k = connection g.L.Link.state c.args.service.now in let s = stage g.L.Link.state c.args.self.now in
+    λ o. refuses_part shows k s (g.L.Link.state c.send_refusal.new.link) c.args.why c.in-Err.cut c.in-Err.ensures o

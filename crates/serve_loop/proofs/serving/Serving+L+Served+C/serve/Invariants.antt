@@ -9,4 +9,4 @@ use Rattle.serve_loop.proofs.serving.Serving+L+Served+C.serve.Given as goal
 abbrev pub invariant-loop : goal.invariant-loop
 invariant-loop g l =
     IsOurs (arc_value l.service.board) l.self.pass
-    × Talks g.C.SharedCluster.shows g.C.SharedCluster.takes (connection g.L.Link.state l.service) (stage g.L.Link.state l.self) []
+    × Talks g.C.SharedCluster.shows (connection g.L.Link.state l.service) (stage g.L.Link.state l.self) []

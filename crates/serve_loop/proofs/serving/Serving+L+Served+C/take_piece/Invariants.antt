@@ -10,7 +10,7 @@ abbrev pub invariant-loop-done : goal.invariant-loop-done
 invariant-loop-done g l =
     (l.done ≤ length l.piece)
     × IsOurs (arc_value l.service.board) l.self.pass
-    × Talks g.C.SharedCluster.shows g.C.SharedCluster.takes (connection g.L.Link.state l.service) (stage g.L.Link.state l.self) (drop l.done l.piece)
+    × Talks g.C.SharedCluster.shows (connection g.L.Link.state l.service) (stage g.L.Link.state l.self) (drop l.done l.piece)
 
 abbrev pub decreases-loop-done : goal.decreases-loop-done
 decreases-loop-done g l = length l.piece - l.done
