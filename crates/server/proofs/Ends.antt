@@ -6,7 +6,6 @@ use Rattle.std.proofs.KnownBytes.{Appends-trans}
 use Rattle.cat_model.specs.declared.request.Draw.{Draw}
 use Rattle.cluster_rules.specs.Cluster.{Cluster}
 use Rattle.script_runs.specs.Plays.{Whole}
-use Rattle.request_rules.specs.Taken.{IsTakenAsked}
 use Rattle.script_player.specs.declared.report.Report.{Report}
 use Rattle.script_player.specs.Run.{IsReportOf, WritesPart}
 use Rattle.script_player.specs.Text.{last_text}
@@ -26,19 +25,19 @@ use Rattle.server.proofs.Texts.{front_all, part_whole, whole_all}
 
 -- the links of a run, whose listener had given none before
 module _ (o : Options) (size : Size) (e : size ≡ size_of o) (draws : Option (List Draw)) (closed closed₁ closed' : List LinkState) (same : closed₁ ≡ closed) (faults faults' given : ℕ) (c : Cluster) (ended : Result Unit loop.Stop) where
-  links_of : HandsBack Shows IsTakenAsked size.agents draws (λ seen. IsFront seen (reverse c.past)) closed₁ closed' faults faults' given ended → Serve o draws c closed closed' faults faults' given ended
+  links_of : HandsBack Shows size.agents draws (λ seen. IsFront seen (reverse c.past)) closed₁ closed' faults faults' given ended → Serve o draws c closed closed' faults faults' given ended
   links_of links =
-      subst (λ (l : List LinkState). HandsBack Shows IsTakenAsked o.agents draws (λ seen. IsFront seen (reverse c.past)) l closed' faults faults' given ended) same
-      (subst (λ (z : Size). HandsBack Shows IsTakenAsked z.agents draws (λ seen. IsFront seen (reverse c.past)) closed₁ closed' faults faults' given ended) e links)
+      subst (λ (l : List LinkState). HandsBack Shows o.agents draws (λ seen. IsFront seen (reverse c.past)) l closed' faults faults' given ended) same
+      (subst (λ (z : Size). HandsBack Shows z.agents draws (λ seen. IsFront seen (reverse c.past)) closed₁ closed' faults faults' given ended) e links)
 
   serves_of : Serves size c → Serves (size_of o) c
   serves_of serves = subst (λ (z : Size). Serves z c) e serves
 
-  pub back_of : Serves size c → HandsBack Shows IsTakenAsked size.agents draws (λ seen. IsFront seen (reverse c.past)) closed₁ closed' faults faults' given ended → GivesBack o draws closed closed' faults faults' given
+  pub back_of : Serves size c → HandsBack Shows size.agents draws (λ seen. IsFront seen (reverse c.past)) closed₁ closed' faults faults' given ended → GivesBack o draws closed closed' faults faults' given
   back_of serves links = all_back c ended (serves_of serves) (links_of links)
 
   pub served_of : (held mid held' : Option (List ℕ)) (r : Result Report Stop) → Serves size c
-      → HandsBack Shows IsTakenAsked size.agents draws (λ seen. IsFront seen (reverse c.past)) closed₁ closed' faults faults' given ended
+      → HandsBack Shows size.agents draws (λ seen. IsFront seen (reverse c.past)) closed₁ closed' faults faults' given ended
       → OnOk ended (given ≡ o.connections) → Appends held mid (listening_text o.port) → OnOk r (Appends mid held' (last_text Whole c)) → IfOk r (IsReportOf c (events_in (reverse c.past))) → OnOk r (ended ≡ Ok tt)
       → IfOk r (Served o draws closed closed' faults faults' given held held')
   served_of held mid held' (Ok report) serves links count first text tells whole = record {

@@ -8,7 +8,6 @@ use Rattle.cat_outside.specs.Causes.{Rose}
 use Rattle.cat_outside.specs.declared.faults.KeepFail.{KeepFail}
 use Rattle.cat_outside.specs.declared.faults.KeepFail.TheVariants as keep_fail
 use Rattle.cluster_rules.specs.Cluster.{Cluster}
-use Rattle.request_rules.specs.Taken.{IsTakenAsked}
 use Rattle.script_player.specs.declared.report.Report.{Report}
 use Rattle.script_player.specs.Run.{IsReportOf, WritesPart}
 use Rattle.serve_outside.specs.Links.{LinkState}
@@ -44,7 +43,7 @@ events_in (m ∷ marks) = one_if (is_event m) + events_in marks
 -- Each connection that was given came back: it was served over this cluster's one log, or turned away.
 abbrev pub Serve : Options → Option (List Draw) → Cluster → List LinkState → List LinkState → ℕ → ℕ → ℕ → Result Unit loop.Stop → Type 0
 Serve options draws c closed closed' faults faults' given result =
-    HandsBack Shows IsTakenAsked options.agents draws (λ seen. IsFront seen (reverse c.past)) closed closed' faults faults' given result
+    HandsBack Shows options.agents draws (λ seen. IsFront seen (reverse c.past)) closed closed' faults faults' given result
 
 -- Status 0: so many connections were served as asked, by a cluster of which all that must holds, and this is reported of
 -- it.

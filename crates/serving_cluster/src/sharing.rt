@@ -1,7 +1,6 @@
 //! The cluster as its users' turns see it.
 
 ghost use Rattle.std.specs.Prelude.{◌≡◌, IfOk, OnErr, reverse};
-ghost use Rattle.request_rules.specs.Taken.{IsTakenAsked};
 ghost use Rattle.serve_loop.specs.Collects.{Collects};
 ghost use Rattle.serve_loop.specs.Marks.{AddsAsked, AddsCut, AddsQuiet, TicksBy, TicksNone};
 ghost use Rattle.serve_loop.specs.Turns.{MayAsk};
