@@ -3,3 +3,12 @@ pub mod Texts
 pub mod Numbers
 pub mod Pairs
 pub mod Refused
+pub mod Sound
+pub mod Complete
+pub mod Disjoint
+pub mod Patterns
+pub mod Unique
+pub mod Rows
+pub mod Shown
+pub mod Tables
+pub mod Found

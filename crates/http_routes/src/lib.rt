@@ -11,8 +11,10 @@ mod kv;
 mod method;
 mod params;
 mod query;
+mod router;
 mod routing;
 mod session;
+mod table;
 mod target;
 
 pub use error::{Allow, Parameter, RouteError};
