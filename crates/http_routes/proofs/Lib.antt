@@ -5,5 +5,14 @@ pub mod Pairs
 pub mod Refused
 pub mod Answers
 pub mod Bodies
-pub mod TableRows
+pub mod MethodAnswers
 pub mod Taken
+pub mod Sound
+pub mod Complete
+pub mod Disjoint
+pub mod Patterns
+pub mod Unique
+pub mod Rows
+pub mod Shown
+pub mod Tables
+pub mod Found

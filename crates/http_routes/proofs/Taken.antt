@@ -22,10 +22,21 @@ use Rattle.http_routes.specs.declared.error.RouteError.{RouteError}
 use Rattle.http_routes.specs.declared.kv.Condition.{Condition}
 use Rattle.http_routes.specs.declared.kv.Condition.TheVariants.{Always, IfModifiedAt, Acquires, Releases}
 use Rattle.http_routes.specs.declared.params.Pair.{Pair}
+use Rattle.http_routes.specs.declared.table.Route.{Route}
+use Rattle.http_routes.specs.declared.table.Route.TheVariants as r
+use Rattle.http_routes.specs.declared.table.CatalogRoute.{CatalogRoute}
+use Rattle.http_routes.specs.declared.table.CatalogRoute.TheVariants as c
+use Rattle.http_routes.specs.declared.table.HealthRoute.{HealthRoute}
+use Rattle.http_routes.specs.declared.table.HealthRoute.TheVariants as h
+use Rattle.http_routes.specs.declared.table.SessionRoute.{SessionRoute}
+use Rattle.http_routes.specs.declared.table.SessionRoute.TheVariants as s
+use Rattle.http_routes.specs.declared.table.QueryRoute.{QueryRoute}
+use Rattle.http_routes.specs.declared.table.QueryRoute.TheVariants as pq
+use Rattle.http_routes.specs.declared.table.AgentRoute.{AgentRoute}
+use Rattle.http_routes.specs.declared.table.AgentRoute.TheVariants as a
 use Rattle.http_routes.specs.Errors.{◌>>=◌, in_body}
 use Rattle.http_routes.specs.Targets.{path_of, query_of as query_part}
 use Rattle.http_routes.specs.Params.{pairs_of}
-use Rattle.http_routes.specs.Tables.{get, put, rows}
 use Rattle.http_routes.specs.Kv.{put_on, deletion, recurses, kv_get, kv_put, kv_delete, transaction}
 use Rattle.http_routes.specs.Checks.{plain}
 use Rattle.http_routes.specs.Catalog.{register, deregister, upgrade, whole, service, node, health_node, health_checks, health_service, health_state}
@@ -33,11 +44,12 @@ use Rattle.http_routes.specs.Sessions.{session_create, session_destroy, session_
 use Rattle.http_routes.specs.PreparedQueries.{query_create, query_info, query_update, query_delete, query_execute}
 use Rattle.http_routes.specs.Agents.{listing, service_register, service_deregister, check_register, check_deregister, check_mark, check_update}
 use Rattle.http_routes.specs.Routes as routes
-use Rattle.http_routes.specs.Routes.{table, request_of, asked_of, route_of}
+use Rattle.http_routes.specs.Routes.{methods, of_path, request_of, asked_of, route_of}
+use Rattle.http_routes.specs.Paths.{found}
 use Rattle.request_rules.specs.Taken.{is_command_taken, IsTakenAsked}
 use Rattle.http_routes.proofs.Answers.{IsFit, after, after_command}
 use Rattle.http_routes.proofs.Bodies.{IsShort, register_fit, deregister_fit, few}
-use Rattle.http_routes.proofs.TableRows.{AsksFit, TableFits, get_fits, put_fits, get_post_fits, delete_get_put_fits, at_fits, under_fits, between_fits, below_fits, within_fits, no_route_fits}
+use Rattle.http_routes.proofs.MethodAnswers.{AsksFit, MethodsFit, get_fits, put_fits, get_post_fits, delete_get_put_fits}
 
 -- ---- keys
 
@@ -188,39 +200,66 @@ check-update : (part : List ℕ) → AsksFit (check_update part)
 unfolding check_update
 check-update part pairs body = search (after) depth 9
 
--- ---- the tables, row by row
+-- ---- the routes
 
-catalog-fits : TableFits routes.catalog
+catalog-fits : (route : CatalogRoute) (part : List ℕ) → MethodsFit (routes.catalog route part)
 unfolding routes.catalog
-catalog-fits =
-    search (at_fits, under_fits, no_route_fits, put_fits, get_fits, register-fits, deregister-fits, upgrade-fits, whole-fits, service-fits, node-fits) depth 12
+catalog-fits c.Register part = put_fits register register-fits
+catalog-fits c.Deregister part = put_fits deregister deregister-fits
+catalog-fits c.Upgrade part = put_fits upgrade upgrade-fits
+catalog-fits c.Nodes part = get_fits (whole q.Nodes) (whole-fits q.Nodes)
+catalog-fits c.Services part = get_fits (whole q.Services) (whole-fits q.Services)
+catalog-fits c.Service part = get_fits (service part) (service-fits part)
+catalog-fits c.Node part = get_fits (node part) (node-fits part)
 
-health-fits : TableFits routes.health
+health-fits : (route : HealthRoute) (part : List ℕ) → MethodsFit (routes.health route part)
 unfolding routes.health
-health-fits = search (under_fits, no_route_fits, get_fits, health-node, health-checks, health-service, health-state) depth 12
+health-fits h.Node part = get_fits (health_node part) (health-node part)
+health-fits h.Checks part = get_fits (health_checks part) (health-checks part)
+health-fits h.Service part = get_fits (health_service part) (health-service part)
+health-fits h.State part = get_fits (health_state part) (health-state part)
 
-session-fits : TableFits routes.session
+session-fits : (route : SessionRoute) (part : List ℕ) → MethodsFit (routes.session route part)
 unfolding routes.session
-session-fits =
-    search (at_fits, under_fits, no_route_fits, put_fits, get_fits, session-create, session-destroy, session-renew, session-info, session-node, whole-fits) depth 12
+session-fits s.Create part = put_fits session_create session-create
+session-fits s.Destroy part = put_fits (session_destroy part) (session-destroy part)
+session-fits s.Renew part = put_fits (session_renew part) (session-renew part)
+session-fits s.Info part = get_fits (session_info part) (session-info part)
+session-fits s.Node part = get_fits (session_node part) (session-node part)
+session-fits s.List part = get_fits (whole q.Sessions) (whole-fits q.Sessions)
 
-query-fits : TableFits routes.query
+query-fits : (route : QueryRoute) (part : List ℕ) → MethodsFit (routes.query route part)
 unfolding routes.query
-query-fits =
-    search (at_fits, under_fits, between_fits, no_route_fits, get_fits, get_post_fits, delete_get_put_fits, whole-fits, query-create, query-info, query-update, query-delete, query-execute) depth 12
+query-fits pq.All part = get_post_fits (whole q.Queries) query_create (whole-fits q.Queries) query-create
+query-fits pq.One part = delete_get_put_fits (query_delete part) (query_info part) (query_update part) (query-delete part) (query-info part) (query-update part)
+query-fits pq.Execute part = get_fits (query_execute part) (query-execute part)
 
-agent-checks : TableFits routes.agent_check
-unfolding routes.agent_check
-agent-checks = search (at_fits, under_fits, no_route_fits, put_fits, check-register, check-deregister, check-mark, check-update) depth 12
-
-agents-fit : TableFits routes.agent
+agent-fits : (route : AgentRoute) (part : List ℕ) → MethodsFit (routes.agent route part)
 unfolding routes.agent
-agents-fit = search (at_fits, under_fits, within_fits, no_route_fits, put_fits, get_fits, listing-fits, service-register, service-deregister, agent-checks) depth 12
+agent-fits a.Services part = get_fits (listing op.Services) (listing-fits op.Services)
+agent-fits a.Checks part = get_fits (listing op.Checks) (listing-fits op.Checks)
+agent-fits a.ServiceRegister part = put_fits service_register service-register
+agent-fits a.ServiceDeregister part = put_fits (service_deregister part) (service-deregister part)
+agent-fits a.CheckRegister part = put_fits check_register check-register
+agent-fits a.CheckDeregister part = put_fits (check_deregister part) (check-deregister part)
+agent-fits a.CheckPass part = put_fits (check_mark Passing part) (check-mark Passing part)
+agent-fits a.CheckWarn part = put_fits (check_mark Warning part) (check-mark Warning part)
+agent-fits a.CheckFail part = put_fits (check_mark Critical part) (check-mark Critical part)
+agent-fits a.CheckUpdate part = put_fits (check_update part) (check-update part)
 
-table-fits : TableFits table
-unfolding table
-table-fits =
-    search (below_fits, at_fits, within_fits, no_route_fits, put_fits, delete_get_put_fits, kv-get, kv-put, kv-delete, transaction-fits, catalog-fits, health-fits, session-fits, query-fits, agents-fit) depth 12
+methods-fit : (route : Route) (part : List ℕ) → MethodsFit (methods route part)
+unfolding methods
+methods-fit r.Kv part = delete_get_put_fits (kv_delete part) (kv_get part) (kv_put part) (kv-delete part) (kv-get part) (kv-put part)
+methods-fit r.Txn part = put_fits transaction transaction-fits
+methods-fit (r.Catalog route) part = catalog-fits route part
+methods-fit (r.Health route) part = health-fits route part
+methods-fit (r.Session route) part = session-fits route part
+methods-fit (r.Query route) part = query-fits route part
+methods-fit (r.Agent route) part = agent-fits route part
+
+path-fits : (at : Option (Route × List ℕ)) → MethodsFit (of_path at)
+path-fits None method pairs body = tt
+path-fits (Some (route, part)) method pairs body = methods-fit route part method pairs body
 
 asked-fits : (r : Result Request RouteError) → IsFit r → IsTakenAsked (asked_of r)
 asked-fits (Ok request) h = h
@@ -229,4 +268,4 @@ asked-fits (Err why) h = tt
 -- what a method, a target and a body ask for is taken
 pub route_is_taken : (method target body : List ℕ) → IsTakenAsked (route_of method target body)
 unfolding route_of request_of
-route_is_taken method target body = asked-fits _ (table-fits (path_of target) method (pairs_of (query_part target)) body)
+route_is_taken method target body = asked-fits _ (path-fits (found (path_of target)) method (pairs_of (query_part target)) body)

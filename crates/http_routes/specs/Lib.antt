@@ -7,5 +7,8 @@ pub mod Catalog
 pub mod Sessions
 pub mod PreparedQueries
 pub mod Agents
-pub mod Tables
+pub mod Methods
+pub mod Paths
+pub mod Fits
+pub mod Routers
 pub mod Routes

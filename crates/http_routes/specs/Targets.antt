@@ -1,6 +1,6 @@
 -- The two parts of a target, and the parameter of a path (RFC 3986, sections 2.1, 3.3 and 3.4).
-use Rattle.std.specs.Prelude.{ℕ, ◌-◌, ◌==◌, ◌&&◌, not, nat_eq, nat_lt, if◌then◌else◌, List, length, take, drop, Option, None, Some, option_and_then, Result, Ok}
-use Rattle.std.specs.List.{list_any, starts_with, ends_with}
+use Rattle.std.specs.Prelude.{ℕ, ◌-◌, nat_eq, if◌then◌else◌, List, length, take, drop, Option, None, Some, Result, Ok}
+use Rattle.std.specs.List.{starts_with, ends_with}
 use Rattle.std.specs.Str.{is_utf8}
 use Rattle.form_urlencoded.specs.Form.{split_once}
 use Rattle.percent_encoding.specs.Percent.{percent_decode}
@@ -22,17 +22,6 @@ behind front path = if starts_with nat_eq path front then Some (drop (length fro
 -- what stands before the back
 abbrev pub ahead_of : List ℕ → List ℕ → Option (List ℕ)
 ahead_of back path = if ends_with nat_eq path back then Some (take (length path - length back) path) else None
-
--- a part of a path: one byte or more, without a slash
-abbrev pub a_part : List ℕ → Option (List ℕ)
-a_part bytes = if nat_lt 0 (length bytes) && not (list_any (λ b. b == 47) bytes) then Some bytes else None
-
--- the part behind the front, and the part between the front and the back
-abbrev pub part_behind : List ℕ → List ℕ → Option (List ℕ)
-part_behind front path = option_and_then a_part (behind front path)
-
-abbrev pub part_between : List ℕ → List ℕ → List ℕ → Option (List ℕ)
-part_between front back path = option_and_then (λ rest. option_and_then a_part (ahead_of back rest)) (behind front path)
 
 -- A parameter is percent-decoded once, and is then a text.
 unfoldable pub text_of : Parameter → List ℕ → Result (List ℕ) RouteError

@@ -11,7 +11,8 @@ use crate::body::of_body;
 use crate::checks::{MOST, plain, plain_parameters, refuse_if, short};
 use crate::method::{get_only, put_only};
 use crate::params::{Pair, text};
-use crate::target::{begins, decoded, is, part_behind};
+use crate::table::AgentRoute;
+use crate::target::decoded;
 use crate::{Parameter, RouteError};
 use cat_model::{AgentOp, Request, Status, Text, TtlDef};
 use json_bodies::{CheckUpdate, read_agent_check, read_agent_service, read_check_update};
@@ -137,66 +138,58 @@ fn check_update(
     }))
 }
 
-/// The routes of an agent's checks.
-#[tactic(auto, unfolding(crate::specs::Routes::agent_check))]
-fn agent_check(
-    alloc: Global,
-    path: &[u8],
-    method: &[u8],
-    pairs: &[Pair],
-    body: &[u8],
-) -> Result<Request, RouteError>
-    ensures { Gives result (routes.agent_check path.now method.now pairs.now body.now) }
-{
-    if is(path, "/v1/agent/check/register") {
-        put_only(method)?;
-        check_register(alloc, pairs, body)
-    } else if let Some(id) = part_behind("/v1/agent/check/deregister/", path) {
-        put_only(method)?;
-        check_deregister(alloc, id, pairs, body)
-    } else if let Some(id) = part_behind("/v1/agent/check/pass/", path) {
-        put_only(method)?;
-        check_mark(alloc, Status::Passing, id, pairs, body)
-    } else if let Some(id) = part_behind("/v1/agent/check/warn/", path) {
-        put_only(method)?;
-        check_mark(alloc, Status::Warning, id, pairs, body)
-    } else if let Some(id) = part_behind("/v1/agent/check/fail/", path) {
-        put_only(method)?;
-        check_mark(alloc, Status::Critical, id, pairs, body)
-    } else if let Some(id) = part_behind("/v1/agent/check/update/", path) {
-        put_only(method)?;
-        check_update(alloc, id, pairs, body)
-    } else {
-        Err(RouteError::NoRoute)
-    }
-}
-
-/// The routes of an agent.
+/// The methods of an agent's paths.
 #[tactic(auto, unfolding(crate::specs::Routes::agent))]
 pub(crate) fn agent(
     alloc: Global,
-    path: &[u8],
+    route: AgentRoute,
+    part: &[u8],
     method: &[u8],
     pairs: &[Pair],
     body: &[u8],
 ) -> Result<Request, RouteError>
-    ensures { Gives result (routes.agent path.now method.now pairs.now body.now) }
+    ensures { Gives result (routes.agent route part.now method.now pairs.now body.now) }
 {
-    if is(path, "/v1/agent/services") {
-        get_only(method)?;
-        listing(AgentOp::Services, pairs, body)
-    } else if is(path, "/v1/agent/checks") {
-        get_only(method)?;
-        listing(AgentOp::Checks, pairs, body)
-    } else if is(path, "/v1/agent/service/register") {
-        put_only(method)?;
-        service_register(alloc, pairs, body)
-    } else if let Some(id) = part_behind("/v1/agent/service/deregister/", path) {
-        put_only(method)?;
-        service_deregister(alloc, id, pairs, body)
-    } else if begins(path, "/v1/agent/check/") {
-        agent_check(alloc, path, method, pairs, body)
-    } else {
-        Err(RouteError::NoRoute)
+    match route {
+        AgentRoute::Services => {
+            get_only(method)?;
+            listing(AgentOp::Services, pairs, body)
+        }
+        AgentRoute::Checks => {
+            get_only(method)?;
+            listing(AgentOp::Checks, pairs, body)
+        }
+        AgentRoute::ServiceRegister => {
+            put_only(method)?;
+            service_register(alloc, pairs, body)
+        }
+        AgentRoute::ServiceDeregister => {
+            put_only(method)?;
+            service_deregister(alloc, part, pairs, body)
+        }
+        AgentRoute::CheckRegister => {
+            put_only(method)?;
+            check_register(alloc, pairs, body)
+        }
+        AgentRoute::CheckDeregister => {
+            put_only(method)?;
+            check_deregister(alloc, part, pairs, body)
+        }
+        AgentRoute::CheckPass => {
+            put_only(method)?;
+            check_mark(alloc, Status::Passing, part, pairs, body)
+        }
+        AgentRoute::CheckWarn => {
+            put_only(method)?;
+            check_mark(alloc, Status::Warning, part, pairs, body)
+        }
+        AgentRoute::CheckFail => {
+            put_only(method)?;
+            check_mark(alloc, Status::Critical, part, pairs, body)
+        }
+        AgentRoute::CheckUpdate => {
+            put_only(method)?;
+            check_update(alloc, part, pairs, body)
+        }
     }
 }

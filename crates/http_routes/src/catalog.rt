@@ -11,7 +11,8 @@ use crate::body::of_body;
 use crate::checks::{plain, read, reading_of};
 use crate::method::{get_only, put_only};
 use crate::params::{Pair, all};
-use crate::target::{decoded, is, part_behind};
+use crate::table::CatalogRoute;
+use crate::target::decoded;
 use crate::{Parameter, RouteError};
 use cat_model::{Command, Query, Request};
 use json_bodies::{read_deregister, read_register};
@@ -85,39 +86,46 @@ fn node(alloc: Global, part: &[u8], pairs: &[Pair], body: &[u8]) -> Result<Reque
     Ok(read(Query::NodeServices { node }, reading))
 }
 
-/// The routes of the catalog.
+/// The methods of the catalog's paths.
 #[tactic(auto, unfolding(crate::specs::Routes::catalog))]
 pub(crate) fn catalog(
     alloc: Global,
-    path: &[u8],
+    route: CatalogRoute,
+    part: &[u8],
     method: &[u8],
     pairs: &[Pair],
     body: &[u8],
 ) -> Result<Request, RouteError>
-    ensures { Gives result (routes.catalog path.now method.now pairs.now body.now) }
+    ensures { Gives result (routes.catalog route part.now method.now pairs.now body.now) }
 {
-    if is(path, "/v1/catalog/register") {
-        put_only(method)?;
-        register(alloc, pairs, body)
-    } else if is(path, "/v1/catalog/deregister") {
-        put_only(method)?;
-        deregister(alloc, pairs, body)
-    } else if is(path, "/v1/catalog/upgrade") {
-        put_only(method)?;
-        upgrade(pairs, body)
-    } else if is(path, "/v1/catalog/nodes") {
-        get_only(method)?;
-        whole(Query::Nodes, pairs, body)
-    } else if is(path, "/v1/catalog/services") {
-        get_only(method)?;
-        whole(Query::Services, pairs, body)
-    } else if let Some(name) = part_behind("/v1/catalog/service/", path) {
-        get_only(method)?;
-        service(alloc, name, pairs, body)
-    } else if let Some(name) = part_behind("/v1/catalog/node/", path) {
-        get_only(method)?;
-        node(alloc, name, pairs, body)
-    } else {
-        Err(RouteError::NoRoute)
+    match route {
+        CatalogRoute::Register => {
+            put_only(method)?;
+            register(alloc, pairs, body)
+        }
+        CatalogRoute::Deregister => {
+            put_only(method)?;
+            deregister(alloc, pairs, body)
+        }
+        CatalogRoute::Upgrade => {
+            put_only(method)?;
+            upgrade(pairs, body)
+        }
+        CatalogRoute::Nodes => {
+            get_only(method)?;
+            whole(Query::Nodes, pairs, body)
+        }
+        CatalogRoute::Services => {
+            get_only(method)?;
+            whole(Query::Services, pairs, body)
+        }
+        CatalogRoute::Service => {
+            get_only(method)?;
+            service(alloc, part, pairs, body)
+        }
+        CatalogRoute::Node => {
+            get_only(method)?;
+            node(alloc, part, pairs, body)
+        }
     }
 }

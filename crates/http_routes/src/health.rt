@@ -9,7 +9,8 @@ ghost use Rattle.http_routes.specs.Routes as routes;
 use crate::checks::{read, reading_of};
 use crate::method::get_only;
 use crate::params::{Pair, all, is_on};
-use crate::target::{decoded, part_behind};
+use crate::table::HealthRoute;
+use crate::target::decoded;
 use crate::{Parameter, RouteError};
 use cat_model::{Query, Request, Status};
 use std::alloc::Global;
@@ -83,30 +84,23 @@ fn state(alloc: Global, part: &[u8], pairs: &[Pair], body: &[u8]) -> Result<Requ
     Ok(read(Query::HealthState { state }, reading))
 }
 
-/// The routes of health.
+/// The methods of health's paths.
 #[tactic(auto, unfolding(crate::specs::Routes::health))]
 pub(crate) fn health(
     alloc: Global,
-    path: &[u8],
+    route: HealthRoute,
+    part: &[u8],
     method: &[u8],
     pairs: &[Pair],
     body: &[u8],
 ) -> Result<Request, RouteError>
-    ensures { Gives result (routes.health path.now method.now pairs.now body.now) }
+    ensures { Gives result (routes.health route part.now method.now pairs.now body.now) }
 {
-    if let Some(name) = part_behind("/v1/health/node/", path) {
-        get_only(method)?;
-        node(alloc, name, pairs, body)
-    } else if let Some(name) = part_behind("/v1/health/checks/", path) {
-        get_only(method)?;
-        checks(alloc, name, pairs, body)
-    } else if let Some(name) = part_behind("/v1/health/service/", path) {
-        get_only(method)?;
-        service(alloc, name, pairs, body)
-    } else if let Some(word) = part_behind("/v1/health/state/", path) {
-        get_only(method)?;
-        state(alloc, word, pairs, body)
-    } else {
-        Err(RouteError::NoRoute)
+    get_only(method)?;
+    match route {
+        HealthRoute::Node => node(alloc, part, pairs, body),
+        HealthRoute::Checks => checks(alloc, part, pairs, body),
+        HealthRoute::Service => service(alloc, part, pairs, body),
+        HealthRoute::State => state(alloc, part, pairs, body),
     }
 }

@@ -5,7 +5,7 @@ ghost use Rattle.http_routes.specs.Errors.{Gives, in_body};
 ghost use Rattle.http_routes.specs.Kv.{condition_at, deletion, given_condition, index_at, is_key, is_raw, key_of, kv_delete, kv_get, kv_put, kv_query, lists_keys, put_on, recurses};
 ghost use Rattle.http_routes.specs.Kv as spec;
 ghost use Rattle.json_bodies.specs.Txns.{ops_of};
-ghost use Rattle.http_routes.specs.Tables.{delete_get_put};
+ghost use Rattle.http_routes.specs.Methods.{delete_get_put};
 
 use crate::body::of_body;
 use crate::checks::{MOST, plain, plain_parameters, reading_of, refuse_if, short};

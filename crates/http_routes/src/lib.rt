@@ -12,8 +12,10 @@ pub mod laws;
 mod method;
 mod params;
 mod query;
+mod router;
 mod routing;
 mod session;
+mod table;
 mod target;
 
 pub use error::{Allow, Parameter, RouteError};

@@ -2,7 +2,7 @@
 
 ghost use Rattle.std.specs.Prelude.{◌≡◌, ◌||◌, Bool, bytes_eq, codes};
 ghost use Rattle.http_routes.specs.Errors.{Gives};
-ghost use Rattle.http_routes.specs.Tables.{only};
+ghost use Rattle.http_routes.specs.Methods.{only};
 
 use crate::target::is;
 use crate::{Allow, RouteError};

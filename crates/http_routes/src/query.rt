@@ -5,7 +5,7 @@ ghost use Rattle.http_routes.specs.Catalog.{whole as whole_read};
 ghost use Rattle.http_routes.specs.Errors.{Gives, in_body};
 ghost use Rattle.http_routes.specs.PreparedQueries.{id_only, query_create, query_delete, query_execute, query_info, query_update, setting};
 ghost use Rattle.http_routes.specs.Routes as routes;
-ghost use Rattle.http_routes.specs.Tables.{delete_get_put, get_post};
+ghost use Rattle.http_routes.specs.Methods.{delete_get_put, get_post};
 ghost use Rattle.json_bodies.specs.NewQueries.{query_of};
 
 use crate::body::of_body;
@@ -13,7 +13,8 @@ use crate::catalog::whole;
 use crate::checks::{MOST, center, mode, plain, read, reading_of, short, unfiltered};
 use crate::method::get_only;
 use crate::params::{Pair, id_of, number};
-use crate::target::{decoded, is, part_behind, part_between};
+use crate::table::QueryRoute;
+use crate::target::{decoded, is};
 use crate::{Allow, Parameter, RouteError};
 use cat_model::{Command, Query, Request};
 use json_bodies::{NewQuery, read_query};
@@ -148,25 +149,24 @@ fn one_query(
     }
 }
 
-/// The routes of prepared queries.
+/// The methods of prepared queries' paths.
 #[tactic(auto, unfolding(crate::specs::Routes::query))]
 pub(crate) fn query(
     alloc: Global,
-    path: &[u8],
+    route: QueryRoute,
+    part: &[u8],
     method: &[u8],
     pairs: &[Pair],
     body: &[u8],
 ) -> Result<Request, RouteError>
-    ensures { Gives result (routes.query path.now method.now pairs.now body.now) }
+    ensures { Gives result (routes.query route part.now method.now pairs.now body.now) }
 {
-    if is(path, "/v1/query") {
-        all_queries(alloc, method, pairs, body)
-    } else if let Some(part) = part_behind("/v1/query/", path) {
-        one_query(alloc, part, method, pairs, body)
-    } else if let Some(part) = part_between("/v1/query/", "/execute", path) {
-        get_only(method)?;
-        execute(alloc, part, pairs, body)
-    } else {
-        Err(RouteError::NoRoute)
+    match route {
+        QueryRoute::All => all_queries(alloc, method, pairs, body),
+        QueryRoute::One => one_query(alloc, part, method, pairs, body),
+        QueryRoute::Execute => {
+            get_only(method)?;
+            execute(alloc, part, pairs, body)
+        }
     }
 }

@@ -1,9 +1,9 @@
-//! The table of routes.
+//! What a request asks for, by its path's route.
 
 ghost use Rattle.std.specs.Prelude.{◌≡◌, IfOk};
 ghost use Rattle.http_routes.specs.Errors.{Gives};
-ghost use Rattle.http_routes.specs.Routes.{request_of, route_of};
-ghost use Rattle.http_routes.specs.Routes as spec;
+ghost use Rattle.http_routes.specs.Routers.{the_router};
+ghost use Rattle.http_routes.specs.Routes.{methods, request_of, route_of};
 
 use crate::RouteError;
 use crate::agent::agent;
@@ -13,49 +13,59 @@ use crate::kv::{kv, transaction};
 use crate::method::put_only;
 use crate::params::{Pair, pairs_in};
 use crate::query::query;
+use crate::router::{Entry, find, routed};
 use crate::session::session;
-use crate::target::{begins, behind, is, split};
+use crate::table::Route;
+use crate::target::split;
 use cat_model::{Asked, Memory, Request};
+use matchit::Router;
 use std::alloc::Global;
 
-/// All routes.
-#[tactic(auto, unfolding(crate::specs::Routes::table))]
-fn table(
+/// What a method of the route asks for.
+#[tactic(auto, unfolding(crate::specs::Routes::methods))]
+fn asked(
     alloc: Global,
-    path: &[u8],
+    route: Route,
+    part: &[u8],
     method: &[u8],
     pairs: &[Pair],
     body: &[u8],
 ) -> Result<Request, RouteError>
-    ensures { Gives result (spec.table path.now method.now pairs.now body.now) }
+    ensures { Gives result (methods route part.now method.now pairs.now body.now) }
 {
-    if let Some(key) = behind("/v1/kv/", path) {
-        kv(alloc, key, method, pairs, body)
-    } else if is(path, "/v1/txn") {
-        put_only(method)?;
-        transaction(alloc, pairs, body)
-    } else if begins(path, "/v1/catalog/") {
-        catalog(alloc, path, method, pairs, body)
-    } else if begins(path, "/v1/health/") {
-        health(alloc, path, method, pairs, body)
-    } else if begins(path, "/v1/session/") {
-        session(alloc, path, method, pairs, body)
-    } else if begins(path, "/v1/query") {
-        query(alloc, path, method, pairs, body)
-    } else if begins(path, "/v1/agent/") {
-        agent(alloc, path, method, pairs, body)
-    } else {
-        Err(RouteError::NoRoute)
+    match route {
+        Route::Kv => kv(alloc, part, method, pairs, body),
+        Route::Txn => {
+            put_only(method)?;
+            transaction(alloc, pairs, body)
+        }
+        Route::Catalog(route) => catalog(alloc, route, part, method, pairs, body),
+        Route::Health(route) => health(alloc, route, part, method, pairs, body),
+        Route::Session(route) => session(alloc, route, part, method, pairs, body),
+        Route::Query(route) => query(alloc, route, part, method, pairs, body),
+        Route::Agent(route) => agent(alloc, route, part, method, pairs, body),
     }
 }
 
 #[tactic(auto, unfolding(crate::specs::Routes::request_of))]
-fn request(alloc: Global, method: &[u8], target: &[u8], body: &[u8]) -> Result<Request, RouteError>
+fn request(
+    alloc: Global,
+    router: &Router<Entry>,
+    method: &[u8],
+    target: &[u8],
+    body: &[u8],
+) -> Result<Request, RouteError>
+    requires { router.now ≡ the_router }
     ensures { Gives result (request_of method.now target.now body.now) }
 {
-    let (path, query) = split(target);
-    let pairs = pairs_in(alloc, query)?;
-    table(alloc, path, method, pairs.as_slice(), body)
+    let (path, query) = split(target, b'?');
+    match find(alloc, router, path)? {
+        Some((route, part)) => {
+            let pairs = pairs_in(alloc, query)?;
+            asked(alloc, route, part, method, pairs.as_slice(), body)
+        }
+        None => Err(RouteError::NoRoute),
+    }
 }
 
 /// What a method, a target and a body ask for: the request, or its refusal. The target is a path and maybe `?` and a
@@ -64,7 +74,8 @@ fn request(alloc: Global, method: &[u8], target: &[u8], body: &[u8]) -> Result<R
 pub fn route(alloc: Global, method: &[u8], target: &[u8], body: &[u8]) -> Result<Asked, Memory>
     ensures { IfOk result (λ asked. asked ≡ route_of method.now target.now body.now) }
 {
-    match request(alloc, method, target, body) {
+    let router = routed(alloc)?;
+    match request(alloc, &router, method, target, body) {
         Ok(request) => Ok(Asked::Good(request)),
         Err(why) => Ok(Asked::Bad(why.refusal(alloc)?)),
     }

@@ -12,7 +12,8 @@ use crate::catalog::whole;
 use crate::checks::{plain, read, reading_of};
 use crate::method::{get_only, put_only};
 use crate::params::{Pair, id_of};
-use crate::target::{decoded, is, part_behind};
+use crate::table::SessionRoute;
+use crate::target::decoded;
 use crate::{Parameter, RouteError};
 use cat_model::{Command, Query, Request};
 use json_bodies::{NewSession, read_session};
@@ -100,36 +101,42 @@ fn node(alloc: Global, part: &[u8], pairs: &[Pair], body: &[u8]) -> Result<Reque
     Ok(read(Query::SessionsOf { node }, reading))
 }
 
-/// The routes of sessions.
+/// The methods of sessions' paths.
 #[tactic(auto, unfolding(crate::specs::Routes::session))]
 pub(crate) fn session(
     alloc: Global,
-    path: &[u8],
+    route: SessionRoute,
+    part: &[u8],
     method: &[u8],
     pairs: &[Pair],
     body: &[u8],
 ) -> Result<Request, RouteError>
-    ensures { Gives result (routes.session path.now method.now pairs.now body.now) }
+    ensures { Gives result (routes.session route part.now method.now pairs.now body.now) }
 {
-    if is(path, "/v1/session/create") {
-        put_only(method)?;
-        create(alloc, pairs, body)
-    } else if let Some(id) = part_behind("/v1/session/destroy/", path) {
-        put_only(method)?;
-        destroy(alloc, id, pairs, body)
-    } else if let Some(id) = part_behind("/v1/session/renew/", path) {
-        put_only(method)?;
-        renew(alloc, id, pairs, body)
-    } else if let Some(id) = part_behind("/v1/session/info/", path) {
-        get_only(method)?;
-        info(alloc, id, pairs, body)
-    } else if let Some(name) = part_behind("/v1/session/node/", path) {
-        get_only(method)?;
-        node(alloc, name, pairs, body)
-    } else if is(path, "/v1/session/list") {
-        get_only(method)?;
-        whole(Query::Sessions, pairs, body)
-    } else {
-        Err(RouteError::NoRoute)
+    match route {
+        SessionRoute::Create => {
+            put_only(method)?;
+            create(alloc, pairs, body)
+        }
+        SessionRoute::Destroy => {
+            put_only(method)?;
+            destroy(alloc, part, pairs, body)
+        }
+        SessionRoute::Renew => {
+            put_only(method)?;
+            renew(alloc, part, pairs, body)
+        }
+        SessionRoute::Info => {
+            get_only(method)?;
+            info(alloc, part, pairs, body)
+        }
+        SessionRoute::Node => {
+            get_only(method)?;
+            node(alloc, part, pairs, body)
+        }
+        SessionRoute::List => {
+            get_only(method)?;
+            whole(Query::Sessions, pairs, body)
+        }
     }
 }

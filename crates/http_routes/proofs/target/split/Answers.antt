@@ -5,15 +5,15 @@ use Rattle.http_routes.proofs.target.split.Goals as goal
 
 pub returns-in-Some : goal.returns-in-Some
 returns-in-Some c =
-    let target = c.args.target.now in
-    let found = position_or_len_is (λ (b : ℕ). b == 63) target c.in-Some.end 0 (search rules) (search rules) (search rules) in
-    record { path = ap (λ n. take n target) (sym found); query = take_rest target _ ∙ ap (λ n. drop (n + 1) target) (sym found) }
+    let bytes = c.args.bytes.now in
+    let found = position_or_len_is (λ (b : ℕ). b == c.args.at) bytes c.in-Some.end 0 (search rules) (search rules) (search rules) in
+    record { before = ap (λ n. take n bytes) (sym found); behind = take_rest bytes _ ∙ ap (λ n. drop (n + 1) bytes) (sym found) }
 
 pub returns-in-None : goal.returns-in-None
 returns-in-None c =
-    let target = c.args.target.now in
-    let none = position_or_len_is (λ (b : ℕ). b == 63) target (length target) 0 (omega arith) (search rules) (search rules) in
+    let bytes = c.args.bytes.now in
+    let none = position_or_len_is (λ (b : ℕ). b == c.args.at) bytes (length bytes) 0 (omega arith) (search rules) (search rules) in
     record {
-      path = sym (ap (λ n. take n target) none ∙ take_all (length target) target (omega arith));
-      query = sym (ap (λ n. drop (n + 1) target) none ∙ drop_all (length target + 1) target (omega arith));
+      before = sym (ap (λ n. take n bytes) none ∙ take_all (length bytes) bytes (omega arith));
+      behind = sym (ap (λ n. drop (n + 1) bytes) none ∙ drop_all (length bytes + 1) bytes (omega arith));
     }

@@ -1,0 +1,20 @@
+-- The table is good.
+use Rattle.std.proofs.Common.{◌≡◌, true, refl, []}
+use Rattle.matchit.proofs.OnLiterals.{matchit_on_literals}
+use Rattle.http_routes.specs.Paths.{table}
+use Rattle.http_routes.specs.Routers.{are_new, are_good, are_whole, the_router, with_rows}
+
+pub table_new : are_new table [] ≡ true
+unfolding matchit_on_literals
+table_new = refl
+
+pub table_good : are_good table ≡ true
+table_good = refl
+
+pub table_whole : are_whole the_router ≡ true
+unfolding matchit_on_literals the_router
+table_whole = refl
+
+pub table_is : with_rows table [] ≡ the_router
+unfolding the_router
+table_is = refl
