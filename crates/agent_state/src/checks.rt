@@ -9,10 +9,11 @@ ghost use Rattle.cat_model.specs.Syncs.{serf_id};
 ghost use Rattle.agent_rules.specs.Agents.{agent_node, expired, noted_check, watched_key};
 ghost use Rattle.agent_state.specs.Expiring.{says_expired, turns};
 
-use crate::names::{compare_own, compare_pairs, is_same};
+use crate::names::compare_own;
 use crate::watched::Watched;
 use cat_model::{List, Memory, Status, Text, TtlDef};
 use lists::{around, copy_of, kept, made};
+use node_rows::{compare_pairs, is_same};
 use std::alloc::Global;
 
 /// The ID of the check that each agent has of its own node.

@@ -1,10 +1,11 @@
-//! The name of an agent's node, and the order of rows by their nodes and IDs.
+//! The name of an agent's node, and how it is ordered among others.
 
 ghost use Rattle.std.specs.Prelude.{◌≡◌, ◌<◌, IfOk};
-ghost use Rattle.cat_model.specs.Keys.{is_empty, pair_cmp, same_text, text_cmp};
+ghost use Rattle.cat_model.specs.Keys.{pair_cmp, text_cmp};
 ghost use Rattle.agent_rules.specs.Agents.{agent_node};
 
 use cat_model::{Memory, Text};
+use node_rows::compare;
 use std::alloc::Global;
 use std::cmp::Ordering;
 
@@ -43,29 +44,4 @@ pub(crate) fn compare_own(number: u32, id: &Text, other_node: &Text, other_id: &
     ensures { result ≡ pair_cmp (agent_node number, id.now) (other_node.now, other_id.now) }
 {
     compare_to_node(number, other_node).then(compare(id, other_id))
-}
-
-fn compare(a: &Text, b: &Text) -> Ordering
-    ensures { result ≡ text_cmp a.now b.now }
-{
-    a.as_str().cmp(b.as_str())
-}
-
-/// By the node and then by the ID.
-pub(crate) fn compare_pairs(node: &Text, id: &Text, other_node: &Text, other_id: &Text) -> Ordering
-    ensures { result ≡ pair_cmp (node.now, id.now) (other_node.now, other_id.now) }
-{
-    compare(node, other_node).then(compare(id, other_id))
-}
-
-pub(crate) fn is_same(a: &Text, b: &Text) -> bool
-    ensures { result ≡ same_text a.now b.now }
-{
-    a.as_str() == b.as_str()
-}
-
-pub(crate) fn is_blank(text: &Text) -> bool
-    ensures { result ≡ is_empty text.now }
-{
-    text.len() == 0
 }

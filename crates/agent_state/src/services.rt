@@ -2,14 +2,15 @@
 
 ghost use Rattle.std.specs.Prelude.{◌≡◌, ◌<◌, IfOk, is_some};
 ghost use Rattle.std.specs.Option.{option_copied};
-ghost use Rattle.cat_model.specs.Keys.{pair_cmp, same_text};
-ghost use Rattle.cat_model.specs.Tables.{put, without};
-ghost use Rattle.cat_model.specs.Catalog.{service_at, service_key};
+ghost use Rattle.cat_model.specs.Keys.{same_text};
+ghost use Rattle.cat_model.specs.Tables.{without};
+ghost use Rattle.cat_model.specs.Catalog.{service_at};
 ghost use Rattle.agent_rules.specs.Agents.{agent_node, service_row};
 
-use crate::names::{agent_node, compare_own, compare_pairs, is_same};
+use crate::names::{agent_node, compare_own};
 use cat_model::{List, Memory, ServiceDef, ServiceRow, Text};
-use lists::{around, kept};
+use lists::kept;
+use node_rows::is_same;
 use std::alloc::Global;
 
 /// An agent's service as it was asked for.
@@ -34,18 +35,6 @@ pub(crate) fn service_row(
     })
 }
 
-/// The service of this node and ID.
-pub(crate) fn find_service<'a>(
-    node: &Text,
-    id: &Text,
-    rows: &'a [ServiceRow],
-) -> Option<&'a ServiceRow>
-    ensures { option_copied result ≡ service_at (node.now, id.now) rows.now }
-{
-    rows.iter()
-        .find(|r| compare_pairs(node, id, &r.node, &r.id).is_eq())
-}
-
 // An agent's service of this ID.
 fn own_service<'a>(number: u32, id: &Text, rows: &'a [ServiceRow]) -> Option<&'a ServiceRow>
     requires { number < 100 }
@@ -61,28 +50,6 @@ pub(crate) fn has_service(number: u32, id: &Text, rows: &[ServiceRow]) -> bool
     ensures { result ≡ is_some (service_at (agent_node number, id.now) rows.now) }
 {
     own_service(number, id, rows).is_some()
-}
-
-/// The services with this one in the place of the one of its key.
-#[tactic(auto, unfolding(cat_model::specs::Tables::put))]
-pub(crate) fn place_service(
-    alloc: Global,
-    new: ServiceRow,
-    rows: &[ServiceRow],
-) -> Result<List<ServiceRow>, Memory>
-    ensures { IfOk result (λ l. l ≡ put pair_cmp service_key new rows.now) }
-{
-    let smaller = kept(
-        alloc,
-        rows,
-        |r| compare_pairs(&r.node, &r.id, &new.node, &new.id).is_lt(),
-    )?;
-    let greater = kept(
-        alloc,
-        rows,
-        |r| compare_pairs(&r.node, &r.id, &new.node, &new.id).is_gt(),
-    )?;
-    around(smaller, new, greater)
 }
 
 /// The services without those of this ID.

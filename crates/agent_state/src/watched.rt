@@ -3,8 +3,9 @@
 ghost use Rattle.std.specs.Prelude.{◌≡◌, ◌+◌, ◌<◌, IfOk};
 ghost use Rattle.agent_rules.specs.Agents as rules;
 
-use crate::names::{agent_node, is_same};
+use crate::names::agent_node;
 use cat_model::{CheckRow, Memory, Status, Text, TtlDef};
+use node_rows::is_same;
 use std::alloc::Global;
 use std::marker::Model;
 

@@ -4,9 +4,9 @@ ghost use Rattle.std.specs.Prelude.{◌≡◌};
 ghost use Rattle.std.specs.Option.{option_copied};
 ghost use Rattle.cat_model.specs.Syncs.{lacks_node, lacks_service, lacks_check, is_alien_service, is_alien_check, goes_along, is_serf};
 
-use crate::finding::{find_check, find_service};
-use crate::same::{are_alike_checks, are_alike_nodes, are_alike_services, is_blank};
+use crate::same::{are_alike_checks, are_alike_nodes, are_alike_services};
 use cat_model::{CheckRow, NodeRow, ServiceRow};
+use node_rows::{find_check, find_service, is_blank};
 
 /// The ID of the check that each agent has of its own node.
 pub(crate) const SERF_HEALTH: &str = "serfHealth";

@@ -6,7 +6,6 @@ ghost use Rattle.std.specs.Prelude.{◌≡◌, IfOk, OnOk, OnErr};
 ghost use Rattle.cat_model.specs.Syncs.{plan, merged};
 
 mod differences;
-mod finding;
 mod order;
 mod parts;
 mod same;

@@ -3,9 +3,9 @@
 ghost use Rattle.std.specs.Prelude.{◌≡◌, IfOk};
 ghost use Rattle.cat_model.specs.Syncs.{services_in_order, checks_in_order};
 
-use crate::finding::{place_check, place_service};
 use cat_model::{CheckRow, List, Memory, ServiceRow};
 use lists::copy_of;
+use node_rows::{place_check, place_service};
 use std::alloc::Global;
 
 #[tactic(auto, using(crate::proofs::Onto::services_last, crate::proofs::Onto::services_onto_none))]

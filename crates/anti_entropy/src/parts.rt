@@ -11,12 +11,12 @@ use crate::differences::{
     SERF_HEALTH, goes_along, is_alien_check, is_alien_service, is_serf, lacks_check, lacks_node,
     lacks_service,
 };
-use crate::finding::find_check;
 use crate::order::{checks_in_order, services_in_order};
 use cat_model::{
     CheckRow, Command, List, Local, Memory, NewCheck, NewService, NodeRow, Remote, ServiceRow, Text,
 };
-use lists::{joined, kept, made};
+use lists::{joined, kept, made, one};
+use node_rows::find_check;
 use std::alloc::Global;
 
 fn new_service(s: &ServiceRow) -> Result<NewService, Memory>
@@ -43,14 +43,6 @@ fn new_check(c: &CheckRow) -> Result<NewCheck, Memory>
         output: c.output.clone()?,
         service: c.service.clone()?,
     })
-}
-
-fn one<T: Drop>(alloc: Global, item: T) -> Result<List<T>, Memory>
-    ensures { IfOk result (λ l. l ≡ item ∷ []) }
-{
-    let mut all = List::new(alloc);
-    all.push(item)?;
-    Ok(all)
 }
 
 fn registers_service(alloc: Global, node: &NodeRow, service: &ServiceRow) -> Result<Command, Memory>

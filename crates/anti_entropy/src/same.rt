@@ -1,42 +1,17 @@
-//! Whether rows and their small values are equal, and how keys are ordered.
+//! Whether rows and their small values are equal.
 
 ghost use Rattle.std.specs.Prelude.{◌≡◌};
-ghost use Rattle.cat_model.specs.Keys.{text_cmp, pair_cmp, same_text, same_texts, is_empty};
+ghost use Rattle.cat_model.specs.Keys.{same_texts};
 ghost use Rattle.cat_model.specs.Same.{same_bool, same_status, alike_nodes, alike_services, alike_checks};
 
-use cat_model::{CheckRow, NodeRow, ServiceRow, Status, Text, Texts};
+use cat_model::{CheckRow, NodeRow, ServiceRow, Status, Texts};
 use lists::all_same;
-use std::cmp::Ordering;
-
-fn compare(a: &Text, b: &Text) -> Ordering
-    ensures { result ≡ text_cmp a.now b.now }
-{
-    a.as_str().cmp(b.as_str())
-}
-
-/// By the node and then by the ID.
-pub(crate) fn compare_pairs(node: &Text, id: &Text, other_node: &Text, other_id: &Text) -> Ordering
-    ensures { result ≡ pair_cmp (node.now, id.now) (other_node.now, other_id.now) }
-{
-    compare(node, other_node).then(compare(id, other_id))
-}
-
-fn is_same(a: &Text, b: &Text) -> bool
-    ensures { result ≡ same_text a.now b.now }
-{
-    a.as_str() == b.as_str()
-}
+use node_rows::is_same;
 
 fn are_same(a: &Texts, b: &Texts) -> bool
     ensures { result ≡ same_texts a.now b.now }
 {
     all_same(a.as_slice(), b.as_slice(), |x, y| is_same(x, y))
-}
-
-pub(crate) fn is_blank(text: &Text) -> bool
-    ensures { result ≡ is_empty text.now }
-{
-    text.len() == 0
 }
 
 fn is_same_flag(a: bool, b: bool) -> bool

@@ -3,9 +3,9 @@
 ghost use Rattle.std.specs.Prelude.{◌≡◌, IfOk, map};
 ghost use Rattle.cat_model.specs.Syncs.{merged_service};
 
-use crate::finding::find_service;
 use cat_model::{List, Memory, ServiceRow};
 use lists::{copy_of, made};
+use node_rows::find_service;
 use std::alloc::Global;
 
 /// The service with the catalog's tags, where it allows that and the catalog has it.
