@@ -1,5 +1,5 @@
-//! Which checks each service has, by the service's node and its ID there and then by the check's. The rows and the index of
-//! those of each status are changed with it.
+//! Which checks each service has, by the service's node and ID there and then by the check's. The rows and the index
+//! of those of each status are changed with it.
 
 ghost use Rattle.std.specs.Prelude.{◌≡◌, ◌&&◌, Some, IfOk, OnErr, OnOk, false, filter};
 ghost use Rattle.std.specs.Ordering.{is_eq};
