@@ -1,6 +1,6 @@
 //! The rows of checks together with the indexes of those of each status and of each service.
 
-ghost use Rattle.std.specs.Prelude.{◌≡◌, ◌&&◌, [], IfOk, OnErr, OnOk, filter};
+ghost use Rattle.std.specs.Prelude.{◌≡◌, ◌&&◌, [], IfOk, OnOk, filter};
 ghost use Rattle.std.specs.Option.{option_copied};
 ghost use Rattle.std.specs.Ordering.{is_eq};
 ghost use Rattle.cat_model.specs.Catalog.{check_at, check_key};
