@@ -1,6 +1,7 @@
 -- Names in a table of names, each once.
-use Rattle.std.proofs.Common.{◌≡◌, ℕ, Bool, true, false, cond, List, [], ◌∷◌, ◌++◌, refl, sym, ◌∙◌, ap, filter, map, ◌&&◌, ◌||◌}
+use Rattle.std.proofs.Common.{◌≡◌, ℕ, Bool, true, false, cond, List, [], ◌∷◌, ◌++◌, refl, sym, ◌∙◌, ap, filter, map, ◌&&◌, ◌||◌, Option, Some, None, Bor, is_some}
 use Rattle.std.specs.List.{AllByRecursion, list_any, IsDistinct}
+use Rattle.std.specs.Option.{option_copied}
 use Rattle.std.specs.declared.cmp.Ordering.{Ordering}
 use Rattle.std.specs.declared.cmp.Ordering.TheVariants.{Less, Equal, Greater}
 use Rattle.std.specs.Ordering.{is_eq, is_lt, is_gt}
@@ -8,7 +9,7 @@ use Rattle.std.proofs.lemmas.Bool.Decides.{same_from_decides}
 use Rattle.std.proofs.lemmas.List.Folds.{list_any-append}
 use Rattle.std.proofs.lemmas.Map.Views.{any-filter_same}
 use Rattle.cat_model.specs.Keys.{same_text, text_cmp}
-use Rattle.cat_model.specs.Tables.{put, Ascends}
+use Rattle.cat_model.specs.Tables.{put, row_at, Ascends}
 use Rattle.cat_model.proofs.TableLemmas.{All-filter}
 use Rattle.cat_model.proofs.SameLemmas.{text_decides}
 use Rattle.row_table.proofs.Places.{text_place}
@@ -77,6 +78,19 @@ among_put new rows name =
         turned : (a : Bool) → a ≡ (a || false)
         turned true = refl
         turned false = refl
+
+pub copied_there : (o : Option (Bor Name)) → is_some o ≡ is_some (option_copied o)
+copied_there None = refl
+copied_there (Some r) = refl
+
+-- a name that is found is one of them
+pub among_found : (rows : List Name) (name : List ℕ) → is_some (row_at text_cmp text_of name rows) ≡ is_among (map text_of rows) name
+among_found [] name = refl
+among_found (r ∷ rows) name = go (is_eq (text_cmp name (text_of r))) (same_text name (text_of r)) (same_turned name (text_of r) ∙ text_place (text_of r) name) (among_found rows name)
+  where
+    go : (b t : Bool) → t ≡ b → is_some (row_at text_cmp text_of name rows) ≡ is_among (map text_of rows) name → is_some (cond b (Some r) (row_at text_cmp text_of name rows)) ≡ (t || is_among (map text_of rows) name)
+    go true t e rest = ap (λ x. x || is_among (map text_of rows) name) (sym e)
+    go false t e rest = rest ∙ ap (λ x. x || is_among (map text_of rows) name) (sym e)
 
 pub or_assoc : (a b c : Bool) → ((a || b) || c) ≡ (a || (b || c))
 or_assoc true b c = refl

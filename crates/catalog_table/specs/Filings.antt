@@ -1,4 +1,4 @@
--- What services and checks are filed under: services under their name, checks under how well they are.
+-- What services and checks are filed under: services under their name, checks under how well they are and under their service.
 use Rattle.std.specs.Prelude.{ℕ, List, Option, Some, None}
 use Rattle.std.specs.Ordering.{nat_cmp}
 use Rattle.cat_model.specs.Keys.{text_cmp, pair_cmp}
@@ -38,6 +38,27 @@ ServiceVersions = Versions ServiceRow
 
 abbrev pub CheckVersions : Type 0
 CheckVersions = Versions CheckRow
+
+-- the key of the check's service, and the service alone
+abbrev pub home : CheckRow → Pair
+home c = (c.node, c.service)
+
+abbrev pub home_of : CheckRow → Option Pair
+home_of c = Some (home c)
+
+abbrev pub service_of : CheckRow → Option (List ℕ)
+service_of c = Some c.service
+
+abbrev pub FilesServices : List CheckRow → List (Pair × Pair) → Type 0
+FilesServices = Files pair_cmp pair_cmp check_key home_of
+
+abbrev pub FilesChecks : List CheckRow → List (ℕ × Pair) → List (Pair × Pair) → Type 0
+FilesChecks rows statuses services = FilesStatuses rows statuses × FilesServices rows services
+
+-- the key of the service on the node, if there is a service
+abbrev pub homed : List ℕ → Option (List ℕ) → Option Pair
+homed node None = None
+homed node (Some service) = Some (node, service)
 
 abbrev pub ranked : Option Status → Option ℕ
 ranked None = None

@@ -1,6 +1,8 @@
-//! Copies of rows, of all of a table and of those of one node.
+//! Copies of rows: of all of a table, of those of one node, and of one check.
 
-ghost use Rattle.std.specs.Prelude.{◌≡◌, IfOk, filter, true};
+ghost use Rattle.std.specs.Prelude.{◌≡◌, ◌++◌, [], IfOk, OnOk, filter, true};
+ghost use Rattle.std.specs.List.{cons_option};
+ghost use Rattle.cat_model.specs.Catalog.{check_at};
 ghost use Rattle.cat_model.specs.Keys.{same_text};
 
 use crate::same::is_text;
@@ -63,4 +65,23 @@ pub(crate) fn checks_on(
         found.push(row.copy()?)?;
     }
     Ok(found)
+}
+
+/// Adds a copy of the check of a key, if it is there.
+pub(crate) fn add_check(
+    found: &mut Vec<CheckRow>,
+    rows: &RowTable<CheckRow>,
+    node: &Text,
+    id: &Text,
+) -> Result<(), Memory>
+    ensures { OnOk result (found.new.items ≡ found.old.items ++ cons_option (check_at (node.now, id.now) rows.now.now) []) }
+{
+    let key = ByPair {
+        node: node.as_str(),
+        id: id.as_str(),
+    };
+    if let Some(row) = rows.get(&key) {
+        found.push(row.copy()?)?;
+    }
+    Ok(())
 }

@@ -1,7 +1,8 @@
 //! The nodes, services and checks of the catalog, and what a registration or its undoing changes of them.
 //!
-//! A registration changes rows of one node alone, and mostly few of them. So what it changed is told from the rows that went
-//! and came, and the node's other services are looked at only where its own row or a check of it alone did.
+//! A registration changes rows of one node alone, and mostly few of them. So what it changed is told from the rows that
+//! went and came, and the node's other services are looked at only where its own row or a check of it alone did. The
+//! checks of one service are found by an index, as those of one status and the services of one name are.
 #![tactic(auto)]
 
 mod changed;
@@ -15,6 +16,7 @@ mod names;
 mod once;
 mod register;
 mod same;
+mod served;
 mod services;
 mod set;
 mod stated;

@@ -61,6 +61,7 @@ pub(crate) fn names_read(
     let Touched { names, served, .. } = touched;
     let mut names = names;
     if whole {
+        // A read of each of them takes the node's row and the checks of the node alone, so each is told.
         services.add_names_on(&mut names, node)?;
     } else {
         services.add_names_of(&mut names, node, served.as_slice())?;

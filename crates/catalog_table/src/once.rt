@@ -10,11 +10,11 @@ ghost use Rattle.catalog_table.specs.Names.{is_among, text_of, AreNoted};
 
 use crate::copies::copy_of;
 use cat_model::{List, Memory, Text, Texts};
-use row_table::{Row, RowTable};
+use row_table::{Probe, Row, RowTable};
 use std::alloc::Global;
 use std::cmp::Ordering;
 
-/// A name, as a row of a table of names.
+/// A name or an ID, as a row of a table of them.
 #[derive(Drop)]
 pub(crate) struct Name {
     text: Text,
@@ -42,8 +42,27 @@ impl Row for Name {
     }
 }
 
-// Notes the name, unless it is there.
-fn note(found: &mut RowTable<Name>, text: Text) -> Result<(), Memory>
+// Looks for this name.
+#[derive(Clone, Copy)]
+struct ByText<'a>(&'a str);
+
+impl<'a> Probe<Name> for ByText<'a> {
+    ghost sought = { λ p. p.0.now };
+
+    fn place(&self, row: &Name) -> Ordering {
+        row.text.as_str().cmp(self.0)
+    }
+}
+
+/// Whether the name is noted.
+pub(crate) fn is_noted(found: &RowTable<Name>, text: &Text) -> bool
+    ensures { result ≡ is_among (map text_of found.now.now) text.now }
+{
+    found.get(&ByText(text.as_str())).is_some()
+}
+
+/// Notes the name, unless it is there.
+pub(crate) fn note(found: &mut RowTable<Name>, text: Text) -> Result<(), Memory>
     ensures { OnOk result (found.new.now ≡ put text_cmp text_of (record { text = text }) found.old.now) }
 {
     match found.set(Name { text }) {

@@ -10,20 +10,15 @@ ghost use Rattle.catalog_table.specs.Puts.{HaveIdsOnce};
 ghost use Rattle.catalog_table.specs.Steps.{IsNotDone, IsRegister, IsStopped, gives, is_served, put_rows, step_of};
 ghost use Rattle.catalog_table.specs.Touching.{put_touches};
 
+use crate::once::{is_noted, note};
 use crate::same::is_same;
 use crate::services::ServiceTable;
 use crate::set::{find_service, set_checks, set_given, set_node};
 use crate::touched::Touched;
-use crate::{CatalogTable, Changed, RegisterFault};
+use crate::{CatalogTable, Changed, RegisterFault, copies};
 use cat_model::{Applied, Command, List, Memory, NewCheck, NewService, Text};
+use row_table::RowTable;
 use std::alloc::Global;
-
-// Whether a check with this ID is among these.
-fn has_id(check: &NewCheck, checks: &[NewCheck]) -> bool
-    ensures { result ≡ list_any (λ d. same_text check.now.id d.id) checks.now }
-{
-    checks.iter().any(|other| is_same(&check.id, &other.id))
-}
 
 // A copy of the check.
 fn copy_of(check: &NewCheck) -> Result<NewCheck, Memory>
@@ -36,15 +31,19 @@ fn copy_of(check: &NewCheck) -> Result<NewCheck, Memory>
 pub(crate) fn counting(alloc: Global, checks: &[NewCheck]) -> Result<List<NewCheck>, Memory>
     ensures { IfOk result (λ l. l ≡ last_of_each checks.now) }
 {
-    let mut found = List::new(alloc);
+    let mut ids = RowTable::new(alloc);
+    let mut found = Vec::new(alloc);
     let mut left = checks;
-    while let Some((check, rest)) = left.split_first() {
-        if !has_id(check, rest) {
+    while let Some((check, before)) = left.split_last() {
+        if !is_noted(&ids, &check.id) {
+            let id = copies::copy_of(&check.id)?;
+            note(&mut ids, id)?;
             found.push(copy_of(check)?)?;
         }
-        left = rest;
+        left = before;
     }
-    Ok(found)
+    found.reverse();
+    Ok(List::from(found))
 }
 
 // Whether it is the registered service that has this ID.

@@ -1,10 +1,18 @@
 use Rattle.std.proofs.Common.{◌∙◌, ◌++◌, [], ◌∷◌, sym, ap}
-use Rattle.cat_model.specs.Machine.{last_of_each}
-use Rattle.catalog_table.proofs.Counting.{counts}
+use Rattle.cat_model.specs.Keys.{text_cmp}
+use Rattle.cat_model.specs.Tables.{put}
+use Rattle.catalog_table.specs.Names.{text_of}
+use Rattle.catalog_table.proofs.Counting.{counts, replaced}
 use Rattle.catalog_table.proofs.register.counting.Goals as goal
 
 pub loop-check-preserved-in_ok-push : goal.loop-check-preserved-in_ok-push
 loop-check-preserved-in_ok-push c =
-    let rest = c.in-Some.rest.now in
-    ap (λ l. l ++ last_of_each rest) (c.in_ok-push.ensures.ok ∙ ap (λ x. c.loop-check.found ++ x ∷ []) c.in_ok-copy_of.ensures)
-    ∙ counts c.in-Some.check.now rest c.loop-check.found (sym c.has_id.ensures ∙ c.if-not-has_id.true) ∙ ap (λ l. c.loop-check.found ++ last_of_each l) (sym c.in-Some.ensures.cases.0) ∙ c.loop-check.invariant
+    let before = c.loop-check in
+    counts c.args.checks.now before.left.now c.in-Some.before.now c.in-Some.check.now c.in-Some.ensures.cases.0 before.ids.now before.found.items before.invariant c.note.new.found.now c.push.new.self.items
+    (sym c.is_noted.ensures ∙ c.if-not-is_noted.true) (c.in_ok-note.ensures ∙ ap (λ id. put text_cmp text_of (record { text = id }) before.ids.now) c.in_ok-id.ensures)
+    (c.in_ok-push.ensures.items ∙ ap (λ x. before.found.items ++ x ∷ []) c.in_ok-copy_of.ensures)
+
+pub loop-check-preserved : goal.loop-check-preserved
+loop-check-preserved c =
+    let before = c.loop-check in
+    replaced c.args.checks.now before.left.now c.in-Some.before.now c.in-Some.check.now c.in-Some.ensures.cases.0 before.ids.now before.found.items before.invariant (sym c.is_noted.ensures ∙ c.if-not-is_noted.false)

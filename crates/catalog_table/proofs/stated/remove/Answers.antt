@@ -4,7 +4,7 @@ use Rattle.std.proofs.lemmas.Map.Lookups.{exact_unsigned}
 use Rattle.cat_model.specs.Catalog.{check_key}
 use Rattle.catalog_table.proofs.Indexes.{gone}
 use Rattle.catalog_table.proofs.Labels.{label_rank}
-use Rattle.catalog_table.proofs.checks.remove.Goals as goal
+use Rattle.catalog_table.proofs.stated.remove.Goals as goal
 
 pub returns-clause-files : goal.returns-clause-files
 returns-clause-files c =

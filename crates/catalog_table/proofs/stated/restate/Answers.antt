@@ -8,7 +8,7 @@ use Rattle.row_table.specs.Filing.{unfiled}
 use Rattle.catalog_table.specs.Filings.{rank}
 use Rattle.catalog_table.proofs.Indexes.{back, moved}
 use Rattle.catalog_table.proofs.Labels.{label_rank}
-use Rattle.catalog_table.proofs.checks.restate.Goals as goal
+use Rattle.catalog_table.proofs.stated.restate.Goals as goal
 
 pub returns-in-Err-clause-files : goal.returns-in-Err-clause-files
 returns-in-Err-clause-files c =

@@ -6,7 +6,7 @@ use Rattle.cat_model.specs.Catalog.{check_key}
 use Rattle.catalog_table.specs.Filings.{FilesStatuses}
 use Rattle.catalog_table.proofs.Indexes.{either, kept}
 use Rattle.catalog_table.proofs.Labels.{label_rank}
-use Rattle.catalog_table.proofs.checks.set.Goals as goal
+use Rattle.catalog_table.proofs.stated.set.Goals as goal
 
 pub returns-then-keeps_status-clause-files : goal.returns-then-keeps_status-clause-files
 returns-then-keeps_status-clause-files c =
