@@ -1,5 +1,5 @@
-//! Which sessions stand on each check of each node, by the node's name, the check's identifier and the session's. Under the
-//! empty check stand all sessions of the node.
+//! Which sessions stand on each check of each node, by the node's name, the check's identifier and the session's. Under
+//! the empty check stand all sessions of the node.
 
 ghost use Rattle.std.specs.Prelude.{◌≡◌, [], IfOk, OnOk};
 ghost use Rattle.std.specs.Ordering.{nat_cmp};

@@ -103,8 +103,8 @@ impl SessionTable {
         Ok(List::from(rows))
     }
 
-    /// Copies of the rows of the node's sessions that stand on some of the checks, in the order of their identifiers and
-    /// each once. On an empty check stands each session of the node.
+    /// Copies of the rows of the node's sessions that stand on some of the checks, in the order of their identifiers
+    /// and each once. On an empty check stands each session of the node.
     pub fn on_some(
         &self,
         alloc: Global,
