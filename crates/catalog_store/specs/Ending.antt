@@ -1,19 +1,14 @@
 -- The end of sessions: their rows go, their keys are freed, and the prepared queries bound to them go.
 use Rattle.std.specs.Prelude.{◌≡◌, ℕ, Bool, false, not, List, map, is_some}
-use Rattle.std.specs.List.{list_any}
 use Rattle.std.specs.Cmp.Lexicographic.{pointwise}
 use Rattle.cat_model.specs.Tables.{without, same_found}
-use Rattle.cat_model.specs.Same.{same_kv, same_session, same_query, same_status}
+use Rattle.cat_model.specs.Same.{same_kv, same_session, same_query}
 use Rattle.cat_model.specs.Catalog.{session_at, kv_at}
 use Rattle.cat_model.specs.Machine.{ended_holder}
 use Rattle.cat_model.specs.KvIndexes.{buried}
 use Rattle.cat_model.specs.Views.{moved}
 use Rattle.cat_model.specs.declared.row.SessionRow.{SessionRow}
 use Rattle.cat_model.specs.declared.row.QueryRow.{QueryRow}
-use Rattle.cat_model.specs.declared.row.Status.TheVariants.{Critical}
-use Rattle.cat_model.specs.declared.command.NewCheck.{NewCheck}
-use Rattle.cat_model.specs.declared.command.Command.{Command}
-use Rattle.cat_model.specs.declared.command.Command.TheVariants.{Register}
 use Rattle.cat_model.specs.declared.query.Chan.{Chan}
 use Rattle.cat_model.specs.declared.query.Chan.TheVariants.{Sessions, Queries, Key, Reaped}
 use Rattle.cat_model.specs.declared.fired.Fired.{Fired}
@@ -60,11 +55,3 @@ pub record Ends (i : ℕ) (gone : List SessionRow) (old new : State) (fired : Fi
   pub indexes : SameIndexes new.keys.rows (buried i new.keys.rows old.keys.rows old.keys.tombs) old.keys.floor new.keys.tombs new.keys.floor
   pub fires : FiresJust (still_fires false old new) fired.chans
   pub frees : map (λ f. (f.key, f.delay_ms)) fired.freed ≡ freed_keys gone old.keys.rows
-
-abbrev pub is_critical : NewCheck → Bool
-is_critical c = same_status c.status Critical
-
--- a Register after which each session is whole that was whole before: none of its checks is critical
-abbrev pub breaks_none : Command → Bool
-breaks_none (Register node address service checks) = not (list_any is_critical checks)
-breaks_none other = false

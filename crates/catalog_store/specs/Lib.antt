@@ -5,3 +5,4 @@ pub mod Whole
 pub mod Registering
 pub mod Ending
 pub mod Making
+pub mod Lost

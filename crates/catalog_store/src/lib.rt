@@ -3,6 +3,7 @@
 
 mod channels;
 mod ending;
+mod lost;
 mod queries;
 mod registering;
 mod sessions;

@@ -1,7 +1,7 @@
 //! Sessions: when one may be made, and which are broken.
 
-ghost use Rattle.std.specs.Prelude.{◌≡◌, [], IfOk, false, filter, is_some, None, true};
-ghost use Rattle.std.specs.List.{cons_option, list_any, AllByRecursion};
+ghost use Rattle.std.specs.Prelude.{◌≡◌, [], IfOk, filter, is_some, None};
+ghost use Rattle.std.specs.List.{cons_option};
 ghost use Rattle.cat_model.specs.Catalog.{session_at};
 ghost use Rattle.cat_model.specs.Machine.{broken, check_refusal as the_check_refusal, checks_refusal as the_checks_refusal};
 ghost use Rattle.cat_model.specs.Catalog.{check_at, node_at};
@@ -10,11 +10,11 @@ ghost use Rattle.catalog_table.specs.Rows.{catalog_of};
 ghost use Rattle.catalog_store.specs.States.{now_of, before_of};
 ghost use Rattle.catalog_store.specs.Standing.{Ready};
 ghost use Rattle.catalog_store.specs.Whole.{ActsWhole};
-ghost use Rattle.catalog_store.specs.Ending.{breaks_none, is_critical};
+ghost use Rattle.catalog_store.specs.Lost.{OthersWhole};
 ghost use Rattle.catalog_store.specs.Making.{create_refused, made_session, IsCreate};
 
 use crate::tables::Tables;
-use cat_model::{Applied, Chan, Command, List, Memory, NewCheck, Refuse, SessionRow, Status, Text};
+use cat_model::{Applied, Chan, Command, List, Memory, Refuse, SessionRow, Status, Text};
 use catalog_table::CatalogTable;
 use lists::{copy_if_any, kept, one};
 use session_table::SessionTable;
@@ -64,56 +64,19 @@ fn is_broken(catalog: &CatalogTable, session: &SessionRow) -> bool
         || checks_refusal(catalog, &session.node, session.checks.as_slice()).is_some()
 }
 
-// The broken sessions of the node.
-fn broken_of(
+/// The broken sessions of the node, where each that stands on none of these checks is whole.
+pub(crate) fn broken_among(
     alloc: Global,
     sessions: &SessionTable,
     catalog: &CatalogTable,
     node: &Text,
+    lost: &[Text],
 ) -> Result<List<SessionRow>, Memory>
+    requires { OthersWhole node.now lost.now catalog.now.now sessions.now.now }
     ensures { IfOk result (λ l. l ≡ filter (broken (catalog_of catalog.now.now)) (filter (is_of_node node.now) sessions.now.now)) }
 {
-    let all = sessions.of_node(alloc, node.as_str())?;
-    kept(alloc, all.as_slice(), |s| is_broken(catalog, s))
-}
-
-fn is_critical(check: &NewCheck) -> bool
-    ensures { result ≡ is_critical check.now }
-{
-    matches!(check.status, Status::Critical)
-}
-
-fn has_critical(checks: &[NewCheck]) -> bool
-    ensures { result ≡ list_any is_critical checks.now }
-{
-    checks.iter().any(|c| is_critical(c))
-}
-
-// Whether each session is whole after the command that was whole before.
-fn breaks_none(command: &Command) -> bool
-    ensures { result ≡ breaks_none command.now }
-{
-    match command {
-        Command::Register { checks, .. } => !has_critical(checks.as_slice()),
-        _ => false,
-    }
-}
-
-/// The broken sessions of the node, where this command was done, before which there was none.
-pub(crate) fn broken_by(
-    alloc: Global,
-    sessions: &SessionTable,
-    catalog: &CatalogTable,
-    node: &Text,
-    command: &Command,
-) -> Result<List<SessionRow>, Memory>
-    requires { breaks_none command.now ≡ true → AllByRecursion (λ s. broken (catalog_of catalog.now.now) s ≡ false) sessions.now.now }
-    ensures { IfOk result (λ l. l ≡ filter (broken (catalog_of catalog.now.now)) (filter (is_of_node node.now) sessions.now.now)) }
-{
-    if breaks_none(command) {
-        return Ok(List::new(alloc));
-    }
-    broken_of(alloc, sessions, catalog, node)
+    let some = sessions.on_some(alloc, node.as_str(), lost)?;
+    kept(alloc, some.as_slice(), |s| is_broken(catalog, s))
 }
 
 /// The session of the identifier, or none.

@@ -12,6 +12,7 @@ ghost use Rattle.catalog_table.specs.Steps.{IsRegistration};
 ghost use Rattle.catalog_store.specs.Making.{ends_none};
 
 use crate::ending::end;
+use crate::lost::lost_checks;
 use crate::tables::Tables;
 use crate::{queries, registering, sessions};
 use cat_model::{Applied, Chan, Command, Fired, List, Memory, Text, TxnOp};
@@ -147,8 +148,15 @@ fn apply_rows(
     ensures before { before_of tables.new ≡ before_of tables.old }
 {
     tables.catalog.in_order();
+    let lost = lost_checks(alloc, &tables.catalog, command)?;
     let (answer, chans) = change_rows(alloc, tables, position, command, node)?;
-    let gone = sessions::broken_by(alloc, &tables.sessions, &tables.catalog, node, command)?;
+    let gone = sessions::broken_among(
+        alloc,
+        &tables.sessions,
+        &tables.catalog,
+        node,
+        lost.as_slice(),
+    )?;
     let ended = end(alloc, tables, position, gone.as_slice())?;
     let chans = joined(chans, ended.chans)?;
     Ok((

@@ -1,1 +1,3 @@
-pub mod Sessions
+pub mod Entries
+pub mod Finding
+pub mod Identifiers

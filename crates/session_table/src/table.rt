@@ -3,11 +3,11 @@ ghost use Rattle.std.specs.Option.{option_copied};
 ghost use Rattle.std.specs.Ordering.{is_eq, nat_cmp};
 ghost use Rattle.cat_model.specs.Catalog.{session_at, session_key};
 ghost use Rattle.cat_model.specs.Tables.{put, without, Ascends};
-ghost use Rattle.session_table.specs.Nodes.{is_of_node, is_on};
+ghost use Rattle.session_table.specs.Nodes.{is_of_node, is_on, is_on_some};
 
-use crate::nodes::OnNode;
-use crate::rows::{add, ids_on, remove, rows_on};
-use cat_model::{List, Memory, SessionRow};
+use crate::places::Standing;
+use crate::rows::{add, ids_on, remove, rows_on, rows_on_some};
+use cat_model::{List, Memory, SessionRow, Text};
 use row_table::{ById, RowTable, Rows};
 use std::alloc::Global;
 use std::marker::Model;
@@ -16,19 +16,20 @@ use std::marker::Model;
 /// was none.
 #[derive(Drop)]
 pub struct SessionTable {
+    alloc: Global,
     rows: RowTable<SessionRow>,
-    nodes: RowTable<OnNode>,
+    places: RowTable<Standing>,
 }
 
 impl Model for SessionTable {
-    ghost use Rattle.session_table.specs.Nodes.{FilesNodes};
+    ghost use Rattle.session_table.specs.Places.{FilesPlaces};
     ghost use Rattle.session_table.specs.States.{SessionVersions};
 
     ghost Value = { SessionVersions };
 
     ghost view = { λ t. record { now = t.rows.now; before = t.rows.before } };
 
-    ghost invariant = { λ t. FilesNodes t.rows.now t.nodes.now × FilesNodes t.rows.before t.nodes.before };
+    ghost invariant = { λ t. FilesPlaces t.rows.now t.places.now × FilesPlaces t.rows.before t.places.before };
 }
 
 impl SessionTable {
@@ -37,8 +38,9 @@ impl SessionTable {
         ensures { result ≡ record { now = []; before = [] } }
     {
         SessionTable {
+            alloc,
             rows: RowTable::new(alloc),
-            nodes: RowTable::new(alloc),
+            places: RowTable::new(alloc),
         }
     }
 
@@ -49,7 +51,7 @@ impl SessionTable {
         ensures before { self.new.before ≡ self.old.before }
         ensures err { OnErr result (self.new ≡ self.old) }
     {
-        add(&mut self.rows, &mut self.nodes, row)
+        add(self.alloc, &mut self.rows, &mut self.places, row)
     }
 
     /// Removes the session's row, and tells whether there was one. What becomes of the keys that it holds is a matter of
@@ -59,7 +61,7 @@ impl SessionTable {
         ensures before { self.new.before ≡ self.old.before }
         ensures there { result ≡ is_some (session_at id self.old.now) }
     {
-        remove(&mut self.rows, &mut self.nodes, id)
+        remove(&mut self.rows, &mut self.places, id)
     }
 
     /// The session's row. The rows are in the order of their identifiers, one for each.
@@ -75,7 +77,7 @@ impl SessionTable {
     pub fn broken_by(&self, alloc: Global, node: &str, check: &str) -> Result<Vec<u128>, Memory>
         ensures { IfOk result (λ v. v.items ≡ map session_key (filter (is_on node.now check.now) self.now.now)) }
     {
-        ids_on(alloc, &self.rows, &self.nodes, node, check)
+        ids_on(alloc, &self.rows, &self.places, node, check)
     }
 
     /// The rows one after another, in the order of their identifiers.
@@ -97,7 +99,21 @@ impl SessionTable {
     pub fn of_node(&self, alloc: Global, node: &str) -> Result<List<SessionRow>, Memory>
         ensures { IfOk result (λ rows. rows ≡ filter (is_of_node node.now) self.now.now) }
     {
-        let rows = rows_on(alloc, &self.rows, &self.nodes, node)?;
+        let rows = rows_on(alloc, &self.rows, &self.places, node)?;
+        Ok(List::from(rows))
+    }
+
+    /// Copies of the rows of the node's sessions that stand on some of the checks, in the order of their identifiers
+    /// and each once. On an empty check stands each session of the node.
+    pub fn on_some(
+        &self,
+        alloc: Global,
+        node: &str,
+        checks: &[Text],
+    ) -> Result<List<SessionRow>, Memory>
+        ensures { IfOk result (λ rows. rows ≡ filter (is_on_some node.now checks.now) self.now.now) }
+    {
+        let rows = rows_on_some(alloc, &self.rows, &self.places, node, checks)?;
         Ok(List::from(rows))
     }
 
@@ -107,7 +123,7 @@ impl SessionTable {
         ensures before { self.new.before ≡ self.old.now }
     {
         self.rows.keep();
-        self.nodes.keep();
+        self.places.keep();
     }
 
     /// Makes the table again what it was at the last `keep`, or at `new` where there was none.
@@ -116,6 +132,6 @@ impl SessionTable {
         ensures before { self.new.before ≡ self.old.before }
     {
         self.rows.undo();
-        self.nodes.undo();
+        self.places.undo();
     }
 }

@@ -1,5 +1,5 @@
-use Rattle.session_table.proofs.Sessions.{gone}
+use Rattle.session_table.proofs.Entries.{gone}
 use Rattle.session_table.proofs.rows.remove.Goals as goal
 
 pub returns-clause-files : goal.returns-clause-files
-returns-clause-files c = gone c.args.rows.now.now c.remove.new.self.now c.args.nodes.now.now c.take_node.new.nodes.now c.args.id c.requires.files c.remove.ensures.rows c.take_node.ensures.now
+returns-clause-files c = gone c.args.rows.now.now c.remove.new.self.now c.args.places.now.now c.requires.files c.args.id c.take_places.new.places.now c.remove.ensures.rows c.take_places.ensures.now

@@ -1,0 +1,91 @@
+//! The checks that a command makes critical or takes away.
+
+ghost use Rattle.std.specs.Prelude.{◌≡◌, ◌∷◌, [], IfOk, if◌then◌else◌};
+ghost use Rattle.cat_model.specs.Keys.{is_empty, same_text};
+ghost use Rattle.catalog_store.specs.Lost.{critical_id, id_in, ids_in_service, is_critical, lost_checks};
+
+use cat_model::{CheckRow, Command, List, Memory, NewCheck, Status, Text, Texts};
+use catalog_table::CatalogTable;
+use lists::{chosen, copy_of, one};
+use std::alloc::Global;
+
+fn is_critical(check: &NewCheck) -> bool
+    ensures { result ≡ is_critical check.now }
+{
+    matches!(check.status, Status::Critical)
+}
+
+// The ID of the check, where it is critical.
+fn critical_id(check: &NewCheck) -> Result<Option<Text>, Memory>
+    ensures { IfOk result (λ id. id ≡ critical_id check.now) }
+{
+    if !is_critical(check) {
+        return Ok(None);
+    }
+    Ok(Some(copy_of(&check.id)?))
+}
+
+fn is_same(text: &Text, other: &Text) -> bool
+    ensures { result ≡ same_text text.now other.now }
+{
+    text.as_str() == other.as_str()
+}
+
+// The ID of the check, where it is of the service.
+fn id_in(service: &Text, row: &CheckRow) -> Result<Option<Text>, Memory>
+    ensures { IfOk result (λ id. id ≡ id_in service.now row.now) }
+{
+    if !is_same(&row.service, service) {
+        return Ok(None);
+    }
+    Ok(Some(copy_of(&row.id)?))
+}
+
+// The checks of the node's service.
+fn ids_in_service(
+    alloc: Global,
+    catalog: &CatalogTable,
+    node: &Text,
+    service: &Text,
+) -> Result<Texts, Memory>
+    ensures { IfOk result (λ l. l ≡ ids_in_service node.now service.now catalog.now.now.checks) }
+{
+    let rows = catalog.checks_of(alloc, node.as_str())?;
+    chosen(alloc, rows.as_slice(), |r| id_in(service, r))
+}
+
+// The checks that a Deregister takes away.
+fn taken(
+    alloc: Global,
+    catalog: &CatalogTable,
+    node: &Text,
+    service: &Text,
+    check: &Text,
+) -> Result<Texts, Memory>
+    ensures { IfOk result (λ l. l ≡ (if is_empty service.now then check.now ∷ [] else ids_in_service node.now service.now catalog.now.now.checks)) }
+{
+    if service.len() == 0 {
+        one(alloc, copy_of(check)?)
+    } else {
+        ids_in_service(alloc, catalog, node, service)
+    }
+}
+
+/// The checks of its node that the command makes critical or takes away; an empty one stands for all.
+pub(crate) fn lost_checks(
+    alloc: Global,
+    catalog: &CatalogTable,
+    command: &Command,
+) -> Result<Texts, Memory>
+    ensures { IfOk result (λ l. l ≡ lost_checks command.now catalog.now.now.checks) }
+{
+    match command {
+        Command::Register { checks, .. } => chosen(alloc, checks.as_slice(), |c| critical_id(c)),
+        Command::Deregister {
+            node,
+            service,
+            check,
+        } => taken(alloc, catalog, node, service, check),
+        _ => Ok(List::new(alloc)),
+    }
+}
