@@ -1,8 +1,8 @@
-//! The functions that stand below a server: of a log `term-at LOG INDEX`, `last-term LOG`, `matches LOG PREV PREV_TERM`,
-//! `up-to-date LOG TERM INDEX` (of another log's last entry), `standing LOG PREV ENTRIES`, `batch-length LOG`, `batch LOG`
-//! and `copied LOG`; the others stand in `numbers.rt`.
+//! The functions that stand below a server: of a log `term-at LOG INDEX`, `last-term LOG`,
+//! `matches LOG PREV PREV_TERM`, `up-to-date LOG TERM INDEX` (of another log's last entry), `standing LOG PREV ENTRIES`,
+//! `batch-length LOG`, `batch LOG` and `copied LOG`; the others stand in `numbers.rt`.
 
-use crate::playing::unread;
+use crate::shown::unread;
 use crate::words::{Words, answered, number};
 use crate::{logs, numbers};
 use cat_model::{Entry, Memory};

@@ -1,5 +1,5 @@
-//! Logs in the words of a case: the terms of their entries, parted by commas. `3*2` is two entries of term 3, and `-` no
-//! entry at all.
+//! Logs in the words of a case: the terms of their entries, parted by commas. `3*2` is two entries of term 3, and `-`
+//! no entry at all.
 
 use crate::words::Words;
 use cat_model::{Command, Entry};

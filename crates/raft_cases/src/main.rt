@@ -1,8 +1,8 @@
 //! Plays the worked cases of Raft in the folder where it runs, and says of each how many of its lines give what they
 //! should. They lie in `data/`.
 //!
-//! `cases.txt` has the name of a case in each line. A line of the case `NAME.txt` says what is done, then ` => ` and what
-//! that gives; other lines are nothing. `playing.rt` says which lines there are.
+//! `cases.txt` has the name of a case in each line. A line of the case `NAME.txt` says what is done, then ` => ` and
+//! what that gives; other lines are nothing. `playing.rt` says which lines there are.
 #![tactic(auto)]
 
 mod functions;

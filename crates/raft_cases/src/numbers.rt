@@ -1,10 +1,10 @@
 //! Functions of numbers: `set NUMBERS SERVER NUMBER`, `of-server NUMBERS SERVER`, `reached ID SERVERS NUMBERS LEAST`,
 //! `member VOTES SERVER`, `majority SERVERS VOTES` and `committed ID SERVERS TERM COMMIT LOG MATCHED`; the bytes of
-//! commands and messages: `command-bytes COMMAND`, `vote-bytes` and `append-bytes COMMAND`, where a command is `reap` or
-//! `set KEY VALUE`; and `agreed` with any of `COMMIT@PLACE`, which gives the length of the agreed log after each.
+//! commands and messages: `command-bytes COMMAND`, `vote-bytes` and `append-bytes COMMAND`, where a command is `reap`
+//! or `set KEY VALUE`; and `agreed` with any of `COMMIT@PLACE`, which gives the length of the agreed log after each.
 
 use crate::logs;
-use crate::playing::unread;
+use crate::shown::unread;
 use crate::words::{Words, answered, number, numbers, server, servers};
 use cat_model::{Bytes, Command, Entry, List, Memory, Text};
 use raft_model::Message;
@@ -16,19 +16,11 @@ use std::fmt::Write;
 
 /// What a function gives.
 pub fn given(alloc: Global, what: &str, words: &mut Words) -> Result<String, Memory> {
-    let given = match what {
-        "set" => return set(alloc, words),
-        "agreed" => return agreed(alloc, words),
-        "of-server" => of_server(alloc, words),
-        "committed" => committed(alloc, words),
-        "command-bytes" => command_bytes(alloc, words),
-        "vote-bytes" => Some(vote_bytes()),
-        "append-bytes" => append_bytes(alloc, words),
-        _ => return tested(alloc, what, words),
-    };
-    match given {
-        None => unread(alloc),
-        Some(number) => Ok(format!(in alloc; "{number}")?),
+    match what {
+        "set" => set(alloc, words),
+        "agreed" => agreed(alloc, words),
+        "reached" | "member" | "majority" => tested(alloc, what, words),
+        _ => counted(alloc, what, words),
     }
 }
 
@@ -36,12 +28,26 @@ fn tested(alloc: Global, what: &str, words: &mut Words) -> Result<String, Memory
     let is = match what {
         "reached" => reached(alloc, words),
         "member" => member(alloc, words),
-        "majority" => majority(alloc, words),
-        _ => None,
+        _ => majority(alloc, words),
     };
     match is {
         None => unread(alloc),
         Some(is) => Ok(String::from_str(alloc, answered(is))?),
+    }
+}
+
+fn counted(alloc: Global, what: &str, words: &mut Words) -> Result<String, Memory> {
+    let number = match what {
+        "of-server" => of_server(alloc, words),
+        "committed" => committed(alloc, words),
+        "command-bytes" => command_bytes(alloc, words),
+        "vote-bytes" => Some(vote_bytes()),
+        "append-bytes" => append_bytes(alloc, words),
+        _ => None,
+    };
+    match number {
+        None => unread(alloc),
+        Some(number) => Ok(format!(in alloc; "{number}")?),
     }
 }
 

@@ -1,7 +1,8 @@
 //! The lines of a case. `server I of N` begins server I of N, and the lines behind it are its own (`servers.rt`);
-//! `cluster N` begins a cluster of N servers, 7 at most (`worlds.rt`); before these a line asks a function of logs
+//! `cluster N` begins a cluster of N servers, 2 or 3 (`worlds.rt`); before these a line asks a function of logs
 //! (`functions.rt`).
 
+use crate::shown::unread;
 use crate::words::{Words, server};
 use crate::{functions, servers, worlds};
 use cat_model::Memory;
@@ -73,9 +74,4 @@ fn begin_cluster(alloc: Global, stage: &mut Stage, words: &mut Words) -> Result<
             Ok(format!(in alloc; "{count} servers")?)
         }
     }
-}
-
-/// What a line gives that says nothing.
-pub fn unread(alloc: Global) -> Result<String, Memory> {
-    Ok(String::from_str(alloc, "not read")?)
 }

@@ -1,11 +1,10 @@
 //! The lines of one server: `timeout`, `beat`, `restart`, `fail NTH` (the store's call of this number from now on),
-//! `from SERVER MESSAGE`, `propose NUMBER` or `propose FIRST to LAST` (Reaps of these numbers), `probe`, `confirmed` (of
-//! the round that was begun last), and `round`. Each of the first seven gives the server and what it sends; a proposal
-//! gives its place before that, and a probe its round, or why there is none.
+//! `from SERVER MESSAGE`, `propose NUMBER` or `propose FIRST to LAST` (Reaps of these numbers, until one is refused),
+//! `probe`, `confirmed` (the round that was begun last), and `round`. All but the last two give the server and what it
+//! sends; a proposal gives its place before that, and a probe its round, or why there is none.
 
 use crate::messages;
-use crate::playing::unread;
-use crate::shown::{put_node, put_place, put_round, put_sent, refused, unprobed};
+use crate::shown::{put_node, put_place, put_round, put_sent, refused, unprobed, unread};
 use crate::words::{Words, answered, number, server};
 use cat_model::{Command, List, Memory};
 use cat_outside::SureKeeper;

@@ -2,12 +2,17 @@
 //! `follower of LEADER`, `follower` where no leader is known, or `halted`.
 
 use crate::{logs, messages};
-use cat_model::Role;
+use cat_model::{Memory, Role};
 use cat_outside::SureKeeper;
 use raft_model::{Place, Round, Sent};
 use raft_node::{Node, ProbeFault, ProposeFault};
-use std::alloc::AllocError;
+use std::alloc::{AllocError, Global};
 use std::fmt::Write;
+
+/// What a line gives that says nothing.
+pub fn unread(alloc: Global) -> Result<String, Memory> {
+    Ok(String::from_str(alloc, "not read")?)
+}
 
 /// A server.
 pub fn put_node(out: &mut String, node: &Node<SureKeeper>) -> Result<(), AllocError> {

@@ -1,14 +1,13 @@
-//! The lines of a cluster. `timeout S`, `beat S TIMES`, `tick S MILLISECONDS`, `fail S NTH`, `restart S` and `at S` give
-//! server S and then its clock and its contact; `propose S` (a Reap with number 0) gives its place before that, and
-//! `probe S` its round, or why there is none. `deliver K` delivers message K, `lose K` takes it out, `settle N` delivers and takes out the messages of
-//! the lowest numbers, N at most, and gives how many there were, `message K` gives message K, `lowest` the lowest number, and
-//! `agreed` the agreed log. `-` is no contact, no message or no number.
+//! The lines of a cluster. `timeout S`, `beat S TIMES`, `tick S MILLISECONDS`, `fail S NTH`, `restart S` and `at S`
+//! give server S and then its clock and its contact; `propose S` (a Reap with number 0) gives its place before that, and
+//! `probe S` its round, or why there is none. `deliver K` delivers message K, `lose K` takes it out, and `settle N` does
+//! both with the messages of the lowest numbers, N at most, and gives how many there were. `message K` gives message K,
+//! `lowest` the lowest number, and `agreed` the agreed log. `-` is no contact, no message, no number or no entry.
 
 ghost use Rattle.std.specs.Prelude.{◌≡◌, true};
 ghost use Rattle.raft_world.specs.Steps.{IsNumber};
 
-use crate::playing::unread;
-use crate::shown::{put_node, put_place, put_round, refused, unprobed};
+use crate::shown::{put_node, put_place, put_round, refused, unprobed, unread};
 use crate::words::{Words, number, server};
 use crate::{logs, messages};
 use cat_model::{Command, List, Memory};
