@@ -1,9 +1,10 @@
 //! Messages in the words of a case: `ask TERM LAST LAST_TERM`, `vote TERM yes|no`,
 //! `append TERM PREV PREV_TERM ENTRIES COMMIT ROUND`, `yes TERM MATCHED ROUND` and `no TERM LAST`. ENTRIES is how many
-//! entries there are; where one is read, they are Noops of its term, 64 at most.
+//! entries there are; where one is read, they are Noops of its term, three at most.
 
 ghost use Rattle.std.specs.Prelude.{◌≡◌, true, IfSome};
 ghost use Rattle.cat_model.specs.LogLimits.{keeps_limits};
+ghost use Rattle.cat_model.specs.declared.command.Command.TheVariants.{Noop};
 ghost use Rattle.raft_node.specs.Receiving.{CarriesAllowed};
 
 use crate::words::{Words, answer, answered, number, server};
@@ -88,37 +89,27 @@ fn no(words: &mut Words) -> Option<Message>
     Some(Message::No { term, last })
 }
 
-// So many Noops of a term.
+fn noop(term: u64) -> Entry
+    ensures { result ≡ record { term = term; number = 0; command = Noop } }
+{
+    Entry {
+        term,
+        number: 0,
+        command: Command::Noop,
+    }
+}
+
+// So many Noops of a term, three at most.
 fn noops(alloc: Global, term: u64, count: u32) -> Option<List<Entry>>
     ensures { IfSome result (λ entries. keeps_limits entries ≡ true) }
 {
-    if count > 64 {
-        return None;
+    match count {
+        0 => Some(List::new(alloc)),
+        1 => Some(List::from(vec![in alloc; noop(term)].ok()?)),
+        2 => Some(List::from(vec![in alloc; noop(term), noop(term)].ok()?)),
+        3 => Some(List::from(vec![in alloc; noop(term), noop(term), noop(term)].ok()?)),
+        _ => None,
     }
-    if count == 0 {
-        return Some(List::new(alloc));
-    }
-    let mut entries = noops(alloc, term, count - 1)?;
-    push_noop(&mut entries, term)?;
-    Some(entries)
-}
-
-#[tactic(auto, using(raft_node::proofs::Leads::noop_fits))]
-fn push_noop(entries: &mut List<Entry>, term: u64) -> Option<()>
-    requires { keeps_limits entries.old ≡ true }
-    ensures { IfSome result (λ _. keeps_limits entries.new ≡ true) }
-{
-    if entries.len() >= 64 {
-        return None;
-    }
-    entries
-        .push(Entry {
-            term,
-            number: 0,
-            command: Command::Noop,
-        })
-        .ok()?;
-    Some(())
 }
 
 /// A message.

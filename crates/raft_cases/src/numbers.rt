@@ -11,7 +11,7 @@ use raft_model::Message;
 use raft_node::{batch, quorum};
 use raft_world::agreed::Agreed;
 use raft_world::weight::message_bytes;
-use std::alloc::Global;
+use std::alloc::{AllocError, Global};
 use std::fmt::Write;
 
 /// What a function gives.
@@ -60,12 +60,20 @@ fn set(alloc: Global, words: &mut Words) -> Result<String, Memory> {
     };
     quorum::set_server(&mut numbers, server, number);
     let mut out = String::new(alloc);
-    let mut between = "";
-    for number in &numbers {
-        write!(out, "{between}{number}")?;
-        between = ",";
-    }
+    put_numbers(&mut out, numbers.as_slice())?;
     Ok(out)
+}
+
+fn put_numbers(out: &mut String, numbers: &[u64]) -> Result<(), AllocError> {
+    let mut is_first = true;
+    for number in numbers {
+        if !is_first {
+            out.push_str(",")?;
+        }
+        write!(out, "{number}")?;
+        is_first = false;
+    }
+    Ok(())
 }
 
 fn of_server(alloc: Global, words: &mut Words) -> Option<u64> {
@@ -162,18 +170,25 @@ fn append_bytes(alloc: Global, words: &mut Words) -> Option<u64> {
 }
 
 fn agreed(alloc: Global, words: &mut Words) -> Result<String, Memory> {
-    let mut agreed = Agreed::Kept(List::new(alloc));
     let mut out = String::new(alloc);
-    let mut between = "";
-    for word in words {
-        if grow(&mut agreed, word).is_none() {
-            return unread(alloc);
+    match lengths(alloc, words) {
+        None => unread(alloc),
+        Some(lengths) => {
+            put_numbers(&mut out, lengths.as_slice())?;
+            Ok(out)
         }
-        let length = agreed.len();
-        write!(out, "{between}{length}")?;
-        between = " ";
     }
-    Ok(out)
+}
+
+// The length of the agreed log after each.
+fn lengths(alloc: Global, words: &mut Words) -> Option<Vec<u64>> {
+    let mut agreed = Agreed::Kept(List::new(alloc));
+    let mut lengths = Vec::new(alloc);
+    for word in words {
+        grow(&mut agreed, word)?;
+        lengths.push(agreed.len() as u64).ok()?;
+    }
+    Some(lengths)
 }
 
 fn grow(agreed: &mut Agreed, word: &str) -> Option<()> {
