@@ -8,26 +8,16 @@ mod calls;
 mod counted;
 mod delivery;
 mod electing;
-#[cfg(test)]
-mod election_tests;
 mod fault;
 mod leading;
 pub mod log;
-#[cfg(test)]
-mod log_tests;
 mod node;
-#[cfg(test)]
-mod node_tests;
-#[cfg(test)]
-mod plain_messages;
 pub mod quorum;
 mod receiving;
 mod saving;
 mod sending;
 mod starting;
 mod state;
-#[cfg(test)]
-mod tests;
 pub mod voting;
 
 pub use fault::{ProbeFault, ProposeFault};

@@ -9,11 +9,7 @@ pub mod laws;
 mod leading;
 mod settling;
 mod starting;
-#[cfg(test)]
-mod tests;
 pub mod weight;
 mod world;
-#[cfg(test)]
-mod world_tests;
 
 pub use world::World;

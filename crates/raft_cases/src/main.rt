@@ -1,0 +1,61 @@
+//! Plays the worked cases of Raft in the folder where it runs, and says of each how many of its lines give what they
+//! should. They lie in `data/`.
+//!
+//! `cases.txt` has the name of a case in each line. A line of the case `NAME.txt` says what is done, then ` => ` and
+//! what that gives; other lines are nothing. `playing.rt` says which lines there are.
+#![tactic(auto)]
+
+mod functions;
+mod logs;
+mod messages;
+mod numbers;
+mod playing;
+mod servers;
+mod shown;
+mod words;
+mod worlds;
+
+use crate::playing::{Stage, differing};
+use anyhow::{Context, Result};
+use std::fs;
+use std::process::ExitCode;
+
+fn main(rt: HostRuntime) -> Result<ExitCode> {
+    let names = fs::read_to_string(&rt, "cases.txt").context("cases.txt")?;
+    let mut is_whole = true;
+    for name in names.as_str().lines() {
+        if !is_as_written(&rt, name)? {
+            is_whole = false;
+        }
+    }
+    Ok(if is_whole {
+        ExitCode::SUCCESS
+    } else {
+        ExitCode::from(1)
+    })
+}
+
+// Plays the case of this name, prints the lines that differ and how many do not, and says whether none differs.
+fn is_as_written(rt: &HostRuntime, name: &str) -> Result<bool> {
+    let text = text_of(rt, name)?;
+    let mut stage = Stage::Empty;
+    let mut lines = 0u64;
+    let mut same = 0u64;
+    for line in text.as_str().lines() {
+        let Some((said, wanted)) = line.split_once(" => ") else {
+            continue;
+        };
+        lines = lines.saturating_add(1);
+        match differing(rt.alloc(), &mut stage, said, wanted)? {
+            None => same = same.saturating_add(1),
+            Some(is) => println!(rt; "{name}: {said} => {is}")?,
+        }
+    }
+    println!(rt; "{name}: {same} of {lines} as written")?;
+    Ok(same == lines)
+}
+
+fn text_of(rt: &HostRuntime, name: &str) -> Result<String> {
+    let path = format!(in rt.alloc(); "{name}.txt")?;
+    fs::read_to_string(rt, &path).context(path)
+}

@@ -1,0 +1,200 @@
+//! Functions of numbers: `set NUMBERS SERVER NUMBER`, `of-server NUMBERS SERVER`, `reached ID SERVERS NUMBERS LEAST`,
+//! `member VOTES SERVER`, `majority SERVERS VOTES` and `committed ID SERVERS TERM COMMIT LOG MATCHED`; the bytes of
+//! commands and messages: `command-bytes COMMAND`, `vote-bytes` and `append-bytes COMMAND`, where a command is `reap`
+//! or `set KEY VALUE`; and `agreed` with any of `COMMIT@PLACE`, which gives the length of the agreed log after each.
+
+use crate::logs;
+use crate::shown::unread;
+use crate::words::{Words, answered, number, numbers, server, servers};
+use cat_model::{Bytes, Command, Entry, List, Memory, Text};
+use raft_model::Message;
+use raft_node::{batch, quorum};
+use raft_world::agreed::Agreed;
+use raft_world::weight::message_bytes;
+use std::alloc::{AllocError, Global};
+use std::fmt::Write;
+
+/// What a function gives.
+pub fn given(alloc: Global, what: &str, words: &mut Words) -> Result<String, Memory> {
+    match what {
+        "set" => set(alloc, words),
+        "agreed" => agreed(alloc, words),
+        "reached" | "member" | "majority" => tested(alloc, what, words),
+        _ => counted(alloc, what, words),
+    }
+}
+
+fn tested(alloc: Global, what: &str, words: &mut Words) -> Result<String, Memory> {
+    let is = match what {
+        "reached" => reached(alloc, words),
+        "member" => member(alloc, words),
+        _ => majority(alloc, words),
+    };
+    match is {
+        None => unread(alloc),
+        Some(is) => Ok(String::from_str(alloc, answered(is))?),
+    }
+}
+
+fn counted(alloc: Global, what: &str, words: &mut Words) -> Result<String, Memory> {
+    let number = match what {
+        "of-server" => of_server(alloc, words),
+        "committed" => committed(alloc, words),
+        "command-bytes" => command_bytes(alloc, words),
+        "vote-bytes" => Some(vote_bytes()),
+        "append-bytes" => append_bytes(alloc, words),
+        _ => None,
+    };
+    match number {
+        None => unread(alloc),
+        Some(number) => Ok(format!(in alloc; "{number}")?),
+    }
+}
+
+fn set(alloc: Global, words: &mut Words) -> Result<String, Memory> {
+    let Some(mut numbers) = numbers(alloc, words) else {
+        return unread(alloc);
+    };
+    let (Some(server), Some(number)) = (server(words), number(words)) else {
+        return unread(alloc);
+    };
+    quorum::set_server(&mut numbers, server, number);
+    let mut out = String::new(alloc);
+    put_numbers(&mut out, numbers.as_slice())?;
+    Ok(out)
+}
+
+fn put_numbers(out: &mut String, numbers: &[u64]) -> Result<(), AllocError> {
+    let mut is_first = true;
+    for number in numbers {
+        if !is_first {
+            out.push_str(",")?;
+        }
+        write!(out, "{number}")?;
+        is_first = false;
+    }
+    Ok(())
+}
+
+fn of_server(alloc: Global, words: &mut Words) -> Option<u64> {
+    let numbers = numbers(alloc, words)?;
+    let server = server(words)?;
+    Some(quorum::of_server(numbers.as_slice(), server))
+}
+
+fn reached(alloc: Global, words: &mut Words) -> Option<bool> {
+    let id = server(words)?;
+    let servers = server(words)?;
+    let numbers = numbers(alloc, words)?;
+    let least = number(words)?;
+    Some(quorum::have_reached(id, servers, numbers.as_slice(), least))
+}
+
+fn member(alloc: Global, words: &mut Words) -> Option<bool> {
+    let votes = servers(alloc, words)?;
+    let server = server(words)?;
+    Some(quorum::is_member(votes.as_slice(), server))
+}
+
+fn majority(alloc: Global, words: &mut Words) -> Option<bool> {
+    let count = server(words)?;
+    let votes = servers(alloc, words)?;
+    Some(quorum::has_majority(count, votes.as_slice()))
+}
+
+fn committed(alloc: Global, words: &mut Words) -> Option<u64> {
+    let id = server(words)?;
+    let servers = server(words)?;
+    let term = number(words)?;
+    let commit = number(words)?;
+    let log = logs::read(alloc, words)?;
+    let matched = numbers(alloc, words)?;
+    Some(quorum::committed(
+        id,
+        servers,
+        term,
+        commit,
+        log.as_slice(),
+        matched.as_slice(),
+    ))
+}
+
+fn command(alloc: Global, words: &mut Words) -> Option<Command> {
+    match words.next()? {
+        "reap" => Some(Command::Reap),
+        "set" => {
+            let key = Text::new(alloc, words.next()?).ok()?;
+            let value = Bytes::new(alloc, words.next()?.as_bytes()).ok()?;
+            Some(Command::KvSet {
+                key,
+                flags: 0,
+                value,
+            })
+        }
+        _ => None,
+    }
+}
+
+fn command_bytes(alloc: Global, words: &mut Words) -> Option<u64> {
+    let command = command(alloc, words)?;
+    let bytes = batch::command_bytes(alloc, &command).ok()?;
+    Some(bytes as u64)
+}
+
+fn vote_bytes() -> u64 {
+    message_bytes(&Message::Vote {
+        term: 1,
+        granted: true,
+    })
+}
+
+// The bytes of an Append of this one command.
+fn append_bytes(alloc: Global, words: &mut Words) -> Option<u64> {
+    let command = command(alloc, words)?;
+    let mut entries = List::new(alloc);
+    entries
+        .push(Entry {
+            term: 1,
+            number: 0,
+            command,
+        })
+        .ok()?;
+    Some(message_bytes(&Message::Append {
+        term: 1,
+        prev_index: 0,
+        prev_term: 0,
+        entries,
+        commit: 0,
+        round: 0,
+    }))
+}
+
+fn agreed(alloc: Global, words: &mut Words) -> Result<String, Memory> {
+    let mut out = String::new(alloc);
+    match lengths(alloc, words) {
+        None => unread(alloc),
+        Some(lengths) => {
+            put_numbers(&mut out, lengths.as_slice())?;
+            Ok(out)
+        }
+    }
+}
+
+// The length of the agreed log after each.
+fn lengths(alloc: Global, words: &mut Words) -> Option<Vec<u64>> {
+    let mut agreed = Agreed::Kept(List::new(alloc));
+    let mut lengths = Vec::new(alloc);
+    for word in words {
+        grow(&mut agreed, word)?;
+        lengths.push(agreed.len() as u64).ok()?;
+    }
+    Some(lengths)
+}
+
+fn grow(agreed: &mut Agreed, word: &str) -> Option<()> {
+    let (count, place) = word.split_once("@")?;
+    let count = count.parse::<u32>().ok()?;
+    let place = place.parse::<u32>().ok()?;
+    agreed.grow(place as usize, count as usize);
+    Some(())
+}
