@@ -3,9 +3,11 @@ pub mod Texts
 pub mod Numbers
 pub mod Pairs
 pub mod Refused
+pub mod Fits
 pub mod Sound
 pub mod Complete
 pub mod Disjoint
+pub mod Good
 pub mod Patterns
 pub mod Unique
 pub mod Rows

@@ -1,31 +1,26 @@
 -- A path fits a pattern exactly where it is the front, what stands for the name, and the back.
 use Rattle.std.proofs.Common.{◌≡◌, ◌≢◌, ℕ, ◌<◌, ◌-◌, ◌==◌, ◌&&◌, ◌||◌, not, nat_lt, nat_eq, Bool, true, false, cond, List, [], ◌∷◌, ◌++◌, length, take, drop, Option, Some, None, refl, sym, ap, ◌∙◌, subst, arith, inl, inr, true≢false, append-nil, length-append}
 use Rattle.std.specs.Prelude.{option_and_then}
-use Rattle.std.specs.List.{All, list_all, list_any}
-use Rattle.std.proofs.lemmas.Bool.{ltb-true, lt-ltb}
+use Rattle.std.specs.List.{All, list_all}
+use Rattle.std.proofs.lemmas.Option.{none-some}
+use Rattle.std.proofs.lemmas.Bool.{and_parts, ltb-true, lt-ltb}
 use Rattle.std.proofs.lemmas.Bool.Decides.{Decides-eqb}
 use Rattle.std.proofs.lemmas.List.Elements.{All-head, All-tail, All-nil, All-cons}
 use Rattle.std.proofs.lemmas.Slice.Eq.{starts_is, ends_is}
 use Rattle.std.proofs.Math.Seq.{drop-append_seam, take-append_seam}
 use Rattle.matchit.specs.Rows.{param_token, catch_all_token}
 use Rattle.matchit.specs.Seek.{slash}
-use Rattle.http_routes.specs.Fits.{Fits}
-use Rattle.http_routes.specs.Targets.{behind, ahead_of}
-use Rattle.http_routes.specs.Paths.{front_of, back_of, has, may_stand, if_stands, takes}
-use Rattle.http_routes.specs.Routers.{tokens, middle, is_plain, ends, is_whole, is_row}
-use Rattle.http_routes.proofs.Sound.{None≢Some}
+use Rattle.http_routes.proofs.Fits.{Fits}
+use Rattle.http_routes.specs.Paths.{front_of, back_of, behind, ahead_of, has, may_stand, if_stands, takes}
+use Rattle.http_routes.proofs.Good.{tokens, middle, is_plain, ends, is_whole, is_row}
 
-pub both : (a b : Bool) → (a && b) ≡ true → (a ≡ true) × (b ≡ true)
-both true b e = (refl, e)
-both false b e = absurd (true≢false (sym e))
-
-never : (t : Bool) → not t ≡ true → t ≡ true → ⊥
+pub never : (t : Bool) → not t ≡ true → t ≡ true → ⊥
 never true e is = true≢false (sym e)
 never false e is = true≢false (sym is)
 
 pub plain_byte : (b : ℕ) → is_plain b ≡ true → (b < 128) × (b ≢ 63)
 plain_byte b e =
-    let tests = both (nat_lt b 128) (not (b == 63)) e in
+    let tests = and_parts (nat_lt b 128) (not (b == 63)) e in
     (ltb-true b 128 tests.0, λ is. never (b == 63) tests.1 ((Decides-eqb b 63).1 is))
 
 pub Plain : List ℕ → Type 0
@@ -33,11 +28,11 @@ Plain text = list_all is_plain text ≡ true
 
 pub plain_head : (b : ℕ) (text : List ℕ) → Plain (b ∷ text) → (b < 128) × (b ≢ 63)
 unfolding Plain
-plain_head b text e = plain_byte b (both (is_plain b) (list_all is_plain text) e).0
+plain_head b text e = plain_byte b (and_parts (is_plain b) (list_all is_plain text) e).0
 
 pub plain_tail : (b : ℕ) (text : List ℕ) → Plain (b ∷ text) → Plain text
 unfolding Plain
-plain_tail b text e = (both (is_plain b) (list_all is_plain text) e).1
+plain_tail b text e = (and_parts (is_plain b) (list_all is_plain text) e).1
 
 -- ---- texts among the tokens
 
@@ -71,7 +66,8 @@ mid t1 t2 = cond t1 (cond t2 (catch_all_token ∷ []) (param_token ∷ [])) []
 stands : Bool → Bool → List ℕ → Bool
 stands t1 t2 part = cond t1 (nat_lt 0 (length part) && (t2 || not (has 47 part))) (nat_eq (length part) 0)
 
-no_slash_by : (b : ℕ) (part : List ℕ) (t : Bool) → (b == 47) ≡ t → b ≢ slash → has 47 part ≡ false → (t || has 47 part) ≡ false
+no_slash_by : (b : ℕ) (part : List ℕ) (t : Bool) → (b == 47) ≡ t → b ≢ slash → has 47 part ≡ false
+    → (t || has 47 part) ≡ false
 no_slash_by b part true e other rest = absurd (other ((Decides-eqb b 47).0 e))
 no_slash_by b part false e other rest = rest
 
@@ -80,7 +76,8 @@ no_slash [] all = refl
 no_slash (b ∷ part) all =
     no_slash_by b part (b == 47) refl (All-head (λ c. c ≢ slash) b part all) (no_slash part (All-tail (λ c. c ≢ slash) b part all))
 
-slash_less_by : (b : ℕ) (part : List ℕ) (t : Bool) → (b == 47) ≡ t → (not (has 47 part) ≡ true → All (λ c. c ≢ slash) part)
+slash_less_by : (b : ℕ) (part : List ℕ) (t : Bool) → (b == 47) ≡ t
+    → (not (has 47 part) ≡ true → All (λ c. c ≢ slash) part)
     → not (t || has 47 part) ≡ true → All (λ c. c ≢ slash) (b ∷ part)
 slash_less_by b part true is more e = absurd (true≢false (sym e))
 slash_less_by b part false is more e = All-cons (λ c. c ≢ slash) b part (λ same. true≢false (sym ((Decides-eqb b 47).1 same) ∙ is)) (more e)
@@ -93,13 +90,14 @@ pub nil_of : (t : List ℕ) → (length t == 0) ≡ true → t ≡ []
 nil_of [] e = refl
 nil_of (x ∷ t) e = absurd (omega (arith, (Decides-eqb (length (x ∷ t)) 0).0 e))
 
-fits_mid : (t1 t2 : Bool) (back rest : List ℕ) → Plain back → All (λ b. b < 256) rest → is_whole (mid t1 t2 ++ back) ≡ true → Fits (mid t1 t2 ++ back) rest
+fits_mid : (t1 t2 : Bool) (back rest : List ℕ) → Plain back → All (λ b. b < 256) rest
+    → is_whole (mid t1 t2 ++ back) ≡ true → Fits (mid t1 t2 ++ back) rest
     → (part : List ℕ) × (rest ≡ part ++ back) × (stands t1 t2 part ≡ true)
 unfolding mid stands
 fits_mid false t2 back rest plain small whole f = ([], fits_back back rest plain f, refl)
 fits_mid true true back rest plain small whole (inl f) = absurd (omega (arith, f.0))
 fits_mid true true back rest plain small whole (inr (inl f)) =
-    let none : back ≡ [] = nil_of back (both (length back == 0) (is_whole back) whole).0 in
+    let none : back ≡ [] = nil_of back (and_parts (length back == 0) (is_whole back) whole).0 in
     let some : nat_lt 0 (length rest) ≡ true = lt-ltb 0 (length rest) f.1 in
     (rest, sym (append-nil rest) ∙ ap (λ (u : List ℕ). rest ++ u) (sym none), rw some refl)
 fits_mid true true back rest plain small whole (inr (inr f)) =
@@ -115,10 +113,10 @@ mid_fits : (t1 t2 : Bool) (back part : List ℕ) → stands t1 t2 part ≡ true 
 unfolding mid stands
 mid_fits false t2 back part e = subst (λ (u : List ℕ). Fits back (u ++ back)) (sym (nil_of part e)) (back_fits back)
 mid_fits true true back part e =
-    let some = ltb-true 0 (length part) (both (nat_lt 0 (length part)) true e).0 in
+    let some = ltb-true 0 (length part) (and_parts (nat_lt 0 (length part)) true e).0 in
     inr (inl (refl, omega (arith, some, length-append part back)))
 mid_fits true false back part e =
-    let tests = both (nat_lt 0 (length part)) (not (has 47 part)) e in
+    let tests = and_parts (nat_lt 0 (length part)) (not (has 47 part)) e in
     inl (refl, part, back, refl, (ltb-true 0 (length part) tests.0, slash_less part tests.1), back_fits back)
 
 -- ---- patterns
@@ -128,18 +126,20 @@ pub record Split (pattern path part : List ℕ) : Type 0 where
   pub whole : path ≡ front_of pattern ++ (part ++ back_of pattern)
   pub stands : may_stand pattern part ≡ true
 
-pub row_tests : (pattern : List ℕ) → is_row pattern ≡ true → (is_whole (tokens pattern) ≡ true) × (Plain (front_of pattern) × Plain (back_of pattern))
+pub row_tests : (pattern : List ℕ) → is_row pattern ≡ true
+    → (is_whole (tokens pattern) ≡ true) × (Plain (front_of pattern) × Plain (back_of pattern))
 unfolding Plain
 row_tests pattern e =
-    let last = both (is_whole (tokens pattern) && list_all is_plain (front_of pattern)) (list_all is_plain (back_of pattern)) e in
-    let rest = both (is_whole (tokens pattern)) (list_all is_plain (front_of pattern)) last.0 in
+    let last = and_parts (is_whole (tokens pattern) && list_all is_plain (front_of pattern)) (list_all is_plain (back_of pattern)) e in
+    let rest = and_parts (is_whole (tokens pattern)) (list_all is_plain (front_of pattern)) last.0 in
     (rest.0, (rest.1, last.1))
 
 whole_rest : (t p : List ℕ) → is_whole (t ++ p) ≡ true → is_whole p ≡ true
 whole_rest [] p e = e
-whole_rest (x ∷ t) p e = whole_rest t p (both ((not (x == param_token) || ends (t ++ p)) && (not (x == catch_all_token) || length (t ++ p) == 0)) (is_whole (t ++ p)) e).1
+whole_rest (x ∷ t) p e = whole_rest t p (and_parts ((not (x == param_token) || ends (t ++ p)) && (not (x == catch_all_token) || length (t ++ p) == 0)) (is_whole (t ++ p)) e).1
 
-pub fits_split : (pattern path : List ℕ) → is_row pattern ≡ true → All (λ b. b < 256) path → Fits (tokens pattern) path → (part : List ℕ) × Split pattern path part
+pub fits_split : (pattern path : List ℕ) → is_row pattern ≡ true → All (λ b. b < 256) path
+    → Fits (tokens pattern) path → (part : List ℕ) × Split pattern path part
 unfolding mid stands
 fits_split pattern path row small f =
     let tests = row_tests pattern row in
@@ -160,8 +160,9 @@ split_fits pattern path part split =
 
 -- ---- what a pattern takes
 
-and_then_some : {A B : Type 0} (f : A → Option B) (o : Option A) (y : B) → option_and_then f o ≡ Some y → (x : A) × (o ≡ Some x) × (f x ≡ Some y)
-and_then_some f None y e = absurd (None≢Some e)
+and_then_some : {A B : Type 0} (f : A → Option B) (o : Option A) (y : B) → option_and_then f o ≡ Some y
+    → (x : A) × (o ≡ Some x) × (f x ≡ Some y)
+and_then_some f None y e = absurd (none-some _ e)
 and_then_some f (Some x) y e = (x, refl, e)
 
 pub some_of : {A : Type 0} (x y : A) → Some x ≡ Some y → x ≡ y
@@ -169,7 +170,7 @@ some_of {A} x y e = ap (λ (o : Option A). elim o as (λ _. A) [ None ↦ x | So
 
 cond_some : {A : Type 0} (t : Bool) (x y : A) → cond t (Some x) None ≡ Some y → (t ≡ true) × (x ≡ y)
 cond_some true x y e = (refl, some_of x y e)
-cond_some false x y e = absurd (None≢Some e)
+cond_some false x y e = absurd (none-some _ e)
 
 pub taken : (pattern path part : List ℕ) → takes pattern path ≡ Some part → Split pattern path part
 taken pattern path part e =
