@@ -68,7 +68,8 @@ with_whole_by t l some false w more = more
 
 with_whole : {K : Type 0} (s : List ℕ) (rs : RowsOf K) → AllWhole rs → AllWhole (with_suffix s rs)
 with_whole s [] w = w
-with_whole s ((t, l) ∷ rest) w = with_whole_by t l (with_suffix s rest) (same_text (segment t) s) w.0 (with_whole s rest w.1)
+with_whole s ((t, l) ∷ rest) w =
+    with_whole_by t l (with_suffix s rest) (same_text (segment t) s) w.0 (with_whole s rest w.1)
 
 in_with_by : {K : Type 0} (t p : List ℕ) (l k : K) (some : RowsOf K) (test : Bool) → HasRow p k some
     → HasRow p k (cond test ((t, l) ∷ some) some)
@@ -78,8 +79,11 @@ in_with_by t p l k some false h = h
 in_with : {K : Type 0} (s : List ℕ) (rs : RowsOf K) (p : List ℕ) (k : K) → same_text (segment p) s ≡ true
     → HasRow p k rs → HasRow p k (with_suffix s rs)
 in_with s [] p k e h = h
-in_with s ((t, l) ∷ rest) p k e (inl h) = subst (λ (u : List ℕ). HasRow p k (cond (same_text (segment u) s) ((t, l) ∷ with_suffix s rest) (with_suffix s rest))) h.0 (rw e (inl h))
-in_with s ((t, l) ∷ rest) p k e (inr h) = in_with_by t p l k (with_suffix s rest) (same_text (segment t) s) (in_with s rest p k e h)
+in_with s ((t, l) ∷ rest) p k e (inl h) =
+    subst (λ (u : List ℕ). HasRow p k
+    (cond (same_text (segment u) s) ((t, l) ∷ with_suffix s rest) (with_suffix s rest))) h.0 (rw e (inl h))
+in_with s ((t, l) ∷ rest) p k e (inr h) =
+    in_with_by t p l k (with_suffix s rest) (same_text (segment t) s) (in_with s rest p k e h)
 
 own_some : {K : Type 0} (rs : RowsOf K) (k : K) → HasRow [] k rs → is_some (own rs) ≡ true
 own_some [] k h = absurd h
@@ -93,18 +97,21 @@ seg_slash : (part rest : List ℕ) → Plain part → segment (part ++ slash ∷
 unfolding Plain
 seg_slash [] rest plain = refl
 seg_slash (b ∷ part) rest plain =
-    rw (ne_eqb b slash (All-head (λ c. c ≢ slash) b part plain)) (ap (λ (u : List ℕ). b ∷ u) (seg_slash part rest (All-tail (λ c. c ≢ slash) b part plain)))
+    rw (ne_eqb b slash (All-head (λ c. c ≢ slash) b part plain))
+    (ap (λ (u : List ℕ). b ∷ u) (seg_slash part rest (All-tail (λ c. c ≢ slash) b part plain)))
 
 seg_plain : (path : List ℕ) → Plain path → segment path ≡ path
 unfolding Plain
 seg_plain [] plain = refl
 seg_plain (b ∷ path) plain =
-    rw (ne_eqb b slash (All-head (λ c. c ≢ slash) b path plain)) (ap (λ (u : List ℕ). b ∷ u) (seg_plain path (All-tail (λ c. c ≢ slash) b path plain)))
+    rw (ne_eqb b slash (All-head (λ c. c ≢ slash) b path plain))
+    (ap (λ (u : List ℕ). b ∷ u) (seg_plain path (All-tail (λ c. c ≢ slash) b path plain)))
 
 no_slash : (path : List ℕ) → Plain path → has_slash path ≡ false
 unfolding Plain
 no_slash [] plain = refl
-no_slash (b ∷ path) plain = rw (ne_eqb b slash (All-head (λ c. c ≢ slash) b path plain)) (no_slash path (All-tail (λ c. c ≢ slash) b path plain))
+no_slash (b ∷ path) plain = rw (ne_eqb b slash (All-head (λ c. c ≢ slash) b path plain))
+    (no_slash path (All-tail (λ c. c ≢ slash) b path plain))
 
 plain_drop : (n : ℕ) (s : List ℕ) → Plain s → Plain (drop n s)
 unfolding Plain
@@ -164,10 +171,13 @@ before_slash rs part rest t k ends plain some h =
     let seg = seg_slash part rest plain in
     let size : length (part ++ slash ∷ []) ≡ length part + 1 = length-append part (slash ∷ []) in
     let last : drop (length (part ++ slash ∷ []) - 1) (part ++ slash ∷ []) ≡ slash ∷ [] =
-    (let e : length (part ++ slash ∷ []) - 1 ≡ length part = omega (arith, size) in rw e (drop-append_seam part (slash ∷ []))) in
+    (let e : length (part ++ slash ∷ []) - 1 ≡ length part = omega (arith, size) in rw e
+    (drop-append_seam part (slash ∷ []))) in
     let cut : cuts (part ++ slash ∷ []) (slash ∷ []) ≡ true =
-    (let more : ltb 1 (length (part ++ slash ∷ [])) ≡ true = lt-ltb 1 _ (omega (arith, size, some)) in rw (more, last) refl) in
-    rw (seg, finds_slash (part ++ slash ∷ []) rs t k ends cut h, size) (ap (λ (n : ℕ). (n, with_suffix (slash ∷ []) rs)) (omega arith))
+    (let more : ltb 1 (length (part ++ slash ∷ [])) ≡ true = lt-ltb 1 _ (omega (arith, size, some)) in rw
+    (more, last) refl) in
+    rw (seg, finds_slash (part ++ slash ∷ []) rs t k ends cut h, size)
+    (ap (λ (n : ℕ). (n, with_suffix (slash ∷ []) rs)) (omega arith))
 
 -- ---- the walk
 
@@ -220,41 +230,57 @@ pub complete : {K : Type 0} (path : List ℕ) (skip : ℕ) (rs : RowsOf K) (p : 
     → Fits p (drop skip path) → is_some (seek skip rs path) ≡ true
 unfolding seek Plain
 complete [] skip rs p k whole h f =
-    own_some rs k (subst (λ (u : List ℕ). HasRow u k rs) (fits_empty p (subst (λ (u : List ℕ). Fits p u) (no_drop skip) f)) h)
+    own_some rs k (subst (λ (u : List ℕ). HasRow u k rs)
+    (fits_empty p (subst (λ (u : List ℕ). Fits p u) (no_drop skip) f)) h)
 complete (b ∷ path) (suc skip) rs p k whole h f = complete path skip rs p k whole h f
 complete (b ∷ path) zero rs [] k whole h f = absurd (not_empty (sym f))
 complete (b ∷ path) zero rs (x ∷ t) k whole h (inr (inr f)) =
     let byte : b ≡ x = ap head_of f.1 in
     let more : path ≡ f.0 = ap tail_of f.1 in
-    left_some (seek 0 (step b rs) path) (or_else (seek ((param_step (step param_token rs) (b ∷ path)).0 - 1) (param_step (step param_token rs) (b ∷ path)).1 path) (own (step catch_all_token rs)))
-    (complete path 0 (step b rs) t k (step_whole b rs whole) (in_step b rs t k (subst (λ (c : ℕ). HasRow (c ∷ t) k rs) (sym byte) h))
+    left_some (seek 0 (step b rs) path)
+    (or_else (seek ((param_step (step param_token rs) (b ∷ path)).0 - 1)
+    (param_step (step param_token rs) (b ∷ path)).1 path) (own (step catch_all_token rs)))
+    (complete path 0 (step b rs) t k (step_whole b rs whole)
+    (in_step b rs t k (subst (λ (c : ℕ). HasRow (c ∷ t) k rs) (sym byte) h))
     (subst (λ (u : List ℕ). Fits t u) (sym more) f.2))
 complete (b ∷ path) zero rs (x ∷ t) k whole h (inr (inl f)) =
     let none : t ≡ [] = (row_whole rs (x ∷ t) k whole h).1 f.0 in
-    let row = in_step catch_all_token rs [] k (subst (λ (u : List ℕ). HasRow u k rs) (ap (λ (c : ℕ). c ∷ t) f.0 ∙ ap (λ (u : List ℕ). catch_all_token ∷ u) none) h) in
-    right_some (seek 0 (step b rs) path) (or_else (seek ((param_step (step param_token rs) (b ∷ path)).0 - 1) (param_step (step param_token rs) (b ∷ path)).1 path) (own (step catch_all_token rs)))
-    (right_some (seek ((param_step (step param_token rs) (b ∷ path)).0 - 1) (param_step (step param_token rs) (b ∷ path)).1 path) (own (step catch_all_token rs)) (own_some (step catch_all_token rs) k row))
+    let row = in_step catch_all_token rs [] k
+    (subst (λ (u : List ℕ). HasRow u k rs)
+    (ap (λ (c : ℕ). c ∷ t) f.0 ∙ ap (λ (u : List ℕ). catch_all_token ∷ u) none) h) in
+    right_some (seek 0 (step b rs) path)
+    (or_else (seek ((param_step (step param_token rs) (b ∷ path)).0 - 1)
+    (param_step (step param_token rs) (b ∷ path)).1 path) (own (step catch_all_token rs)))
+    (right_some (seek ((param_step (step param_token rs) (b ∷ path)).0 - 1)
+    (param_step (step param_token rs) (b ∷ path)).1 path) (own (step catch_all_token rs))
+    (own_some (step catch_all_token rs) k row))
 complete {K} (b ∷ path) zero rs (x ∷ []) k whole h (inl f) =
     let rows : RowsOf K = step param_token rs in
     let row : HasRow [] k rows = in_step param_token rs [] k (subst (λ (c : ℕ). HasRow (c ∷ []) k rs) f.0 h) in
     let all : b ∷ path ≡ f.1 = f.3 ∙ (ap (λ (u : List ℕ). f.1 ++ u) f.5 ∙ append-nil f.1) in
     let at = at_end rows (b ∷ path) (step_ends rs whole) (subst Plain (sym all) f.4.1) in
     let size : length (b ∷ path) - 1 ≡ length path = omega arith in
-    mid_some (seek 0 (step b rs) path) (seek ((param_step rows (b ∷ path)).0 - 1) (param_step rows (b ∷ path)).1 path) (own (step catch_all_token rs))
+    mid_some (seek 0 (step b rs) path) (seek ((param_step rows (b ∷ path)).0 - 1) (param_step rows (b ∷ path)).1 path)
+    (own (step catch_all_token rs))
     (subst (λ (q : ℕ × RowsOf K). is_some (seek (q.0 - 1) q.1 path) ≡ true) (sym at)
-    (complete path (length (b ∷ path) - 1) rows [] k (step_whole param_token rs whole) row (ap (λ (n : ℕ). drop n path) size ∙ drop-length path)))
+    (complete path (length (b ∷ path) - 1) rows [] k (step_whole param_token rs whole) row
+    (ap (λ (n : ℕ). drop n path) size ∙ drop-length path)))
 complete {K} (b ∷ path) zero rs (x ∷ y ∷ t) k whole h (inl f) =
     let rows : RowsOf K = step param_token rs in
-    let first_row : HasRow (y ∷ t) k rows = in_step param_token rs (y ∷ t) k (subst (λ (c : ℕ). HasRow (c ∷ y ∷ t) k rs) f.0 h) in
+    let first_row : HasRow (y ∷ t) k rows =
+    in_step param_token rs (y ∷ t) k (subst (λ (c : ℕ). HasRow (c ∷ y ∷ t) k rs) f.0 h) in
     let ends : y ≡ slash = row_ends rows (y ∷ t) k (step_ends rs whole) first_row in
     let row : HasRow (slash ∷ t) k rows = subst (λ (c : ℕ). HasRow (c ∷ t) k rows) ends first_row in
     let fits : Fits (slash ∷ t) f.2 = subst (λ (c : ℕ). Fits (c ∷ t) f.2) ends f.5 in
     let more = slash_fits t f.2 fits in
     let whole_path : b ∷ path ≡ f.1 ++ slash ∷ more.0 = f.3 ∙ ap (λ (u : List ℕ). f.1 ++ u) more.1 in
     let at = before_slash rows f.1 more.0 t k (step_ends rs whole) f.4.1 f.4.0 row in
-    let same : param_step rows (b ∷ path) ≡ (length f.1, with_suffix (slash ∷ []) rows) = ap (λ (u : List ℕ). param_step rows u) whole_path ∙ at in
+    let same : param_step rows (b ∷ path) ≡ (length f.1, with_suffix (slash ∷ []) rows) =
+    ap (λ (u : List ℕ). param_step rows u) whole_path ∙ at in
     let rest : drop (length f.1 - 1) path ≡ f.2 = tail_drop b path f.1 f.2 f.3 f.4.0 in
-    mid_some (seek 0 (step b rs) path) (seek ((param_step rows (b ∷ path)).0 - 1) (param_step rows (b ∷ path)).1 path) (own (step catch_all_token rs))
+    mid_some (seek 0 (step b rs) path) (seek ((param_step rows (b ∷ path)).0 - 1) (param_step rows (b ∷ path)).1 path)
+    (own (step catch_all_token rs))
     (subst (λ (q : ℕ × RowsOf K). is_some (seek (q.0 - 1) q.1 path) ≡ true) (sym same)
-    (complete path (length f.1 - 1) (with_suffix (slash ∷ []) rows) (slash ∷ t) k (with_whole (slash ∷ []) rows (step_whole param_token rs whole))
+    (complete path (length f.1 - 1) (with_suffix (slash ∷ []) rows) (slash ∷ t) k
+    (with_whole (slash ∷ []) rows (step_whole param_token rs whole))
     (in_with (slash ∷ []) rows (slash ∷ t) k refl row) (subst (λ (u : List ℕ). Fits (slash ∷ t) u) (sym rest) fits)))

@@ -30,7 +30,8 @@ same_part (x ∷ a) [] r q pa pc opr opq e =
     opens_head [] y more o e = absurd (not_empty e)
     opens_head (b ∷ r) y more o e = sym (ap head_of e) ∙ o
 same_part (x ∷ a) (y ∷ c) r q pa pc opr opq e =
-    let more = same_part a c r q (All-tail (λ b. b ≢ slash) x a pa) (All-tail (λ b. b ≢ slash) y c pc) opr opq (ap tail_of e) in
+    let more = same_part a c r q (All-tail (λ b. b ≢ slash) x a pa) (All-tail (λ b. b ≢ slash) y c pc) opr opq
+    (ap tail_of e) in
     (ap (λ (n : ℕ). n ∷ a) (ap head_of e) ∙ ap (λ (u : List ℕ). y ∷ u) more.0, more.1)
 
 opens_of : (t rest : List ℕ) → Ends t → Fits t rest → Opens rest
@@ -60,15 +61,19 @@ same_byte x y = (Decides-eqb x y).1
 
 pub overlap : (p q path : List ℕ) → Whole p → Whole q → Small path → Fits p path → Fits q path → overlaps p q ≡ true
 overlap [] [] path wp wq s f g = refl
-overlap [] (y ∷ q) path wp wq s f g = absurd (not_empty (sym (fits_empty (y ∷ q) (subst (λ (u : List ℕ). Fits (y ∷ q) u) f g))))
-overlap (x ∷ p) [] path wp wq s f g = absurd (not_empty (sym (fits_empty (x ∷ p) (subst (λ (u : List ℕ). Fits (x ∷ p) u) g f))))
+overlap [] (y ∷ q) path wp wq s f g =
+    absurd (not_empty (sym (fits_empty (y ∷ q) (subst (λ (u : List ℕ). Fits (y ∷ q) u) f g))))
+overlap (x ∷ p) [] path wp wq s f g =
+    absurd (not_empty (sym (fits_empty (x ∷ p) (subst (λ (u : List ℕ). Fits (x ∷ p) u) g f))))
 overlap (x ∷ p) (y ∷ q) path wp wq s (inr (inl f)) g = rw f.0 refl
 overlap (x ∷ p) (y ∷ q) path wp wq s (inl f) (inr (inl g)) = rw (f.0, g.0) refl
 overlap (x ∷ p) (y ∷ q) path wp wq s (inr (inr f)) (inr (inl g)) =
     rw (g.0, not_small x 257 (head_small path x f.0 f.1 s) (omega arith)) refl
 overlap (x ∷ p) (y ∷ q) path wp wq s (inl f) (inl g) =
-    let same = same_part f.1 g.1 f.2 g.2 f.4.1 g.4.1 (opens_of p f.2 (wp.0 f.0) f.5) (opens_of q g.2 (wq.0 g.0) g.5) (sym f.3 ∙ g.3) in
-    rw (f.0, g.0) (overlap p q f.2 wp.2 wq.2 (drop_small f.1 f.2 (subst Small f.3 s)) f.5 (subst (λ (u : List ℕ). Fits q u) (sym same.1) g.5))
+    let same = same_part f.1 g.1 f.2 g.2 f.4.1 g.4.1 (opens_of p f.2 (wp.0 f.0) f.5) (opens_of q g.2 (wq.0 g.0) g.5)
+    (sym f.3 ∙ g.3) in
+    rw (f.0, g.0) (overlap p q f.2 wp.2 wq.2 (drop_small f.1 f.2 (subst Small f.3 s)) f.5
+    (subst (λ (u : List ℕ). Fits q u) (sym same.1) g.5))
 overlap (x ∷ p) (y ∷ q) path wp wq s (inl f) (inr (inr g)) =
     let small = head_small path y g.0 g.1 s in
     rw (f.0, not_small y 257 small (omega arith), not_small y 256 small (omega arith)) refl
@@ -85,5 +90,6 @@ overlap (x ∷ p) (y ∷ q) path wp wq s (inr (inr f)) (inr (inr g)) =
       not_small x 256 small (omega arith),
       not_small y 256 small_y (omega arith),
       same_byte x y (ap head_of same),
-      overlap p q f.0 wp.2 wq.2 (tail_small path x f.0 f.1 s) f.2 (subst (λ (u : List ℕ). Fits q u) (sym (ap tail_of same)) g.2),
+      overlap p q f.0 wp.2 wq.2 (tail_small path x f.0 f.1 s) f.2
+          (subst (λ (u : List ℕ). Fits q u) (sym (ap tail_of same)) g.2),
     ) refl

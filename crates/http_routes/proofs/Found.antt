@@ -31,13 +31,19 @@ in_router row i = row_routed table [] row table_read i
 
 -- where the part stands
 part_at : (path front part back : List ℕ) → path ≡ front ++ (part ++ back)
-    → (length front + length back ≤ length path) × (take (length path - length back - length front) (drop (length front) path) ≡ part)
+    → (length front + length back ≤ length path) ×
+    (take (length path - length back - length front) (drop (length front) path) ≡ part)
 part_at path front part back e =
     let size : length path ≡ length front + (length part + length back) =
-    (ap (λ (u : List ℕ). length u) e ∙ (length-append front (part ++ back) ∙ ap (λ (n : ℕ). length front + n) (length-append part back))) in
+    (ap (λ (u : List ℕ). length u) e
+    ∙ (length-append front (part ++ back) ∙ ap (λ (n : ℕ). length front + n) (length-append part back))) in
     let middle : length path - length back - length front ≡ length part = omega (arith, size) in
-    let rest : drop (length front) path ≡ part ++ back = ap (λ (u : List ℕ). drop (length front) u) e ∙ drop-append_seam front (part ++ back) in
-    (omega (arith, size), ap (λ (n : ℕ). take n (drop (length front) path)) middle ∙ (ap (λ (u : List ℕ). take (length part) u) rest ∙ take-append_seam part back))
+    let rest : drop (length front) path ≡ part ++ back =
+    ap (λ (u : List ℕ). drop (length front) u) e ∙ drop-append_seam front (part ++ back) in (
+      omega (arith, size),
+      ap (λ (n : ℕ). take n (drop (length front) path)) middle
+          ∙ (ap (λ (u : List ℕ). take (length part) u) rest ∙ take-append_seam part back),
+    )
 
 -- what an entry says of the path
 Tells : List ℕ → Entry → Type 0
@@ -81,7 +87,8 @@ none_by path (Some x) is e =
     let good = row_of table row.0 table_good row.1 in
     let fits = split_fits row.0.0 (map shown path) (map shown x.1) (split_shown row.0.0 path x.1 good row.2) in
     let r = in_router row.0 row.1 in
-    absurd (true≢false (sym (complete (map shown path) 0 the_router (tokens row.0.0) r.0 (all_whole the_router table_whole) r.1 fits) ∙ ap (λ (o : Option (RouteOf Entry)). is_some o) e))
+    absurd (true≢false (sym (complete (map shown path) 0 the_router (tokens row.0.0) r.0
+    (all_whole the_router table_whole) r.1 fits) ∙ ap (λ (o : Option (RouteOf Entry)). is_some o) e))
 
 pub router_finds_none : (path : List ℕ) → first the_router (map shown path) ≡ None → found path ≡ None
 router_finds_none path e = none_by path (found path) refl e

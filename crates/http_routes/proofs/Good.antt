@@ -43,7 +43,8 @@ is_apart pattern [] = true
 is_apart pattern (row ∷ rows) = not (overlaps (tokens pattern) (tokens row.0)) && is_apart pattern rows
 
 abbrev pub is_row : List ℕ → Bool
-is_row pattern = is_whole (tokens pattern) && list_all is_plain (front_of pattern) && list_all is_plain (back_of pattern)
+is_row pattern = is_whole (tokens pattern) && list_all is_plain (front_of pattern) && list_all is_plain
+    (back_of pattern)
 
 abbrev pub are_good : List Row → Bool
 are_good [] = true

@@ -52,7 +52,8 @@ fits_back : (t rest : List ℕ) → Plain t → Fits t rest → rest ≡ t
 fits_back [] rest plain f = f
 fits_back (x ∷ t) rest plain (inl f) = absurd (omega (arith, f.0, (plain_head x t plain).0))
 fits_back (x ∷ t) rest plain (inr (inl f)) = absurd (omega (arith, f.0, (plain_head x t plain).0))
-fits_back (x ∷ t) rest plain (inr (inr f)) = f.1 ∙ ap (λ (u : List ℕ). x ∷ u) (fits_back t f.0 (plain_tail x t plain) f.2)
+fits_back (x ∷ t) rest plain (inr (inr f)) =
+    f.1 ∙ ap (λ (u : List ℕ). x ∷ u) (fits_back t f.0 (plain_tail x t plain) f.2)
 
 back_fits : (t : List ℕ) → Fits t t
 back_fits [] = refl
@@ -74,13 +75,15 @@ no_slash_by b part false e other rest = rest
 no_slash : (part : List ℕ) → All (λ b. b ≢ slash) part → has 47 part ≡ false
 no_slash [] all = refl
 no_slash (b ∷ part) all =
-    no_slash_by b part (b == 47) refl (All-head (λ c. c ≢ slash) b part all) (no_slash part (All-tail (λ c. c ≢ slash) b part all))
+    no_slash_by b part (b == 47) refl (All-head (λ c. c ≢ slash) b part all)
+    (no_slash part (All-tail (λ c. c ≢ slash) b part all))
 
 slash_less_by : (b : ℕ) (part : List ℕ) (t : Bool) → (b == 47) ≡ t
     → (not (has 47 part) ≡ true → All (λ c. c ≢ slash) part)
     → not (t || has 47 part) ≡ true → All (λ c. c ≢ slash) (b ∷ part)
 slash_less_by b part true is more e = absurd (true≢false (sym e))
-slash_less_by b part false is more e = All-cons (λ c. c ≢ slash) b part (λ same. true≢false (sym ((Decides-eqb b 47).1 same) ∙ is)) (more e)
+slash_less_by b part false is more e =
+    All-cons (λ c. c ≢ slash) b part (λ same. true≢false (sym ((Decides-eqb b 47).1 same) ∙ is)) (more e)
 
 slash_less : (part : List ℕ) → not (has 47 part) ≡ true → All (λ b. b ≢ slash) part
 slash_less [] e = All-nil _
@@ -101,13 +104,21 @@ fits_mid true true back rest plain small whole (inr (inl f)) =
     let some : nat_lt 0 (length rest) ≡ true = lt-ltb 0 (length rest) f.1 in
     (rest, sym (append-nil rest) ∙ ap (λ (u : List ℕ). rest ++ u) (sym none), rw some refl)
 fits_mid true true back rest plain small whole (inr (inr f)) =
-    absurd (omega (arith, All-head (λ b. b < 256) catch_all_token f.0 (subst (λ (u : List ℕ). All (λ b. b < 256) u) f.1 small)))
+    absurd (omega (
+      arith,
+      All-head (λ b. b < 256) catch_all_token f.0
+          (subst (λ (u : List ℕ). All (λ b. b < 256) u) f.1 small),
+    ))
 fits_mid true false back rest plain small whole (inl f) =
     let some : nat_lt 0 (length f.1) ≡ true = lt-ltb 0 (length f.1) f.4.0 in
     (f.1, f.3 ∙ ap (λ (u : List ℕ). f.1 ++ u) (fits_back back f.2 plain f.5), rw (some, no_slash f.1 f.4.1) refl)
 fits_mid true false back rest plain small whole (inr (inl f)) = absurd (omega (arith, f.0))
 fits_mid true false back rest plain small whole (inr (inr f)) =
-    absurd (omega (arith, All-head (λ b. b < 256) param_token f.0 (subst (λ (u : List ℕ). All (λ b. b < 256) u) f.1 small)))
+    absurd (omega (
+      arith,
+      All-head (λ b. b < 256) param_token f.0
+          (subst (λ (u : List ℕ). All (λ b. b < 256) u) f.1 small),
+    ))
 
 mid_fits : (t1 t2 : Bool) (back part : List ℕ) → stands t1 t2 part ≡ true → Fits (mid t1 t2 ++ back) (part ++ back)
 unfolding mid stands
@@ -130,13 +141,16 @@ pub row_tests : (pattern : List ℕ) → is_row pattern ≡ true
     → (is_whole (tokens pattern) ≡ true) × (Plain (front_of pattern) × Plain (back_of pattern))
 unfolding Plain
 row_tests pattern e =
-    let last = and_parts (is_whole (tokens pattern) && list_all is_plain (front_of pattern)) (list_all is_plain (back_of pattern)) e in
+    let last = and_parts (is_whole (tokens pattern) && list_all is_plain (front_of pattern))
+    (list_all is_plain (back_of pattern)) e in
     let rest = and_parts (is_whole (tokens pattern)) (list_all is_plain (front_of pattern)) last.0 in
     (rest.0, (rest.1, last.1))
 
 whole_rest : (t p : List ℕ) → is_whole (t ++ p) ≡ true → is_whole p ≡ true
 whole_rest [] p e = e
-whole_rest (x ∷ t) p e = whole_rest t p (and_parts ((not (x == param_token) || ends (t ++ p)) && (not (x == catch_all_token) || length (t ++ p) == 0)) (is_whole (t ++ p)) e).1
+whole_rest (x ∷ t) p e = whole_rest t p
+    (and_parts ((not (x == param_token) || ends (t ++ p)) && (not (x == catch_all_token) || length (t ++ p) == 0))
+    (is_whole (t ++ p)) e).1
 
 pub fits_split : (pattern path : List ℕ) → is_row pattern ≡ true → All (λ b. b < 256) path
     → Fits (tokens pattern) path → (part : List ℕ) × Split pattern path part
@@ -145,7 +159,8 @@ fits_split pattern path row small f =
     let tests = row_tests pattern row in
     let rest = fits_text (front_of pattern) (middle pattern ++ back_of pattern) path tests.1.0 f in
     let small_rest = all_drop (front_of pattern) rest.0 (subst (λ (u : List ℕ). All (λ b. b < 256) u) rest.1 small) in
-    let part = fits_mid (has 123 pattern) (has 42 pattern) (back_of pattern) rest.0 tests.1.1 small_rest (whole_rest (front_of pattern) _ tests.0) rest.2 in
+    let part = fits_mid (has 123 pattern) (has 42 pattern) (back_of pattern) rest.0 tests.1.1 small_rest
+    (whole_rest (front_of pattern) _ tests.0) rest.2 in
     (part.0, record { whole = rest.1 ∙ ap (λ (u : List ℕ). front_of pattern ++ u) part.1; stands = part.2 })
   where
     all_drop : (front rest : List ℕ) → All (λ b. b < 256) (front ++ rest) → All (λ b. b < 256) rest
@@ -176,13 +191,16 @@ pub taken : (pattern path part : List ℕ) → takes pattern path ≡ Some part 
 taken pattern path part e =
     let front = front_of pattern in
     let back = back_of pattern in
-    let a = and_then_some (λ (rest : List ℕ). option_and_then (if_stands pattern) (ahead_of back rest)) (behind front path) part e in
+    let a = and_then_some (λ (rest : List ℕ). option_and_then (if_stands pattern) (ahead_of back rest))
+    (behind front path) part e in
     let b = and_then_some (if_stands pattern) (ahead_of back a.0) part a.2 in
     let c = cond_some (may_stand pattern b.0) b.0 part b.2 in
     let begins = cond_some _ (drop (length front) path) a.0 a.1 in
     let ends = cond_some _ (take (length a.0 - length back) a.0) b.0 b.1 in
-    let path_is : path ≡ front ++ a.0 = (starts_is Decides-eqb path front _ refl).0 begins.0 ∙ ap (λ (u : List ℕ). front ++ u) begins.1 in
-    let rest_is : a.0 ≡ part ++ back = (ends_is Decides-eqb a.0 back _ refl).0 ends.0 ∙ ap (λ (u : List ℕ). u ++ back) (ends.1 ∙ c.1) in
+    let path_is : path ≡ front ++ a.0 =
+    (starts_is Decides-eqb path front _ refl).0 begins.0 ∙ ap (λ (u : List ℕ). front ++ u) begins.1 in
+    let rest_is : a.0 ≡ part ++ back =
+    (ends_is Decides-eqb a.0 back _ refl).0 ends.0 ∙ ap (λ (u : List ℕ). u ++ back) (ends.1 ∙ c.1) in
     record {
       whole = path_is ∙ ap (λ (u : List ℕ). front ++ u) rest_is;
       stands = subst (λ (u : List ℕ). may_stand pattern u ≡ true) c.1 c.0;
@@ -201,4 +219,10 @@ ahead_it back part =
 
 pub takes_it : (pattern path part : List ℕ) → Split pattern path part → takes pattern path ≡ Some part
 takes_it pattern path part split =
-    rw (split.whole, behind_it (front_of pattern) (part ++ back_of pattern), ahead_it (back_of pattern) part, split.stands) refl
+    rw (
+      split.whole,
+      behind_it (front_of pattern) (part ++ back_of pattern),
+      ahead_it
+          (back_of pattern) part,
+      split.stands,
+    ) refl

@@ -48,7 +48,8 @@ old_by t u l m rows more p k false go (inr h) = inr (go h)
 old_row : {K : Type 0} (t : List ℕ) (l : K) (rows : RowsOf K) (p : List ℕ) (k : K) → HasRow p k rows
     → HasRow p k (placed (t, l) rows)
 old_row t l [] p k h = inr h
-old_row t l ((u, m) ∷ rows) p k h = old_by t u l m rows (placed (t, l) rows) p k (comes_before t u) (λ g. old_row t l rows p k g) h
+old_row t l ((u, m) ∷ rows) p k h =
+    old_by t u l m rows (placed (t, l) rows) p k (comes_before t u) (λ g. old_row t l rows p k g) h
 
 -- ---- one more route
 
@@ -101,14 +102,16 @@ row_routed (x ∷ rows) routed row read (inl e) =
     let s = read_scan (tokens x.0) (parse_route x.0) tests.0 in
     let r = route_from s.0 (entry_of x) in
     let here : HasRow s.0.pattern r (with_scan (parse_route x.0) (entry_of x) routed) =
-    subst (λ (scan : Result Scan InsertError). HasRow s.0.pattern r (with_scan scan (entry_of x) routed)) (sym s.1) (new_row s.0.pattern r routed) in
+    subst (λ (scan : Result Scan InsertError). HasRow s.0.pattern r (with_scan scan (entry_of x) routed)) (sym s.1)
+    (new_row s.0.pattern r routed) in
     let same : s.0.pattern ≡ tokens row.0 = s.2 ∙ ap (λ (y : Row). tokens y.0) (sym e) in (
       r,
       stays rows (with_route x.0 (entry_of x) routed) (tokens row.0) r
           (subst (λ (t : List ℕ). HasRow t r (with_route x.0 (entry_of x) routed)) same here),
     )
 row_routed (x ∷ rows) routed row read (inr i) =
-    row_routed rows (with_route x.0 (entry_of x) routed) row (and_parts (reads_as (tokens x.0) (parse_route x.0)) (are_read rows) read).1 i
+    row_routed rows (with_route x.0 (entry_of x) routed) row
+    (and_parts (reads_as (tokens x.0) (parse_route x.0)) (are_read rows) read).1 i
 
 pub all_whole : (routed : Routed) → are_whole routed ≡ true → AllWhole routed
 all_whole [] e = tt

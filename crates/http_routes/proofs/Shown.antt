@@ -25,7 +25,8 @@ shown_is b x less other e = by (nat_lt b 128) e
 shown_text : (t : List ℕ) → Plain t → map shown t ≡ t
 shown_text [] plain = refl
 shown_text (x ∷ t) plain =
-    ap (λ (y : ℕ). y ∷ map shown t) (shown_plain x (plain_head x t plain).0) ∙ ap (λ (u : List ℕ). x ∷ u) (shown_text t (plain_tail x t plain))
+    ap (λ (y : ℕ). y ∷ map shown t) (shown_plain x (plain_head x t plain).0)
+    ∙ ap (λ (u : List ℕ). x ∷ u) (shown_text t (plain_tail x t plain))
 
 text_shown : (t r : List ℕ) → Plain t → map shown r ≡ t → r ≡ t
 text_shown [] [] plain e = refl
@@ -42,8 +43,14 @@ parted : (a c r : List ℕ) → map shown r ≡ a ++ c
 parted [] c r e = ([], r, refl, refl, e)
 parted (x ∷ a) c [] e = absurd (omega (arith, ap (λ (u : List ℕ). length u) e))
 parted (x ∷ a) c (b ∷ r) e =
-    let more = parted a c r (ap tail_of e) in
-    (b ∷ more.0, more.1, ap (λ (u : List ℕ). b ∷ u) more.2, ap (λ (y : ℕ). y ∷ map shown more.0) (ap head_of e) ∙ ap (λ (u : List ℕ). x ∷ u) more.3, more.4)
+    let more = parted a c r (ap tail_of e) in (
+      b ∷ more.0,
+      more.1,
+      ap (λ (u : List ℕ). b ∷ u) more.2,
+      ap (λ (y : ℕ). y ∷ map shown more.0) (ap head_of e)
+          ∙ ap (λ (u : List ℕ). x ∷ u) more.3,
+      more.4,
+    )
 
 -- ---- what stands for a name
 
@@ -95,14 +102,16 @@ shown_split pattern path seen row split =
       record {
         whole =
             one.2 ∙ (ap (λ (u : List ℕ). u ++ one.1) (text_shown (front_of pattern) one.0 tests.1.0 one.3)
-            ∙ ap (λ (u : List ℕ). front_of pattern ++ u) (two.2 ∙ ap (λ (u : List ℕ). two.0 ++ u) (text_shown (back_of pattern) two.1 tests.1.1 two.4)));
+            ∙ ap (λ (u : List ℕ). front_of pattern ++ u)
+            (two.2 ∙ ap (λ (u : List ℕ). two.0 ++ u) (text_shown (back_of pattern) two.1 tests.1.1 two.4)));
         stands = sym (stand_shown pattern two.0) ∙ (ap (may_stand pattern) two.3 ∙ split.stands);
       },
     )
 
 pub small_shown : (path : List ℕ) → All (λ b. b < 256) (map shown path)
 small_shown [] = All-nil _
-small_shown (b ∷ path) = All-cons (λ c. c < 256) (shown b) (map shown path) (less (nat_lt b 128) refl) (small_shown path)
+small_shown (b ∷ path) = All-cons (λ c. c < 256) (shown b) (map shown path) (less (nat_lt b 128) refl)
+    (small_shown path)
   where
     less : (t : Bool) → nat_lt b 128 ≡ t → cond t b 63 < 256
     less true e = omega (arith, ltb-true b 128 e)

@@ -13,14 +13,16 @@ use Rattle.http_routes.proofs.Fits.{FitsToken, Fits, HasRow}
 
 own_row : {K : Type 0} (rs : RowsOf K) (k : K) → own rs ≡ Some k → HasRow [] k rs
 own_row {K} [] k e = absurd (none-some _ e)
-own_row {K} (([], l) ∷ rest) k e = inl (refl, sym (ap (λ (o : Option K). elim o as (λ _. K) [ None ↦ l | Some x ↦ x ]) e))
+own_row {K} (([], l) ∷ rest) k e =
+    inl (refl, sym (ap (λ (o : Option K). elim o as (λ _. K) [ None ↦ l | Some x ↦ x ]) e))
 own_row {K} ((x ∷ t, l) ∷ rest) k e = inr (own_row rest k e)
 
 step_by : {K : Type 0} (b x : ℕ) (t : List ℕ) (l : K) (rest : RowsOf K) (p : List ℕ) (k : K) (test : Bool)
     → (x == b) ≡ test
     → (HasRow p k (step b rest) → HasRow (b ∷ p) k rest)
     → HasRow p k (cond test ((t, l) ∷ step b rest) (step b rest)) → HasRow (b ∷ p) k ((x ∷ t, l) ∷ rest)
-step_by b x t l rest p k true e more (inl h) = inl (ap (λ (u : List ℕ). b ∷ u) h.0 ∙ ap (λ (n : ℕ). n ∷ t) (grind (arith, e)), h.1)
+step_by b x t l rest p k true e more (inl h) =
+    inl (ap (λ (u : List ℕ). b ∷ u) h.0 ∙ ap (λ (n : ℕ). n ∷ t) (grind (arith, e)), h.1)
 step_by b x t l rest p k true e more (inr h) = inr (more h)
 step_by b x t l rest p k false e more h = inr (more h)
 
@@ -48,7 +50,8 @@ Short seg best = 0 < length best → length best < length seg
 
 better_by : (seg best suffix : List ℕ) (test : Bool) → (ltb (length best) (length suffix) && cuts seg suffix) ≡ test
     → Short seg best → Short seg (cond test suffix best)
-better_by seg best suffix true e short = λ _. ltb-true (length suffix) (length seg) (and_parts _ _ (and_parts _ _ e).1).0
+better_by seg best suffix true e short =
+    λ _. ltb-true (length suffix) (length seg) (and_parts _ _ (and_parts _ _ e).1).0
 better_by seg best suffix false e short = short
 
 longest_short : {K : Type 0} (seg best : List ℕ) (rs : RowsOf K) → Short seg best → Short seg (longest_from seg best rs)
@@ -81,7 +84,8 @@ slash_by : (b : ℕ) (rest : List ℕ) (test : Bool) → (b == slash) ≡ test
     → (has_slash rest ≡ false → All (λ c. c ≢ slash) rest)
     → cond test true (has_slash rest) ≡ false → All (λ c. c ≢ slash) (b ∷ rest)
 slash_by b rest true e more none = absurd (true≢false none)
-slash_by b rest false e more none = All-cons (λ c. c ≢ slash) b rest (λ is. true≢false (grind (arith, is, e))) (more none)
+slash_by b rest false e more none =
+    All-cons (λ c. c ≢ slash) b rest (λ is. true≢false (grind (arith, is, e))) (more none)
 
 no_slash : (path : List ℕ) → has_slash path ≡ false → All (λ c. c ≢ slash) path
 no_slash [] e = All-nil _
@@ -119,12 +123,14 @@ param_by rs b path p k long true t2 short e1 e2 row fits =
     let bound = seg_len (b ∷ path) in
     let n = length (segment (b ∷ path)) - length long in (
       with_suffix_row long rs p k row,
-      taken p b path n (omega (arith, less)) (omega (arith, bound)) (seg_plain (b ∷ path) n (omega (arith, less, some))) fits,
+      taken p b path n (omega (arith, less)) (omega (arith, bound))
+          (seg_plain (b ∷ path) n (omega (arith, less, some))) fits,
     )
 param_by rs b path p k long false true short e1 e2 row fits = absurd row
 param_by rs b path p k long false false short e1 e2 row fits = (
   row,
-  taken p b path (length (b ∷ path)) (omega arith) (omega arith) (subst (λ (u : List ℕ). All (λ c. c ≢ slash) u) (sym (take-length (b ∷ path))) (no_slash (b ∷ path) e2)) fits,
+  taken p b path (length (b ∷ path)) (omega arith) (omega arith)
+      (subst (λ (u : List ℕ). All (λ c. c ≢ slash) u) (sym (take-length (b ∷ path))) (no_slash (b ∷ path) e2)) fits,
 )
 
 param_fits : {K : Type 0} (rs : RowsOf K) (b : ℕ) (path p : List ℕ) (k : K) → HasRow p k (param_step rs (b ∷ path)).1
@@ -162,4 +168,9 @@ sound (b ∷ path) zero rs k e =
     (λ e2. let f = sound path _ _ k e2 in
     let g = param_fits (step param_token rs) b path f.0 k f.1 f.2 in
     (param_token ∷ f.0, step_row param_token rs f.0 k g.0, g.1))
-    (λ e3. (catch_all_token ∷ [], step_row catch_all_token rs [] k (own_row (step catch_all_token rs) k e3), inr (inl (refl, omega arith))))
+    (λ e3. (
+      catch_all_token ∷ [],
+      step_row catch_all_token rs [] k (own_row (step catch_all_token rs) k e3),
+      inr
+          (inl (refl, omega arith)),
+    ))

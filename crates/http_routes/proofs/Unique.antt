@@ -30,7 +30,8 @@ ends_of (y ∷ t) e = (Decides-eqb y slash).0 e
 pub whole_of : (t : List ℕ) → is_whole t ≡ true → Whole t
 whole_of [] e = tt
 whole_of (x ∷ t) e =
-    let last = and_parts ((not (x == param_token) || ends t) && (not (x == catch_all_token) || length t == 0)) (is_whole t) e in
+    let last = and_parts ((not (x == param_token) || ends t) && (not (x == catch_all_token) || length t == 0))
+    (is_whole t) e in
     let tests = and_parts (not (x == param_token) || ends t) (not (x == catch_all_token) || length t == 0) last.0 in (
       λ is. ends_of t (or_true (x == param_token) (ends t) tests.0 ((Decides-eqb x param_token).1 is)),
       λ is. nil_of t (or_true (x == catch_all_token) (length t == 0) tests.1 ((Decides-eqb x catch_all_token).1 is)),
@@ -53,13 +54,15 @@ apart_from : (pattern : List ℕ) (rows : List Row) (row : Row) → is_apart pat
     → not (overlaps (tokens pattern) (tokens row.0)) ≡ true
 apart_from pattern [] row e i = absurd i
 apart_from pattern (r ∷ rows) row e (inl same) =
-    subst (λ (x : Row). not (overlaps (tokens pattern) (tokens x.0)) ≡ true) (sym same) (and_parts (not (overlaps (tokens pattern) (tokens r.0))) (is_apart pattern rows) e).0
+    subst (λ (x : Row). not (overlaps (tokens pattern) (tokens x.0)) ≡ true) (sym same)
+    (and_parts (not (overlaps (tokens pattern) (tokens r.0))) (is_apart pattern rows) e).0
 apart_from pattern (r ∷ rows) row e (inr i) =
     apart_from pattern rows row (and_parts (not (overlaps (tokens pattern) (tokens r.0))) (is_apart pattern rows) e).1 i
 
 -- ---- the row that is found
 
-later : (route : Route) (path part : List ℕ) (wanted : Option (Route × List ℕ)) (rest : Option (Route × List ℕ)) (o : Option (List ℕ))
+later : (route : Route) (path part : List ℕ) (wanted : Option (Route × List ℕ)) (rest : Option (Route × List ℕ))
+    (o : Option (List ℕ))
     → ((q : List ℕ) → o ≡ Some q → ⊥) → rest ≡ wanted → or_later route o rest ≡ wanted
 later route path part wanted rest None never e = e
 later route path part wanted rest (Some q) never e = absurd (never q refl)
@@ -70,15 +73,18 @@ pub first_found : (rows : List Row) (row : Row) (path part : List ℕ) → Small
 unfolding found_in
 first_found [] row path part small good i split = absurd i
 first_found (r ∷ rows) row path part small good (inl e) split =
-    rw (takes_it r.0 path part (subst (λ (x : Row). Split x.0 path part) e split)) (ap (λ (x : Row). Some (x.1, part)) (sym e))
+    rw (takes_it r.0 path part (subst (λ (x : Row). Split x.0 path part) e split))
+    (ap (λ (x : Row). Some (x.1, part)) (sym e))
 first_found (r ∷ rows) row path part small good (inr i) split =
     let tests = good_tests r rows good in
-    let whole : (pattern : List ℕ) → is_row pattern ≡ true → Whole (tokens pattern) = λ pattern e. whole_of (tokens pattern) (row_tests pattern e).0 in
+    let whole : (pattern : List ℕ) → is_row pattern ≡ true → Whole (tokens pattern) =
+    λ pattern e. whole_of (tokens pattern) (row_tests pattern e).0 in
     let other : (q : List ℕ) → takes r.0 path ≡ Some q → ⊥ =
     (λ q e. never (overlaps (tokens r.0) (tokens row.0)) (apart_from r.0 rows row tests.1.0 i)
     (overlap (tokens r.0) (tokens row.0) path (whole r.0 tests.0) (whole row.0 (row_of rows row tests.1.1 i)) small
     (split_fits r.0 path q (taken r.0 path q e)) (split_fits row.0 path part split))) in
-    later r.1 path part _ (found_in rows path) (takes r.0 path) other (first_found rows row path part small tests.1.1 i split)
+    later r.1 path part _ (found_in rows path) (takes r.0 path) other
+    (first_found rows row path part small tests.1.1 i split)
 
 found_by : (r : Row) (rows : List Row) (path : List ℕ) (o : Option (List ℕ)) (x : Route × List ℕ) → takes r.0 path ≡ o
     → or_later r.1 o (found_in rows path) ≡ Some x
@@ -86,8 +92,12 @@ found_by : (r : Row) (rows : List Row) (path : List ℕ) (o : Option (List ℕ))
     → (found_in rows path ≡ Some x → (row : Row) × In row rows × Split row.0 path x.1)
     → (row : Row) × In row (r ∷ rows) × Split row.0 path x.1
 found_by r rows path None x is e lift more = lift (more e)
-found_by r rows path (Some part) x is e lift more =
-    (r, inl refl, subst (λ (q : List ℕ). Split r.0 path q) (ap (λ (y : Route × List ℕ). y.1) (some_of (r.1, part) x e)) (taken r.0 path part is))
+found_by r rows path (Some part) x is e lift more = (
+  r,
+  inl refl,
+  subst (λ (q : List ℕ). Split r.0 path q)
+      (ap (λ (y : Route × List ℕ). y.1) (some_of (r.1, part) x e)) (taken r.0 path part is),
+)
 
 pub found_row : (rows : List Row) (path : List ℕ) (x : Route × List ℕ) → found_in rows path ≡ Some x
     → (row : Row) × In row rows × Split row.0 path x.1
