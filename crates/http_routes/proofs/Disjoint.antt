@@ -1,26 +1,21 @@
 -- Two patterns that one path fits overlap; a table in which none do has one row for a path.
-use Rattle.std.proofs.Common.{◌≡◌, ◌≢◌, ℕ, ◌<◌, ◌≤◌, ◌==◌, List, [], ◌∷◌, ◌++◌, Bool, true, false, refl, sym, ap, ◌∙◌, subst, arith, inl, inr}
+use Rattle.std.proofs.Common.{◌≡◌, ◌≢◌, ℕ, ◌<◌, ◌≤◌, ◌==◌, List, [], ◌∷◌, ◌++◌, true, false, refl, sym, ap, ◌∙◌, subst, arith, inl, inr}
 use Rattle.std.specs.List.{All}
 use Rattle.std.proofs.lemmas.List.Elements.{All-head, All-tail}
+use Rattle.std.proofs.lemmas.Bool.{ne_eqb}
+use Rattle.std.proofs.lemmas.Bool.Decides.{Decides-eqb}
 use Rattle.matchit.specs.Seek.{slash}
 use Rattle.http_routes.proofs.Complete.{slash_fits, fits_empty, not_empty}
-use Rattle.http_routes.specs.Fits.{Fits, Ends, Whole, overlaps}
-
-tail_of : List ℕ → List ℕ
-tail_of [] = []
-tail_of (y ∷ ys) = ys
-
-head_of : List ℕ → ℕ
-head_of [] = 0
-head_of (y ∷ ys) = y
+use Rattle.http_routes.proofs.Fits.{Fits, Ends, Whole, overlaps, head_of, tail_of}
 
 Opens : List ℕ → Type 0
 Opens [] = Unit {0}
 Opens (b ∷ rest) = b ≡ slash
 
 -- two parts of one path, each before its end or a slash, are the same
-same_part : (a c r q : List ℕ) → All (λ b. b ≢ slash) a → All (λ b. b ≢ slash) c → Opens r → Opens q → a ++ r ≡ c ++ q → (a ≡ c) × (r ≡ q)
-unfolding Opens head_of tail_of
+same_part : (a c r q : List ℕ) → All (λ b. b ≢ slash) a → All (λ b. b ≢ slash) c → Opens r → Opens q → a ++ r ≡ c ++ q
+    → (a ≡ c) × (r ≡ q)
+unfolding Opens
 same_part [] [] r q pa pc opr opq e = (refl, e)
 same_part [] (y ∷ c) r q pa pc opr opq e =
     absurd (All-head (λ b. b ≢ slash) y c pc (opens_head r y (c ++ q) opr e))
@@ -35,7 +30,8 @@ same_part (x ∷ a) [] r q pa pc opr opq e =
     opens_head [] y more o e = absurd (not_empty e)
     opens_head (b ∷ r) y more o e = sym (ap head_of e) ∙ o
 same_part (x ∷ a) (y ∷ c) r q pa pc opr opq e =
-    let more = same_part a c r q (All-tail (λ b. b ≢ slash) x a pa) (All-tail (λ b. b ≢ slash) y c pc) opr opq (ap tail_of e) in
+    let more = same_part a c r q (All-tail (λ b. b ≢ slash) x a pa) (All-tail (λ b. b ≢ slash) y c pc) opr opq
+    (ap tail_of e) in
     (ap (λ (n : ℕ). n ∷ a) (ap head_of e) ∙ ap (λ (u : List ℕ). y ∷ u) more.0, more.1)
 
 opens_of : (t rest : List ℕ) → Ends t → Fits t rest → Opens rest
@@ -58,30 +54,26 @@ drop_small [] rest small = small
 drop_small (b ∷ part) rest small = drop_small part rest (All-tail (λ b. b < 256) b (part ++ rest) small)
 
 not_small : (x n : ℕ) → x < 256 → 256 ≤ n → (x == n) ≡ false
-not_small x n less big = by_test (x == n) refl
-  where
-    by_test : (t : Bool) → (x == n) ≡ t → t ≡ false
-    by_test true e = absurd (omega (arith, less, big, eq x n e))
-      where
-        eq : (x n : ℕ) → (x == n) ≡ true → x ≡ n
-        eq x n e = grind (arith, e)
-    by_test false e = refl
+not_small x n less big = ne_eqb x n (λ same. omega (arith, less, big, same))
 
 same_byte : (x y : ℕ) → x ≡ y → (x == y) ≡ true
-same_byte x y e = grind (arith, e)
+same_byte x y = (Decides-eqb x y).1
 
 pub overlap : (p q path : List ℕ) → Whole p → Whole q → Small path → Fits p path → Fits q path → overlaps p q ≡ true
-unfolding head_of tail_of
 overlap [] [] path wp wq s f g = refl
-overlap [] (y ∷ q) path wp wq s f g = absurd (not_empty (sym (fits_empty (y ∷ q) (subst (λ (u : List ℕ). Fits (y ∷ q) u) f g))))
-overlap (x ∷ p) [] path wp wq s f g = absurd (not_empty (sym (fits_empty (x ∷ p) (subst (λ (u : List ℕ). Fits (x ∷ p) u) g f))))
+overlap [] (y ∷ q) path wp wq s f g =
+    absurd (not_empty (sym (fits_empty (y ∷ q) (subst (λ (u : List ℕ). Fits (y ∷ q) u) f g))))
+overlap (x ∷ p) [] path wp wq s f g =
+    absurd (not_empty (sym (fits_empty (x ∷ p) (subst (λ (u : List ℕ). Fits (x ∷ p) u) g f))))
 overlap (x ∷ p) (y ∷ q) path wp wq s (inr (inl f)) g = rw f.0 refl
 overlap (x ∷ p) (y ∷ q) path wp wq s (inl f) (inr (inl g)) = rw (f.0, g.0) refl
 overlap (x ∷ p) (y ∷ q) path wp wq s (inr (inr f)) (inr (inl g)) =
     rw (g.0, not_small x 257 (head_small path x f.0 f.1 s) (omega arith)) refl
 overlap (x ∷ p) (y ∷ q) path wp wq s (inl f) (inl g) =
-    let same = same_part f.1 g.1 f.2 g.2 f.4.1 g.4.1 (opens_of p f.2 (wp.0 f.0) f.5) (opens_of q g.2 (wq.0 g.0) g.5) (sym f.3 ∙ g.3) in
-    rw (f.0, g.0) (overlap p q f.2 wp.2 wq.2 (drop_small f.1 f.2 (subst Small f.3 s)) f.5 (subst (λ (u : List ℕ). Fits q u) (sym same.1) g.5))
+    let same = same_part f.1 g.1 f.2 g.2 f.4.1 g.4.1 (opens_of p f.2 (wp.0 f.0) f.5) (opens_of q g.2 (wq.0 g.0) g.5)
+    (sym f.3 ∙ g.3) in
+    rw (f.0, g.0) (overlap p q f.2 wp.2 wq.2 (drop_small f.1 f.2 (subst Small f.3 s)) f.5
+    (subst (λ (u : List ℕ). Fits q u) (sym same.1) g.5))
 overlap (x ∷ p) (y ∷ q) path wp wq s (inl f) (inr (inr g)) =
     let small = head_small path y g.0 g.1 s in
     rw (f.0, not_small y 257 small (omega arith), not_small y 256 small (omega arith)) refl
@@ -98,5 +90,6 @@ overlap (x ∷ p) (y ∷ q) path wp wq s (inr (inr f)) (inr (inr g)) =
       not_small x 256 small (omega arith),
       not_small y 256 small_y (omega arith),
       same_byte x y (ap head_of same),
-      overlap p q f.0 wp.2 wq.2 (tail_small path x f.0 f.1 s) f.2 (subst (λ (u : List ℕ). Fits q u) (sym (ap tail_of same)) g.2),
+      overlap p q f.0 wp.2 wq.2 (tail_small path x f.0 f.1 s) f.2
+          (subst (λ (u : List ℕ). Fits q u) (sym (ap tail_of same)) g.2),
     ) refl

@@ -7,9 +7,11 @@ pub mod Answers
 pub mod Bodies
 pub mod MethodAnswers
 pub mod Taken
+pub mod Fits
 pub mod Sound
 pub mod Complete
 pub mod Disjoint
+pub mod Good
 pub mod Patterns
 pub mod Unique
 pub mod Rows

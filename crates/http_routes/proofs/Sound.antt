@@ -5,23 +5,24 @@ use Rattle.std.specs.List.{All}
 use Rattle.std.proofs.lemmas.List.Elements.{All-cons, All-nil}
 use Rattle.std.proofs.lemmas.List.{take-append-drop}
 use Rattle.std.proofs.Math.Seq.{take-length}
-use Rattle.std.proofs.lemmas.Bool.{ltb-true}
+use Rattle.std.proofs.lemmas.Bool.{and_parts, ltb-true}
+use Rattle.std.proofs.lemmas.Option.{none-some}
 use Rattle.matchit.specs.Rows.{RowsOf, param_token, catch_all_token}
 use Rattle.matchit.specs.Seek.{slash, segment, has_slash, cuts, better, own, step, or_else, longest_from, longest_suffix, with_suffix, param_step, seek, same_text}
-use Rattle.http_routes.specs.Fits.{FitsToken, Fits, HasRow}
-
-pub None≢Some : {K : Type 0} {k : K} → None ≡ Some k → ⊥
-None≢Some {K} {k} e = subst (λ (o : Option K). elim o as (λ _. Type 0) [ None ↦ Unit {0} | Some x ↦ ⊥ ]) e tt
+use Rattle.http_routes.proofs.Fits.{FitsToken, Fits, HasRow}
 
 own_row : {K : Type 0} (rs : RowsOf K) (k : K) → own rs ≡ Some k → HasRow [] k rs
-own_row {K} [] k e = absurd (None≢Some e)
-own_row {K} (([], l) ∷ rest) k e = inl (refl, sym (ap (λ (o : Option K). elim o as (λ _. K) [ None ↦ l | Some x ↦ x ]) e))
+own_row {K} [] k e = absurd (none-some _ e)
+own_row {K} (([], l) ∷ rest) k e =
+    inl (refl, sym (ap (λ (o : Option K). elim o as (λ _. K) [ None ↦ l | Some x ↦ x ]) e))
 own_row {K} ((x ∷ t, l) ∷ rest) k e = inr (own_row rest k e)
 
-step_by : {K : Type 0} (b x : ℕ) (t : List ℕ) (l : K) (rest : RowsOf K) (p : List ℕ) (k : K) (test : Bool) → (x == b) ≡ test
+step_by : {K : Type 0} (b x : ℕ) (t : List ℕ) (l : K) (rest : RowsOf K) (p : List ℕ) (k : K) (test : Bool)
+    → (x == b) ≡ test
     → (HasRow p k (step b rest) → HasRow (b ∷ p) k rest)
     → HasRow p k (cond test ((t, l) ∷ step b rest) (step b rest)) → HasRow (b ∷ p) k ((x ∷ t, l) ∷ rest)
-step_by b x t l rest p k true e more (inl h) = inl (ap (λ (u : List ℕ). b ∷ u) h.0 ∙ ap (λ (n : ℕ). n ∷ t) (grind (arith, e)), h.1)
+step_by b x t l rest p k true e more (inl h) =
+    inl (ap (λ (u : List ℕ). b ∷ u) h.0 ∙ ap (λ (n : ℕ). n ∷ t) (grind (arith, e)), h.1)
 step_by b x t l rest p k true e more (inr h) = inr (more h)
 step_by b x t l rest p k false e more h = inr (more h)
 
@@ -36,7 +37,8 @@ with_by t l rest some p k true more (inl h) = inl h
 with_by t l rest some p k true more (inr h) = inr (more h)
 with_by t l rest some p k false more h = inr (more h)
 
-with_suffix_row : {K : Type 0} (s : List ℕ) (rs : RowsOf K) (p : List ℕ) (k : K) → HasRow p k (with_suffix s rs) → HasRow p k rs
+with_suffix_row : {K : Type 0} (s : List ℕ) (rs : RowsOf K) (p : List ℕ) (k : K) → HasRow p k (with_suffix s rs)
+    → HasRow p k rs
 with_suffix_row s [] p k h = h
 with_suffix_row s ((t, l) ∷ rest) p k h =
     with_by t l rest (with_suffix s rest) p k (same_text (segment t) s) (λ m. with_suffix_row s rest p k m) h
@@ -46,17 +48,10 @@ with_suffix_row s ((t, l) ∷ rest) p k h =
 abbrev Short : List ℕ → List ℕ → Type 0
 Short seg best = 0 < length best → length best < length seg
 
-left_true : (a b : Bool) → (a && b) ≡ true → a ≡ true
-left_true true b e = refl
-left_true false b e = e
-
-right_true : (a b : Bool) → (a && b) ≡ true → b ≡ true
-right_true true b e = e
-right_true false b e = absurd (true≢false (sym e))
-
 better_by : (seg best suffix : List ℕ) (test : Bool) → (ltb (length best) (length suffix) && cuts seg suffix) ≡ test
     → Short seg best → Short seg (cond test suffix best)
-better_by seg best suffix true e short = λ _. ltb-true (length suffix) (length seg) (left_true _ _ (right_true _ _ e))
+better_by seg best suffix true e short =
+    λ _. ltb-true (length suffix) (length seg) (and_parts _ _ (and_parts _ _ e).1).0
 better_by seg best suffix false e short = short
 
 longest_short : {K : Type 0} (seg best : List ℕ) (rs : RowsOf K) → Short seg best → Short seg (longest_from seg best rs)
@@ -64,7 +59,8 @@ longest_short seg best [] short = short
 longest_short seg best ((t, l) ∷ rest) short =
     longest_short seg (better seg best (segment t)) rest (better_by seg best (segment t) _ refl short)
 
-plain_by : (b : ℕ) (rest : List ℕ) (test : Bool) → (b == slash) ≡ test → ((m : ℕ) → m < length (segment rest) → All (λ c. c ≢ slash) (take m rest))
+plain_by : (b : ℕ) (rest : List ℕ) (test : Bool) → (b == slash) ≡ test
+    → ((m : ℕ) → m < length (segment rest) → All (λ c. c ≢ slash) (take m rest))
     → (n : ℕ) → n < length (cond test (b ∷ []) (b ∷ segment rest)) → All (λ c. c ≢ slash) (take n (b ∷ rest))
 plain_by b rest test e more zero less = All-nil _
 plain_by b rest true e more (suc m) less = absurd (omega (arith, less))
@@ -75,7 +71,8 @@ seg_plain : (path : List ℕ) (n : ℕ) → n < length (segment path) → All (�
 seg_plain [] n less = absurd (omega (arith, less))
 seg_plain (b ∷ rest) n less = plain_by b rest (b == slash) refl (seg_plain rest) n less
 
-seg_len_by : (b : ℕ) (rest : List ℕ) (test : Bool) → length (segment rest) ≤ length rest → length (cond test (b ∷ []) (b ∷ segment rest)) ≤ length (b ∷ rest)
+seg_len_by : (b : ℕ) (rest : List ℕ) (test : Bool) → length (segment rest) ≤ length rest
+    → length (cond test (b ∷ []) (b ∷ segment rest)) ≤ length (b ∷ rest)
 seg_len_by b rest true le = omega arith
 seg_len_by b rest false le = omega (arith, le)
 
@@ -83,10 +80,12 @@ seg_len : (path : List ℕ) → length (segment path) ≤ length path
 seg_len [] = omega arith
 seg_len (b ∷ rest) = seg_len_by b rest (b == slash) (seg_len rest)
 
-slash_by : (b : ℕ) (rest : List ℕ) (test : Bool) → (b == slash) ≡ test → (has_slash rest ≡ false → All (λ c. c ≢ slash) rest)
+slash_by : (b : ℕ) (rest : List ℕ) (test : Bool) → (b == slash) ≡ test
+    → (has_slash rest ≡ false → All (λ c. c ≢ slash) rest)
     → cond test true (has_slash rest) ≡ false → All (λ c. c ≢ slash) (b ∷ rest)
 slash_by b rest true e more none = absurd (true≢false none)
-slash_by b rest false e more none = All-cons (λ c. c ≢ slash) b rest (λ is. true≢false (grind (arith, is, e))) (more none)
+slash_by b rest false e more none =
+    All-cons (λ c. c ≢ slash) b rest (λ is. true≢false (grind (arith, is, e))) (more none)
 
 no_slash : (path : List ℕ) → has_slash path ≡ false → All (λ c. c ≢ slash) path
 no_slash [] e = All-nil _
@@ -94,7 +93,8 @@ no_slash (b ∷ rest) e = slash_by b rest (b == slash) refl (no_slash rest) e
 
 -- ---- a parameter
 
-taken : (p : List ℕ) (b : ℕ) (path : List ℕ) (n : ℕ) → 0 < n → n ≤ length (b ∷ path) → All (λ c. c ≢ slash) (take n (b ∷ path))
+taken : (p : List ℕ) (b : ℕ) (path : List ℕ) (n : ℕ) → 0 < n → n ≤ length (b ∷ path)
+    → All (λ c. c ≢ slash) (take n (b ∷ path))
     → Fits p (drop (n - 1) path) → FitsToken param_token (Fits p) (b ∷ path)
 taken p b path zero some within plain fits = absurd (omega (arith, some))
 taken p b path (suc m) some within plain fits =
@@ -123,12 +123,14 @@ param_by rs b path p k long true t2 short e1 e2 row fits =
     let bound = seg_len (b ∷ path) in
     let n = length (segment (b ∷ path)) - length long in (
       with_suffix_row long rs p k row,
-      taken p b path n (omega (arith, less)) (omega (arith, bound)) (seg_plain (b ∷ path) n (omega (arith, less, some))) fits,
+      taken p b path n (omega (arith, less)) (omega (arith, bound))
+          (seg_plain (b ∷ path) n (omega (arith, less, some))) fits,
     )
 param_by rs b path p k long false true short e1 e2 row fits = absurd row
 param_by rs b path p k long false false short e1 e2 row fits = (
   row,
-  taken p b path (length (b ∷ path)) (omega arith) (omega arith) (subst (λ (u : List ℕ). All (λ c. c ≢ slash) u) (sym (take-length (b ∷ path))) (no_slash (b ∷ path) e2)) fits,
+  taken p b path (length (b ∷ path)) (omega arith) (omega arith)
+      (subst (λ (u : List ℕ). All (λ c. c ≢ slash) u) (sym (take-length (b ∷ path))) (no_slash (b ∷ path) e2)) fits,
 )
 
 param_fits : {K : Type 0} (rs : RowsOf K) (b : ℕ) (path p : List ℕ) (k : K) → HasRow p k (param_step rs (b ∷ path)).1
@@ -153,7 +155,8 @@ pub no_drop : (n : ℕ) → drop {A = ℕ} n [] ≡ []
 no_drop zero = refl
 no_drop (suc n) = refl
 
-pub sound : {K : Type 0} (path : List ℕ) (skip : ℕ) (rs : RowsOf K) (k : K) → seek skip rs path ≡ Some k → Found rs (drop skip path) k
+pub sound : {K : Type 0} (path : List ℕ) (skip : ℕ) (rs : RowsOf K) (k : K) → seek skip rs path ≡ Some k
+    → Found rs (drop skip path) k
 unfolding seek
 sound [] skip rs k e = ([], own_row rs k e, no_drop skip)
 sound (b ∷ path) (suc skip) rs k e = sound path skip rs k e
@@ -165,4 +168,9 @@ sound (b ∷ path) zero rs k e =
     (λ e2. let f = sound path _ _ k e2 in
     let g = param_fits (step param_token rs) b path f.0 k f.1 f.2 in
     (param_token ∷ f.0, step_row param_token rs f.0 k g.0, g.1))
-    (λ e3. (catch_all_token ∷ [], step_row catch_all_token rs [] k (own_row (step catch_all_token rs) k e3), inr (inl (refl, omega arith))))
+    (λ e3. (
+      catch_all_token ∷ [],
+      step_row catch_all_token rs [] k (own_row (step catch_all_token rs) k e3),
+      inr
+          (inl (refl, omega arith)),
+    ))

@@ -1,12 +1,17 @@
--- The table is good.
-use Rattle.std.proofs.Common.{◌≡◌, true, refl, []}
+-- The table of paths is good.
+use Rattle.std.proofs.Common.{◌≡◌, true, [], refl}
 use Rattle.matchit.proofs.OnLiterals.{matchit_on_literals}
 use Rattle.http_routes.specs.Paths.{table}
-use Rattle.http_routes.specs.Routers.{are_new, are_good, are_whole, the_router, with_rows}
+use Rattle.http_routes.specs.Routers.{are_new, the_router, with_rows}
+use Rattle.http_routes.proofs.Good.{are_good, are_read, are_whole}
 
 pub table_new : are_new table [] ≡ true
 unfolding matchit_on_literals
 table_new = refl
+
+pub table_read : are_read table ≡ true
+unfolding matchit_on_literals
+table_read = refl
 
 pub table_good : are_good table ≡ true
 table_good = refl

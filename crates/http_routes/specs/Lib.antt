@@ -9,6 +9,5 @@ pub mod PreparedQueries
 pub mod Agents
 pub mod Methods
 pub mod Paths
-pub mod Fits
 pub mod Routers
 pub mod Routes

@@ -1,6 +1,5 @@
 -- The two parts of a target, and the parameter of a path (RFC 3986, sections 2.1, 3.3 and 3.4).
-use Rattle.std.specs.Prelude.{ℕ, ◌-◌, nat_eq, if◌then◌else◌, List, length, take, drop, Option, None, Some, Result, Ok}
-use Rattle.std.specs.List.{starts_with, ends_with}
+use Rattle.std.specs.Prelude.{ℕ, if◌then◌else◌, List, Result, Ok}
 use Rattle.std.specs.Str.{is_utf8}
 use Rattle.form_urlencoded.specs.Form.{split_once}
 use Rattle.percent_encoding.specs.Percent.{percent_decode}
@@ -14,14 +13,6 @@ path_of target = (split_once 63 target).0
 
 abbrev pub query_of : List ℕ → List ℕ
 query_of target = (split_once 63 target).1
-
--- what follows the front
-abbrev pub behind : List ℕ → List ℕ → Option (List ℕ)
-behind front path = if starts_with nat_eq path front then Some (drop (length front) path) else None
-
--- what stands before the back
-abbrev pub ahead_of : List ℕ → List ℕ → Option (List ℕ)
-ahead_of back path = if ends_with nat_eq path back then Some (take (length path - length back) path) else None
 
 -- A parameter is percent-decoded once, and is then a text.
 unfoldable pub text_of : Parameter → List ℕ → Result (List ℕ) RouteError

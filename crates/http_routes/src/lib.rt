@@ -19,4 +19,4 @@ mod table;
 mod target;
 
 pub use error::{Allow, Parameter, RouteError};
-pub use routing::route;
+pub use routing::{Routes, route};

@@ -20,6 +20,7 @@ use crate::target::split;
 use cat_model::{Asked, Memory, Request};
 use matchit::Router;
 use std::alloc::Global;
+use std::marker::Model;
 
 /// What a method of the route asks for.
 #[tactic(auto, unfolding(crate::specs::Routes::methods))]
@@ -68,15 +69,54 @@ fn request(
     }
 }
 
-/// What a method, a target and a body ask for: the request, or its refusal. The target is a path and maybe `?` and a
-/// query, as the request line has them (RFC 9112, section 3.2.1).
-#[tactic(auto, unfolding(crate::specs::Routes::route_of), using(crate::proofs::Refused::refused_is))]
+/// The table of paths, ready to look up in. To make it takes many times as long as a look-up.
+#[derive(Drop)]
+pub struct Routes {
+    router: Router<Entry>,
+}
+
+impl Model for Routes {
+    ghost use Rattle.std.specs.Prelude.{◌≡◌};
+    ghost use Rattle.http_routes.specs.Routers.{Routed, the_router};
+
+    ghost Value = { Routed };
+
+    ghost view = { λ routes. routes.router };
+
+    ghost invariant = { λ routes. routes.router ≡ the_router };
+}
+
+impl Routes {
+    pub fn new(alloc: Global) -> Result<Routes, Memory>
+        ensures { IfOk result (λ routes. routes ≡ the_router) }
+    {
+        Ok(Routes {
+            router: routed(alloc)?,
+        })
+    }
+
+    /// What a method, a target and a body ask for: the request, or its refusal. The target is a path and maybe `?` and a
+    /// query, as the request line has them (RFC 9112, section 3.2.1).
+    #[tactic(auto, unfolding(crate::specs::Routes::route_of), using(crate::proofs::Refused::refused_is))]
+    pub fn route(
+        &self,
+        alloc: Global,
+        method: &[u8],
+        target: &[u8],
+        body: &[u8],
+    ) -> Result<Asked, Memory>
+        ensures { IfOk result (λ asked. asked ≡ route_of method.now target.now body.now) }
+    {
+        match request(alloc, &self.router, method, target, body) {
+            Ok(request) => Ok(Asked::Good(request)),
+            Err(why) => Ok(Asked::Bad(why.refusal(alloc)?)),
+        }
+    }
+}
+
+/// The same with a table of its own.
 pub fn route(alloc: Global, method: &[u8], target: &[u8], body: &[u8]) -> Result<Asked, Memory>
     ensures { IfOk result (λ asked. asked ≡ route_of method.now target.now body.now) }
 {
-    let router = routed(alloc)?;
-    match request(alloc, &router, method, target, body) {
-        Ok(request) => Ok(Asked::Good(request)),
-        Err(why) => Ok(Asked::Bad(why.refusal(alloc)?)),
-    }
+    Routes::new(alloc)?.route(alloc, method, target, body)
 }

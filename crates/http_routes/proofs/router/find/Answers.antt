@@ -1,4 +1,4 @@
-use Rattle.std.proofs.Common.{◌≡◌, Some, sym, ap, ◌∙◌, ap₂}
+use Rattle.std.proofs.Common.{Some, sym, ap, ◌∙◌, ap₂}
 use Rattle.matchit.specs.Seek.{first}
 use Rattle.http_routes.proofs.Found.{are_bytes, router_finds}
 use Rattle.http_routes.proofs.router.find.Goals as goal
