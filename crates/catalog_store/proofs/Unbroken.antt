@@ -1,5 +1,5 @@
 -- A session that was whole is broken only by a check that the command makes critical or takes away.
-use Rattle.std.proofs.Common.{◌≡◌, ℕ, Bool, true, false, not, cond, List, [], ◌∷◌, refl, sym, ◌∙◌, ap, subst, Option, Some, None, is_some, filter, ◌&&◌, ◌||◌}
+use Rattle.std.proofs.Common.{◌≡◌, ℕ, Bool, true, false, not, cond, List, [], ◌∷◌, refl, sym, ◌∙◌, ap, subst, Option, Some, None, is_some, filter, map, ◌&&◌, ◌||◌}
 use Rattle.std.specs.List.{AllByRecursion, cons_option, filter_map, list_any}
 use Rattle.std.specs.Ordering.{is_eq}
 use Rattle.std.proofs.lemmas.Bool.{true≢false, false≢true}
@@ -112,6 +112,10 @@ apart_each lost (id ∷ ids) h = (
 
 apart : (node : List ℕ) (lost : List (List ℕ)) (s : SessionRow) → is_of_node node s ≡ true → is_on_some node lost s ≡ false → AllByRecursion (Apart lost) s.checks
 apart node lost s own off = apart_each lost s.checks (none_weaker (λ l. is_on node l s) (λ l. has_check l s.checks) (λ l e. (λ j. own j && (is_empty l || e j)) ∙ or_true (is_empty l)) lost off)
+
+any_of_map : {A : Type 0} (q : List ℕ → Bool) (g : A → List ℕ) (xs : List A) → list_any q (map g xs) ≡ list_any (λ x. q (g x)) xs
+any_of_map q g [] = refl
+any_of_map q g (x ∷ xs) = ap (λ b. q (g x) || b) (any_of_map q g xs)
 
 any_chosen : {A : Type 0} (q : List ℕ → Bool) (m : A → Bool) (g : A → List ℕ) (xs : List A) → list_any q (filter_map (λ x. cond (m x) (Some (g x)) None) xs) ≡ list_any (λ x. m x && q (g x)) xs
 any_chosen q m g [] = refl
@@ -239,13 +243,15 @@ module _ (node name id : List ℕ) (rows : List CheckRow) where
       left : CheckRow → Bool
       left r = not (same_text r.node node && same_text r.service service)
 
+      own : CheckRow → Bool
+      own r = same_text r.node node && same_text r.service service
+
       taken : (c : CheckRow) → check_at (name, id) rows ≡ Some c → same_text c.node node ≡ true → same_text c.service service ≡ true → list_any (same_text id) (ids_in_service node service rows) ≡ true
       taken c at on in_it =
           let same : same_text id c.id ≡ true = (text_decides id c.id).1 (ap (λ q. q.1) (key_of_found pair_cmp check_key pair_cmp_total exact_pair (name, id) rows c at)) in
-          let there : check_at (name, id) (filter (λ r. same_text r.node node) rows) ≡ Some c =
-          row_at-where pair_cmp check_key pair_cmp_total exact_pair (λ (r : CheckRow). same_text r.node node) (name, id) rows asc ∙ ap (row_where (λ (r : CheckRow). same_text r.node node)) at ∙ ap (λ b. cond b (Some c) None) on in
-          any_chosen (same_text id) (λ (r : CheckRow). same_text r.service service) (λ (r : CheckRow). r.id) (filter (λ r. same_text r.node node) rows)
-          ∙ any_found (λ r. same_text r.service service && same_text id r.id) (filter (λ r. same_text r.node node) rows) c there (λ j. in_it j && same j)
+          let there : check_at (name, id) (filter own rows) ≡ Some c =
+          row_at-where pair_cmp check_key pair_cmp_total exact_pair own (name, id) rows asc ∙ ap (row_where own) at ∙ ap (λ b. cond b (Some c) None) (λ j. on j && in_it j) in
+          any_of_map (same_text id) (λ (r : CheckRow). r.id) (filter own rows) ∙ any_found (λ r. same_text id r.id) (filter own rows) c there same
 
       by : (c : CheckRow) → check_at (name, id) rows ≡ Some c → (a : Bool) → same_text c.node node ≡ a → (b : Bool) → same_text c.service service ≡ b → is_well (Some c) ≡ true → is_well (cond (not (a && b)) (Some c) None) ≡ true
       by c at true e true f g = absurd (true≢false (sym (taken c at e f) ∙ differs))

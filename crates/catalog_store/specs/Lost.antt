@@ -1,5 +1,5 @@
 -- The checks that a command makes critical or takes away, which are those that can break a session.
-use Rattle.std.specs.Prelude.{◌≡◌, ℕ, Bool, true, false, if◌then◌else◌, List, [], ◌∷◌, Option, Some, None, filter}
+use Rattle.std.specs.Prelude.{◌≡◌, ℕ, Bool, true, false, if◌then◌else◌, List, [], ◌∷◌, Option, Some, None, filter, map, ◌&&◌}
 use Rattle.std.specs.List.{AllByRecursion, filter_map}
 use Rattle.cat_model.specs.Keys.{is_empty, same_text}
 use Rattle.cat_model.specs.Machine.{broken}
@@ -16,16 +16,13 @@ use Rattle.session_table.specs.Nodes.{is_of_node, is_on_some}
 abbrev pub is_critical : NewCheck → Bool
 is_critical c = same_status c.status Critical
 
--- the ID of the check, where it is critical, and where it is of the service
+-- the ID of the check, where it is critical
 abbrev pub critical_id : NewCheck → Option (List ℕ)
 critical_id c = if is_critical c then Some c.id else None
 
-abbrev pub id_in : List ℕ → CheckRow → Option (List ℕ)
-id_in service r = if same_text r.service service then Some r.id else None
-
 -- the checks of the node's service
 abbrev pub ids_in_service : List ℕ → List ℕ → List CheckRow → List (List ℕ)
-ids_in_service node service rows = filter_map (id_in service) (filter (λ r. same_text r.node node) rows)
+ids_in_service node service rows = map (λ r. r.id) (filter (λ r. same_text r.node node && same_text r.service service) rows)
 
 -- the checks of its node that a command makes critical or takes away; an empty one stands for all
 abbrev pub lost_checks : Command → List CheckRow → List (List ℕ)

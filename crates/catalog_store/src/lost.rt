@@ -1,12 +1,12 @@
 //! The checks that a command makes critical or takes away.
 
 ghost use Rattle.std.specs.Prelude.{◌≡◌, ◌∷◌, [], IfOk, if◌then◌else◌};
-ghost use Rattle.cat_model.specs.Keys.{is_empty, same_text};
-ghost use Rattle.catalog_store.specs.Lost.{critical_id, id_in, ids_in_service, is_critical, lost_checks};
+ghost use Rattle.cat_model.specs.Keys.{is_empty};
+ghost use Rattle.catalog_store.specs.Lost.{critical_id, ids_in_service, is_critical, lost_checks};
 
 use cat_model::{CheckRow, Command, List, Memory, NewCheck, Status, Text, Texts};
 use catalog_table::CatalogTable;
-use lists::{chosen, copy_of, one};
+use lists::{chosen, copy_of, made, one};
 use std::alloc::Global;
 
 fn is_critical(check: &NewCheck) -> bool
@@ -25,20 +25,10 @@ fn critical_id(check: &NewCheck) -> Result<Option<Text>, Memory>
     Ok(Some(copy_of(&check.id)?))
 }
 
-fn is_same(text: &Text, other: &Text) -> bool
-    ensures { result ≡ same_text text.now other.now }
+fn id_of(row: &CheckRow) -> Result<Text, Memory>
+    ensures { IfOk result (λ id. id ≡ row.now.id) }
 {
-    text.as_str() == other.as_str()
-}
-
-// The ID of the check, where it is of the service.
-fn id_in(service: &Text, row: &CheckRow) -> Result<Option<Text>, Memory>
-    ensures { IfOk result (λ id. id ≡ id_in service.now row.now) }
-{
-    if !is_same(&row.service, service) {
-        return Ok(None);
-    }
-    Ok(Some(copy_of(&row.id)?))
+    copy_of(&row.id)
 }
 
 // The checks of the node's service.
@@ -50,8 +40,8 @@ fn ids_in_service(
 ) -> Result<Texts, Memory>
     ensures { IfOk result (λ l. l ≡ ids_in_service node.now service.now catalog.now.now.checks) }
 {
-    let rows = catalog.checks_of(alloc, node.as_str())?;
-    chosen(alloc, rows.as_slice(), |r| id_in(service, r))
+    let rows = catalog.checks_of_service(alloc, node.as_str(), service.as_str())?;
+    made(alloc, rows.as_slice(), |r| id_of(r))
 }
 
 // The checks that a Deregister takes away.

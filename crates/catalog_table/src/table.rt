@@ -1,4 +1,4 @@
-ghost use Rattle.std.specs.Prelude.{◌≡◌, ℕ, List as Items, IfErr, IfOk, OnErr, OnOk, filter, not};
+ghost use Rattle.std.specs.Prelude.{◌&&◌, ◌≡◌, ℕ, List as Items, IfErr, IfOk, OnErr, OnOk, filter, not};
 ghost use Rattle.std.specs.List.{IsDistinct};
 ghost use Rattle.std.specs.Option.{option_copied};
 ghost use Rattle.cat_model.specs.Keys.{text_cmp, pair_cmp, same_text};
@@ -94,6 +94,18 @@ impl CatalogTable {
         ensures { IfOk result (λ l. l ≡ filter (λ r. same_text r.node node.now) self.now.now.checks) }
     {
         self.checks.of_node(alloc, node)
+    }
+
+    /// Copies of the checks of a service of the node, by ID.
+    pub fn checks_of_service(
+        &self,
+        alloc: Global,
+        node: &str,
+        service: &str,
+    ) -> Result<List<CheckRow>, Memory>
+        ensures { IfOk result (λ l. l ≡ filter (λ r. same_text r.node node.now && same_text r.service service.now) self.now.now.checks) }
+    {
+        self.checks.of_service(alloc, node, service)
     }
 
     /// Copies of the checks in this state, by node and then by ID.
