@@ -29,7 +29,7 @@ use Rattle.serve_loop.specs.declared.cause.Cause.{Cause}
 use Rattle.serve_loop.specs.declared.cause.Cause.TheVariants as cause
 use Rattle.serve_loop.specs.Replies.{refusing, text_of}
 use Rattle.serve_loop.specs.Waiting.{Grows, IsAnswered}
-use Rattle.serve_loop.specs.Serving.{Connection, Exchange, continued, replied, items_of, bytes_of, count_of, last_bytes, asked_by, IsReply, IsReplyTo, IsResponse, draw_of, unrouted, not_taken, answered, AreTrue, IsLater, Passed, Came, IsCut, IsWhole, EndsBy}
+use Rattle.serve_loop.specs.Serving.{Connection, Exchange, continued, replied, items_of, bytes_of, count_of, last_bytes, asked_by, IsReply, IsReplyTo, IsResponse, draw_of, unrouted, answered, AreTrue, IsLater, Passed, Came, IsCut, IsWhole, EndsBy}
 use Rattle.serve_loop.specs.Stages.{IsAfterWrite, StopsBy, Wrote, Stage, Talks, Owes, OwesRefusal, Comes, GoesOn, IsTaking}
 use Rattle.serve_loop.proofs.OwnTurns.{grows_none, grows_on}
 use Rattle.serve_loop.proofs.Written.{known_nil, known_on, rose_from}
@@ -135,7 +135,7 @@ module _ (shows : ℕ → Ask → Reply → List Mark → Type 0) (c : Connectio
   came_whole : (link : LinkState) (v : Knowledge Mark) (es : List Exchange) (stream rest : List ℕ) → Passed shows c link v es (stream ++ rest) (bytes_of es) → GivesAll stream (items_of es) None → Came shows c link v es None rest []
   came_whole link v es stream rest p gives = record { stream = stream; written = bytes_of es; passed = p; gives = gives; due = refl }
 
-  so_far : (s : Stage) (rest : List ℕ) → Talks shows c s rest → IsCut shows c s.link s.known s.requests
+  pub so_far : (s : Stage) (rest : List ℕ) → Talks shows c s rest → IsCut shows c s.link s.known s.requests
   so_far s rest x = let n = x.count in record {
     es = x.es;
     rejection = None;

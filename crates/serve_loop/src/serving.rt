@@ -24,8 +24,8 @@ use crate::writing::{send, send_continue, send_refusal};
 use cat_model::{Asked, Draw, Memory, Request};
 use cat_outside::Failed;
 use crossbeam_utils::CachePadded;
+use http_routes::Routes;
 use http_routes::laws::routes_are_taken;
-use http_routes::route;
 use http_wire::{Fed, Got, RawRequest, Rejection, RequestReader};
 use open_requests::Reply;
 use serve_outside::{Clock, Gate, Link};
@@ -133,12 +133,12 @@ fn respond<R: Wait, C: SharedCluster, Cl: Clock, G: Gate, L: Link>(
 }
 
 // What a request asks for.
-fn routed(alloc: Global, message: &RawRequest) -> Result<Asked, Memory>
+fn routed(alloc: Global, routes: &Routes, message: &RawRequest) -> Result<Asked, Memory>
     ensures asked { IfOk result (λ asked. asked ≡ asked_by (raw message.now)) }
     ensures taken { IfOk result IsTakenAsked }
 {
     routes_are_taken();
-    route(
+    routes.route(
         alloc,
         message.method.as_str().as_bytes(),
         message.target.as_str().as_bytes(),
@@ -149,6 +149,7 @@ fn routed(alloc: Global, message: &RawRequest) -> Result<Asked, Memory>
 // The reply to the n-th request.
 fn reply_to<R: Wait, C: SharedCluster, Cl: Clock, G: Gate, L: Link>(
     service: &Service<R, Served<C>, Cl, G, L>,
+    routes: &Routes,
     pass: &mut Pass<Served<C>>,
     message: &RawRequest,
     n: u64,
@@ -159,7 +160,7 @@ fn reply_to<R: Wait, C: SharedCluster, Cl: Clock, G: Gate, L: Link>(
     ensures grown { Grows (known pass.old) (known pass.new) }
     ensures reply { IfOk result (λ reply. IsReply C.shows (connection L.state service.now) (raw message.now) n reply (known pass.new)) }
 {
-    match routed(service.alloc, message) {
+    match routed(service.alloc, routes, message) {
         Ok(asked) => respond(service, pass, asked, n),
         Err(Memory) => Err(Memory),
     }
@@ -220,6 +221,7 @@ impl<L: Link, C: SharedCluster> Serving<L, Served<C>> {
     fn answer<R: Wait, Cl: Clock, G: Gate>(
         &mut self,
         service: &Service<R, Served<C>, Cl, G, L>,
+        routes: &Routes,
         message: &RawRequest,
     ) -> Result<(), Cause>
         requires ours { IsOurs (arc_value service.now.board) self.old.pass }
@@ -231,7 +233,7 @@ impl<L: Link, C: SharedCluster> Serving<L, Served<C>> {
         let Some(n) = self.requests.checked_add(1) else {
             return Err(Cause::Memory);
         };
-        match reply_to(service, &mut self.pass, message, n) {
+        match reply_to(service, routes, &mut self.pass, message, n) {
             Ok(reply) => {
                 let given = self.give(service, message, &reply, n);
                 drop(reply);
@@ -245,6 +247,7 @@ impl<L: Link, C: SharedCluster> Serving<L, Served<C>> {
     fn handle<R: Wait, Cl: Clock, G: Gate>(
         &mut self,
         service: &Service<R, Served<C>, Cl, G, L>,
+        routes: &Routes,
         got: Got,
     ) -> Result<(), Cause>
         requires ours { IsOurs (arc_value service.now.board) self.old.pass }
@@ -258,7 +261,7 @@ impl<L: Link, C: SharedCluster> Serving<L, Served<C>> {
             Got::More => Ok(()),
             Got::Continue => self.go_on(service),
             Got::Message(message) => {
-                let answered = self.answer(service, &message);
+                let answered = self.answer(service, routes, &message);
                 drop(message);
                 answered
             }
@@ -271,6 +274,7 @@ impl<L: Link, C: SharedCluster> Serving<L, Served<C>> {
     fn take_some<R: Wait, Cl: Clock, G: Gate>(
         &mut self,
         service: &Service<R, Served<C>, Cl, G, L>,
+        routes: &Routes,
         piece: &[u8],
     ) -> Result<usize, Cause>
         requires some { 0 < length piece.now }
@@ -284,7 +288,7 @@ impl<L: Link, C: SharedCluster> Serving<L, Served<C>> {
             (λ why. EndsBy C.shows (connection L.state service.now) why (L.state self.new.link) (known self.new.pass) self.new.requests) }
     {
         let Fed { used, got } = self.reader.feed(piece);
-        match self.handle(service, got) {
+        match self.handle(service, routes, got) {
             Ok(()) => Ok(used),
             Err(why) => Err(why),
         }
@@ -294,6 +298,7 @@ impl<L: Link, C: SharedCluster> Serving<L, Served<C>> {
     fn take_piece<R: Wait, Cl: Clock, G: Gate>(
         &mut self,
         service: &Service<R, Served<C>, Cl, G, L>,
+        routes: &Routes,
         piece: &[u8],
     ) -> Result<(), Cause>
         requires ours { IsOurs (arc_value service.now.board) self.old.pass }
@@ -304,7 +309,7 @@ impl<L: Link, C: SharedCluster> Serving<L, Served<C>> {
     {
         let mut done = 0;
         while done < piece.len() {
-            match self.take_some(service, &piece[done..]) {
+            match self.take_some(service, routes, &piece[done..]) {
                 Ok(used) => done += used,
                 Err(why) => return Err(why),
             }
@@ -334,6 +339,31 @@ impl<L: Link, C: SharedCluster> Serving<L, Served<C>> {
         }
     }
 
+    // Serves the connection to its end by these routes, and says why it ended.
+    fn serve_by<R: Wait, Cl: Clock, G: Gate>(
+        &mut self,
+        service: &Service<R, Served<C>, Cl, G, L>,
+        routes: &Routes,
+    ) -> Cause
+        requires ours { IsOurs (arc_value service.now.board) self.old.pass }
+        requires agent { (0 < service.now.agent) × (service.now.agent ≤ C.agents) }
+        requires talks { Talks C.shows (connection L.state service.now) (stage L.state self.old) [] }
+        ensures ours { IsOurs (arc_value service.now.board) self.new.pass }
+        ensures ends { EndsBy C.shows (connection L.state service.now) result (L.state self.new.link) (known self.new.pass) self.new.requests }
+    {
+        let mut buffer = [0; ROOM];
+        for _ in service.rt.forever() {
+            match self.read_some(service, &mut buffer) {
+                Ok(count) => match self.take_piece(service, routes, &buffer[..count]) {
+                    Ok(()) => {}
+                    Err(why) => return why,
+                },
+                Err(why) => return why,
+            }
+        }
+        unreachable!()
+    }
+
     /// Serves the connection to its end, and says why it ended.
     pub(crate) fn serve<R: Wait, Cl: Clock, G: Gate>(
         &mut self,
@@ -345,16 +375,9 @@ impl<L: Link, C: SharedCluster> Serving<L, Served<C>> {
         ensures ours { IsOurs (arc_value service.now.board) self.new.pass }
         ensures ends { EndsBy C.shows (connection L.state service.now) result (L.state self.new.link) (known self.new.pass) self.new.requests }
     {
-        let mut buffer = [0; ROOM];
-        for _ in service.rt.forever() {
-            match self.read_some(service, &mut buffer) {
-                Ok(count) => match self.take_piece(service, &buffer[..count]) {
-                    Ok(()) => {}
-                    Err(why) => return why,
-                },
-                Err(why) => return why,
-            }
+        match Routes::new(service.alloc) {
+            Ok(routes) => self.serve_by(service, &routes),
+            Err(Memory) => Cause::Memory,
         }
-        unreachable!()
     }
 }

@@ -9,7 +9,7 @@ use Rattle.serve_loop.proofs.job.serve_connection.Goals as goal
 
 pub serve-cause-requires-clause-talks : goal.serve-cause-requires-clause-talks
 serve-cause-requires-clause-talks g c =
-    let j = c.args.job in let state = g.L.Link.state in let shows = g.C.SharedCluster.shows in let takes = g.C.SharedCluster.takes in
+    let j = c.args.job in let state = g.L.Link.state in let shows = g.C.SharedCluster.shows in
     let k : Connection = record { agent = j.agent; draw = j.draw; first = state c.of.result.value; begun = known c.of-2.result.value } in
     let told = subst (λ (o : Option Stop). Told [] [] j.reader.held o) c.requires.fresh.0 c.requires.fresh.1 in
     let unshut = ap (λ (l : _). (state l).shut) c.of.ensures ∙ c.requires.unshut in
