@@ -23,10 +23,9 @@ use Rattle.script_lang.specs.Words.{is_nothing, rest_of, words_of}
 use Rattle.script_runs.specs.Lines.{Said, Makes, Refuses, Settles}
 use Rattle.script_player.specs.declared.opening.Opening.{Opening}
 use Rattle.script_player.specs.Line.{lines_of}
-use Rattle.script_player.specs.Script.{Script, Opened, said, said_of, is_built, opened_at, opened_by, opening_of, script_from, script_of}
+use Rattle.script_player.specs.Script.{Script, Opened, said, said_of, opened_at, opened_by, opening_of, script_from, script_of}
 use Rattle.load_player.proofs.Decimals.{and_true, is_some_text, number_read}
 use Rattle.load_player.proofs.Lines.{load_lines_are}
-use Rattle.load_player.proofs.Routes.{put_built, get_built, delete_built}
 use Rattle.load_player.proofs.Words.{target, target_is_token, put_words, get_words, delete_words, opening_words}
 
 -- what a line says by its words
@@ -56,15 +55,14 @@ abbrev pub AsksOne : Said → Type 0
 AsksOne says = (what : Asked) × (draw : Draw) × (says ≡ Makes (Ask 1 what draw))
 
 asks_one : (seed number : ℕ) (text method body : List ℕ) (k : ℕ) (more : List (List ℕ)) → is_nothing text ≡ false → words_of text ≡ codes "http" ∷ codes "1" ∷ method ∷ target k ∷ more →
-    is_token method ≡ true → k < 2 ^ 64 → body_of (rest_of more) ≡ Ok body → is_built (Ask 1 (route_of method (target k) body) (record { hi = seed; lo = number })) ≡ true →
+    is_token method ≡ true → k < 2 ^ 64 → body_of (rest_of more) ≡ Ok body →
     AsksOne (said seed number text)
-asks_one seed number text method body k more some words is small read built =
+asks_one seed number text method body k more some words is small read =
     let what = route_of method (target k) body in
     let draw : Draw = record { hi = seed; lo = number } in
     (what, draw,
       said_words seed number text (codes "http" ∷ codes "1" ∷ method ∷ target k ∷ more) some words
-      ∙ ap said_of (asking_is seed number method body k more is small read)
-      ∙ ap (λ (t : Bool). cond t (Makes (Ask 1 what draw)) (Refuses (codes "not built"))) built)
+      ∙ ap said_of (asking_is seed number method body k more is small read))
 
 wide : (k : ℕ) → k < 1000 → k < 2 ^ 64
 wide k small = omega (arith, small)
@@ -72,11 +70,10 @@ wide k small = omega (arith, small)
 pub request_said : (seed number : ℕ) (method : Method) (j k : ℕ) → j < 2 ^ 64 → k < 1000 → AsksOne (said seed number (request method j k))
 request_said seed number Put j k small key =
     asks_one seed number (request Put j k) (codes "PUT") (codes "v" ++ decimal j) k ((codes "=v" ++ decimal j) ∷ []) refl (put_words j k small (wide k key)) refl (wide k key) refl
-    (put_built k (codes "v" ++ decimal j) (record { hi = seed; lo = number }) (wide k key))
 request_said seed number Get j k small key =
-    asks_one seed number (request Get j k) (codes "GET") [] k [] refl (get_words j k (wide k key)) refl (wide k key) refl (get_built k [] (record { hi = seed; lo = number }) (wide k key))
+    asks_one seed number (request Get j k) (codes "GET") [] k [] refl (get_words j k (wide k key)) refl (wide k key) refl
 request_said seed number Delete j k small key =
-    asks_one seed number (request Delete j k) (codes "DELETE") [] k [] refl (delete_words j k (wide k key)) refl (wide k key) refl (delete_built k [] (record { hi = seed; lo = number }) (wide k key))
+    asks_one seed number (request Delete j k) (codes "DELETE") [] k [] refl (delete_words j k (wide k key)) refl (wide k key) refl
 
 pub settle_said : (seed number : ℕ) → said seed number (codes "settle 64") ≡ Settles 64
 settle_said seed number = refl
