@@ -12,6 +12,7 @@ use crate::numbers::{Bounds, number_in, one_number, two_numbers};
 use crate::requests::asked_of;
 use crate::words::{cut, is_nothing, last_word, next_word};
 use cat_model::{Draw, Event};
+use http_routes::Routes;
 use std::alloc::Global;
 
 /// What a line of a script says.
@@ -83,6 +84,7 @@ fn opening(words: Option<&[u8]>) -> Result<Line, BadLine>
 // The request of an agent, with its draw.
 fn asks(
     alloc: Global,
+    routes: &Routes,
     number: u64,
     seed: u64,
     agent: u32,
@@ -92,7 +94,7 @@ fn asks(
 ) -> Result<Line, BadLine>
     ensures { UnlessMemory result (spec.asks number seed agent method.now target.now (option_copied rest.entry)) }
 {
-    let asked = asked_of(alloc, method, target, rest)?;
+    let asked = asked_of(alloc, routes, method, target, rest)?;
     Ok(Line::Event(Event::Ask {
         agent,
         asked,
@@ -104,14 +106,29 @@ fn asks(
 }
 
 // `http A METHOD TARGET`, with more for a body
-fn asking(alloc: Global, number: u64, seed: u64, words: Option<&[u8]>) -> Result<Line, BadLine>
+fn asking(
+    alloc: Global,
+    routes: &Routes,
+    number: u64,
+    seed: u64,
+    words: Option<&[u8]>,
+) -> Result<Line, BadLine>
     ensures { UnlessMemory result (spec.asking number seed (words_in (option_copied words.entry))) }
 {
     let (agent, words) = next_word(words)?;
     let (method, words) = next_word(words)?;
     let (target, rest) = next_word(words)?;
     let agent = number_in(ANY_32, agent)?;
-    asks(alloc, number, seed, agent as u32, method, target, rest)
+    asks(
+        alloc,
+        routes,
+        number,
+        seed,
+        agent as u32,
+        method,
+        target,
+        rest,
+    )
 }
 
 // The number of a server or an agent.
@@ -157,6 +174,7 @@ fn agent_tick(words: Option<&[u8]>) -> Result<Line, BadLine>
 // A line of the form with these words after the first one.
 fn said(
     alloc: Global,
+    routes: &Routes,
     number: u64,
     seed: u64,
     form: Form,
@@ -176,7 +194,7 @@ fn said(
         Form::Settle => settle(words),
         Form::FailKeep => fail_keep(words),
         Form::Sync => Ok(Line::Event(Event::Sync(one_of_32(words)?))),
-        Form::Http => asking(alloc, number, seed, words),
+        Form::Http => asking(alloc, routes, number, seed, words),
     }
 }
 
@@ -192,7 +210,13 @@ pub fn opens_cluster(line: &[u8]) -> bool
 /// What a line of a script with this seed says, where the next request has this number, or why it's refused: as an
 /// `UnknownLine`, a `BadNumber` or a `BadRequestLine`. The other reasons hang on the lines before it and on what the
 /// cluster takes.
-pub fn read_line(alloc: Global, line: &[u8], number: u64, seed: u64) -> Result<Line, BadLine>
+pub fn read_line(
+    alloc: Global,
+    routes: &Routes,
+    line: &[u8],
+    number: u64,
+    seed: u64,
+) -> Result<Line, BadLine>
     ensures { UnlessMemory result (spec.line_of number seed line.now) }
 {
     if is_nothing(line) {
@@ -200,7 +224,7 @@ pub fn read_line(alloc: Global, line: &[u8], number: u64, seed: u64) -> Result<L
     }
     let (name, words) = cut(line);
     match form_of(name) {
-        Some(form) => said(alloc, number, seed, form, words),
+        Some(form) => said(alloc, routes, number, seed, form, words),
         None => Err(BadLine::UnknownLine),
     }
 }

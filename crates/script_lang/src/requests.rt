@@ -9,7 +9,7 @@ ghost use Rattle.script_lang.specs.Requests as spec;
 use crate::bad_line::BadLine;
 use cat_model::{Asked, Bytes};
 use hex::FromHexError;
-use http_routes::route;
+use http_routes::Routes;
 use std::alloc::Global;
 
 fn is_all_token_bytes(word: &[u8]) -> bool
@@ -58,15 +58,22 @@ fn body_of(alloc: Global, rest: Option<&[u8]>) -> Result<Bytes, BadLine>
 }
 
 // What a request with this method, target and body asks for.
-fn routed(alloc: Global, method: &[u8], target: &[u8], body: &Bytes) -> Result<Asked, BadLine>
+fn routed(
+    alloc: Global,
+    routes: &Routes,
+    method: &[u8],
+    target: &[u8],
+    body: &Bytes,
+) -> Result<Asked, BadLine>
     ensures { UnlessMemory result (Ok (route_of method.now target.now body.now)) }
 {
-    Ok(route(alloc, method, target, body.as_slice())?)
+    Ok(routes.route(alloc, method, target, body.as_slice())?)
 }
 
 /// What the request of a method, a target, and what follows it asks for.
 pub fn asked_of(
     alloc: Global,
+    routes: &Routes,
     method: &[u8],
     target: &[u8],
     rest: Option<&[u8]>,
@@ -77,5 +84,5 @@ pub fn asked_of(
         return Err(BadLine::BadRequestLine);
     }
     let body = body_of(alloc, rest)?;
-    routed(alloc, method, target, &body)
+    routed(alloc, routes, method, target, &body)
 }

@@ -15,6 +15,7 @@ use crate::report::Report;
 use crate::stage::{Played, play};
 use cat_model::{List, Memory};
 use cluster_interface::ClusterInterface;
+use http_routes::Routes;
 use std::alloc::Global;
 
 /// Plays the script as `play_script` does, but writes nothing: it reports the run, with the numbers of the requests
@@ -27,8 +28,11 @@ pub fn play_finding<S: ClusterInterface>(
     ensures { IfOk result (λ r. MatchOption r (IsRefused (script_of script.now))
         (λ ran. RunOf (script_of script.now) (λ outs c. ran.1.numbers ≡ flat_map found_in outs) ran.0)) }
 {
-    match open(alloc, script) {
-        Ok(opened) => find_opened::<S>(alloc, &opened),
+    let Ok(routes) = Routes::new(alloc) else {
+        return Err(Memory);
+    };
+    match open(alloc, &routes, script) {
+        Ok(opened) => find_opened::<S>(alloc, &routes, &opened),
         Err(NotOpened::Refused(_)) => Ok(None),
         Err(NotOpened::Memory) => Err(Memory),
     }
@@ -37,6 +41,7 @@ pub fn play_finding<S: ClusterInterface>(
 // Plays the lines of an opened script.
 fn find_opened<S: ClusterInterface>(
     alloc: Global,
+    routes: &Routes,
     opened: &Opened,
 ) -> Result<Option<(Report, Found)>, Memory>
     requires few { opened.now.next + length opened.now.lines.now < 2 ^ 30 }
@@ -54,6 +59,7 @@ fn find_opened<S: ClusterInterface>(
     };
     match play(
         alloc,
+        routes,
         &mut found,
         &mut servers,
         opening.seed,

@@ -7,6 +7,7 @@ use crate::line::{is_nothing, split_at_byte};
 use crate::reading::answer;
 use crate::refused::Refused;
 use cat_model::Memory;
+use http_routes::Routes;
 use script_lang::{BadLine, Line, opens_cluster};
 use std::alloc::Global;
 
@@ -34,7 +35,11 @@ pub enum NotOpened {
 }
 
 /// Opens the script's cluster at its first line that says something, or says how it is refused there.
-pub fn open(alloc: Global, script: &[u8]) -> Result<Opened, NotOpened>
+pub fn open<'a>(
+    alloc: Global,
+    routes: &Routes,
+    script: &'a [u8],
+) -> Result<Opened<'a>, NotOpened>
     requires { length script.now < 2 ^ 60 }
     ensures opened { IfOk result (λ o. spec.script_of script.now ≡ spec.Opened o.opening o.next (lines_of o.lines.now)) }
     ensures within { IfOk result (λ o. o.next + length o.lines.now ≤ length script.now + 2) }
@@ -46,7 +51,7 @@ pub fn open(alloc: Global, script: &[u8]) -> Result<Opened, NotOpened>
     while !rest.is_empty() {
         let (line, after) = split_at_byte(rest, b'\n');
         if !is_nothing(line) {
-            return match opening_of(alloc, line) {
+            return match opening_of(alloc, routes, line) {
                 Ok(Ok(opening)) => Ok(Opened {
                     opening,
                     next: number + 1,
@@ -70,14 +75,18 @@ pub fn open(alloc: Global, script: &[u8]) -> Result<Opened, NotOpened>
 
 // The opening by the first line that says something, or why it is refused.
 #[tactic(auto, using(crate::proofs::Openings::opening_as, crate::proofs::Openings::opening_none))]
-fn opening_of(alloc: Global, line: &[u8]) -> Result<Result<Opening, BadLine>, Memory>
+fn opening_of(
+    alloc: Global,
+    routes: &Routes,
+    line: &[u8],
+) -> Result<Result<Opening, BadLine>, Memory>
     ensures value { IfOk result (λ r. r ≡ spec.opening_of line.now) }
     ensures bounds { IfOk result (λ r. IfOk r IsOpening) }
 {
     if !opens_cluster(line) {
         return Ok(Err(BadLine::ExpectedCluster));
     }
-    match answer(alloc, line, 0, 0)? {
+    match answer(alloc, routes, line, 0, 0)? {
         Ok(says) => Ok(opened_by(&says)),
         Err(why) => Ok(Err(why)),
     }

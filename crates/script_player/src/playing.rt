@@ -19,6 +19,7 @@ use crate::text::{end_text, refused_text};
 use cat_model::{Bytes, List, Memory};
 use cat_outside::{KeepFail, Sink};
 use cluster_interface::{ClusterInterface, History};
+use http_routes::Routes;
 use std::alloc::Global;
 
 /// Plays the script on servers of the type `S` that are started as its first line says, writes what its lines give and
@@ -34,8 +35,11 @@ pub fn play_script<S: ClusterInterface, Si: Sink>(
     ensures part { OnErr result (Appends (Si.held sink.old) (Si.held sink.new) [] ⊎ PartOfRun (script_of script.now) (Si.held sink.old) (Si.held sink.new)) }
     ensures cause { MatchResult result (λ _. Si.faults sink.new ≡ Si.faults sink.old) (λ fail. CountsWrite fail (Si.faults sink.old) (Si.faults sink.new)) }
 {
-    match open(alloc, script) {
-        Ok(opened) => play_opened::<S, Si>(alloc, sink, &opened),
+    let Ok(routes) = Routes::new(alloc) else {
+        return Err(KeepFail::Memory);
+    };
+    match open(alloc, &routes, script) {
+        Ok(opened) => play_opened::<S, Si>(alloc, &routes, sink, &opened),
         Err(NotOpened::Refused(why)) => match write_refused(alloc, sink, why) {
             Ok(()) => Ok(None),
             Err(fail) => Err(fail),
@@ -47,6 +51,7 @@ pub fn play_script<S: ClusterInterface, Si: Sink>(
 // Plays the lines of an opened script.
 fn play_opened<S: ClusterInterface, Si: Sink>(
     alloc: Global,
+    routes: &Routes,
     sink: &mut Si,
     opened: &Opened,
 ) -> Result<Option<Report>, KeepFail>
@@ -64,6 +69,7 @@ fn play_opened<S: ClusterInterface, Si: Sink>(
     };
     match play(
         alloc,
+        routes,
         sink,
         &mut servers,
         opening.seed,

@@ -6,6 +6,7 @@ ghost use Rattle.script_player.specs.Stage.{IsFine, IsWorded, IsRead};
 
 use cat_model::{Event, Memory};
 use cluster_interface::ClusterInterface;
+use http_routes::Routes;
 use script_lang::{BadLine, Line, opens_cluster, read_line};
 use script_runs::Misfit;
 use std::alloc::Global;
@@ -23,6 +24,7 @@ pub enum Says {
 #[tactic(auto, using(crate::proofs::Fine::line_fine))]
 pub fn answer(
     alloc: Global,
+    routes: &Routes,
     line: &[u8],
     number: u64,
     seed: u64,
@@ -30,7 +32,7 @@ pub fn answer(
     ensures value { IfOk result (λ r. r ≡ line_of number seed line.now) }
     ensures fine { IfOk result IsFine }
 {
-    match read_line(alloc, line, number, seed) {
+    match read_line(alloc, routes, line, number, seed) {
         Ok(says) => Ok(Ok(says)),
         Err(BadLine::Memory) => Err(Memory),
         Err(why) => Ok(Err(why)),
@@ -38,13 +40,19 @@ pub fn answer(
 }
 
 // What the words of a line after the opening say.
-fn worded(alloc: Global, line: &[u8], number: u64, seed: u64) -> Result<Says, Memory>
+fn worded(
+    alloc: Global,
+    routes: &Routes,
+    line: &[u8],
+    number: u64,
+    seed: u64,
+) -> Result<Says, Memory>
     ensures { IfOk result (IsWorded (said seed number line.now)) }
 {
     if opens_cluster(line) {
         return Ok(Says::Refuses(BadLine::UnknownLine));
     }
-    match answer(alloc, line, number, seed)? {
+    match answer(alloc, routes, line, number, seed)? {
         Ok(Line::Nothing) => Ok(Says::Nothing),
         Ok(Line::Cluster { .. }) => Ok(Says::Refuses(BadLine::UnknownLine)),
         Ok(Line::Event(event)) => Ok(Says::Makes(event)),
@@ -68,6 +76,7 @@ fn bad_of(misfit: Misfit) -> BadLine
 /// What a line after the opening says where the servers stand so: an event that doesn't fit is refused.
 pub fn said_by<S: ClusterInterface>(
     alloc: Global,
+    routes: &Routes,
     servers: &S,
     seed: u64,
     line: &[u8],
@@ -75,7 +84,7 @@ pub fn said_by<S: ClusterInterface>(
     ensures { IfOk result (IsRead (S.state servers.now) (said seed (suc (S.state servers.now).asked) line.now)) }
 {
     let number = next_number(servers)?;
-    match worded(alloc, line, number, seed) {
+    match worded(alloc, routes, line, number, seed) {
         Ok(says) => Ok(fitted(servers, says)),
         Err(Memory) => Err(Memory),
     }

@@ -16,6 +16,7 @@ use crate::taker::Taker;
 use cat_model::{Event, Memory};
 use cat_outside::KeepFail;
 use cluster_interface::ClusterInterface;
+use http_routes::Routes;
 use script_lang::BadLine;
 use std::alloc::Global;
 
@@ -36,6 +37,7 @@ pub struct Played {
 /// Plays the lines after the opening, the first of them with the number `first`, and hands their outs on.
 pub fn play<S: ClusterInterface, T: Taker>(
     alloc: Global,
+    routes: &Routes,
     taker: &mut T,
     servers: &mut S,
     seed: u64,
@@ -52,7 +54,7 @@ pub fn play<S: ClusterInterface, T: Taker>(
     let mut events: u64 = 0;
     while !rest.is_empty() {
         let (line, after) = split_at_byte(rest, b'\n');
-        match play_line(alloc, taker, servers, seed, line) {
+        match play_line(alloc, routes, taker, servers, seed, line) {
             Ok(Turn::Made(made)) => events += made,
             Ok(Turn::Refused(reason)) => {
                 return Ok(Played {
@@ -77,6 +79,7 @@ pub fn play<S: ClusterInterface, T: Taker>(
 // Plays one line.
 fn play_line<S: ClusterInterface, T: Taker>(
     alloc: Global,
+    routes: &Routes,
     taker: &mut T,
     servers: &mut S,
     seed: u64,
@@ -87,7 +90,7 @@ fn play_line<S: ClusterInterface, T: Taker>(
     ensures part { OnErr result (TakesFirst T.adds (GoesOn (S.state servers.old) (said seed (suc (S.state servers.old).asked) line.now)) (T.held taker.old) (T.held taker.new)) }
     ensures cause { MatchResult result (λ _. T.faults taker.new ≡ T.faults taker.old) (λ fail. CountsWrite fail (T.faults taker.old) (T.faults taker.new)) }
 {
-    match said_by(alloc, servers, seed, line) {
+    match said_by(alloc, routes, servers, seed, line) {
         Ok(Says::Nothing) => Ok(Turn::Made(0)),
         Ok(Says::Makes(event)) => match make(alloc, taker, servers, event) {
             Ok(()) => Ok(Turn::Made(1)),
