@@ -39,7 +39,7 @@ counted no_items = refl
 counted (item d ds) = next (an_op d) (each an_op ds) (counted ds)
   where
     next : (r : Result TxnOp ReadError) (more : Result (List TxnOp) ReadError) → IfOk more (λ ops. length ops ≡ count ds)
-      → IfOk (r >>= λ x. more >>= λ xs. Ok (x ∷ xs)) (λ ops. length ops ≡ count (item d ds))
+        → IfOk (r >>= λ x. more >>= λ xs. Ok (x ∷ xs)) (λ ops. length ops ≡ count (item d ds))
     next (Err why) more h = tt
     next (Ok x) (Err why) h = tt
     next (Ok x) (Ok xs) h = grind (h, arith)

@@ -59,10 +59,12 @@ asks_one : (seed number : ℕ) (text method body : List ℕ) (k : ℕ) (more : L
     AsksOne (said seed number text)
 asks_one seed number text method body k more some words is small read =
     let what = route_of method (target k) body in
-    let draw : Draw = record { hi = seed; lo = number } in
-    (what, draw,
+    let draw : Draw = record { hi = seed; lo = number } in (
+      what,
+      draw,
       said_words seed number text (codes "http" ∷ codes "1" ∷ method ∷ target k ∷ more) some words
-      ∙ ap said_of (asking_is seed number method body k more is small read))
+          ∙ ap said_of (asking_is seed number method body k more is small read),
+    )
 
 wide : (k : ℕ) → k < 1000 → k < 2 ^ 64
 wide k small = omega (arith, small)

@@ -29,8 +29,8 @@ summed : (load : Load) (bytes numbers : List ℕ) (report : Report) (P : List �
 summed load bytes numbers report P e r is =
     let run = subst (λ (b : List ℕ). Finds b numbers report) e r in
     let text : told load numbers report ≡ summary_of load run.outs run.run.reached =
-        ap (λ (l : List ℕ). summary_text load.seed load.size (length l) (length report.agreed)) run.shows
-        ∙ ap (λ (l : _). summary_text load.seed load.size (length (flat_map found_in run.outs)) (length l)) run.tells.agreed in
+    ap (λ (l : List ℕ). summary_text load.seed load.size (length l) (length report.agreed)) run.shows
+    ∙ ap (λ (l : _). summary_text load.seed load.size (length (flat_map found_in run.outs)) (length l)) run.tells.agreed in
     shown (script_of_load load) (λ outs c. numbers ≡ flat_map found_in outs) (λ outs c. P (summary_of load outs c)) report run (subst P text is)
 
 pub load_played : (load : Load) (bytes numbers : List ℕ) (report : Report) (held held' : Option (List ℕ)) → bytes ≡ load_script load.seed load.size → Finds bytes numbers report →

@@ -54,8 +54,8 @@ pub put_words : (j k : ℕ) → j < 2 ^ 64 → k < 2 ^ 64 → words_of (request 
 put_words j k number key =
     ap (λ (t : List ℕ). words_of (codes "http 1 PUT /v1/kv/k" ++ t)) (append_assoc (decimal k) (codes " =v") (decimal j))
     ∙ ap (λ (ws : List (List ℕ)). codes "http" ∷ codes "1" ∷ codes "PUT" ∷ ws)
-      (split_word (target k) (codes "=v" ++ decimal j) (target_tokens k key)
-      ∙ ap (λ (ws : List (List ℕ)). target k ∷ ws) (split_last (codes "=v" ++ decimal j) (all_append is_token_byte (codes "=v") (decimal j) refl (decimal_tokens j number))))
+    (split_word (target k) (codes "=v" ++ decimal j) (target_tokens k key)
+    ∙ ap (λ (ws : List (List ℕ)). target k ∷ ws) (split_last (codes "=v" ++ decimal j) (all_append is_token_byte (codes "=v") (decimal j) refl (decimal_tokens j number))))
 
 pub get_words : (j k : ℕ) → k < 2 ^ 64 → words_of (request Get j k) ≡ codes "http" ∷ codes "1" ∷ codes "GET" ∷ target k ∷ []
 get_words j k key = ap (λ (ws : List (List ℕ)). codes "http" ∷ codes "1" ∷ codes "GET" ∷ ws) (split_last (target k) (target_tokens k key))

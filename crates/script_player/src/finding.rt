@@ -5,11 +5,11 @@ ghost use Rattle.script_player.specs.Run.{IsRefused, IsReportOf, RunOf};
 ghost use Rattle.script_player.specs.Script as script;
 ghost use Rattle.script_player.specs.Script.{script_of};
 ghost use Rattle.script_player.specs.Stage.{IsOpening};
+ghost use Rattle.script_player.specs.declared.refused.Refused.{Refused};
 
 use crate::found::Found;
 use crate::opening::{NotOpened, Opened, open};
 use crate::playing::report_of;
-ghost use Rattle.script_player.specs.declared.refused.Refused.{Refused};
 use crate::refused::Refused;
 use crate::report::Report;
 use crate::stage::{Played, play};

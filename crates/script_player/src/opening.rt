@@ -35,11 +35,7 @@ pub enum NotOpened {
 }
 
 /// Opens the script's cluster at its first line that says something, or says how it is refused there.
-pub fn open<'a>(
-    alloc: Global,
-    routes: &Routes,
-    script: &'a [u8],
-) -> Result<Opened<'a>, NotOpened>
+pub fn open<'a>(alloc: Global, routes: &Routes, script: &'a [u8]) -> Result<Opened<'a>, NotOpened>
     requires { length script.now < 2 ^ 60 }
     ensures opened { IfOk result (λ o. spec.script_of script.now ≡ spec.Opened o.opening o.next (lines_of o.lines.now)) }
     ensures within { IfOk result (λ o. o.next + length o.lines.now ≤ length script.now + 2) }

@@ -1,4 +1,4 @@
-use Rattle.std.proofs.Common.{ℕ, ◌+◌, ◌<◌, ◌^◌, arith}
+use Rattle.std.proofs.Common.{◌+◌, ◌<◌, ◌^◌, arith}
 use Rattle.load_script.proofs.Drawing.{opening_step, script_step, script_none}
 use Rattle.load_script.proofs.Lengths.{opening_short, request_appended}
 use Rattle.load_script.proofs.script.make_load.Goals as goal

@@ -1,5 +1,4 @@
 use Rattle.std.proofs.Common.{arith, ap, ◌∙◌, ◌+◌, cond}
-use Rattle.load_script.specs.declared.method.Method.{Method}
 use Rattle.load_script.specs.Summary.{is_put, is_get, is_delete}
 use Rattle.load_script.proofs.Drawing.{count_step, count_none, one_more}
 use Rattle.load_script.proofs.summary.count_methods.Goals as goal
