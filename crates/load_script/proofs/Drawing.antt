@@ -1,5 +1,5 @@
 -- Words that are drawn one by one.
-use Rattle.std.proofs.Common.{◌≡◌, ℕ, suc, ◌+◌, ◌-◌, ◌<◌, ◌≤◌, Bool, cond, List, [], ◌∷◌, ◌++◌, codes, fold, refl, sym, ap, ◌∙◌, append_assoc, append-nil, arith}
+use Rattle.std.proofs.Common.{◌≡◌, ℕ, zero, suc, ◌+◌, ◌-◌, ◌<◌, ◌≤◌, Bool, cond, List, [], ◌∷◌, ◌++◌, length, codes, fold, refl, sym, ap, ◌∙◌, append_assoc, append-nil, arith}
 use Rattle.std.specs.Fmt.{decimal}
 use Rattle.rand_core.specs.Pcg32Seed.{pcg32_seed}
 use Rattle.rand_core.specs.Steps.{first_words}
@@ -8,7 +8,7 @@ use Rattle.rand_pcg.specs.Pcg.{pcg32, pcg32_of_seed}
 use Rattle.load_script.specs.declared.method.Method.{Method}
 use Rattle.load_script.specs.declared.method.Method.TheVariants.{Put, Get, Delete}
 use Rattle.load_script.specs.Summary.{is_put, is_get, is_delete}
-use Rattle.load_script.specs.Load.{method_of, key_of, request, requests_from, text_of, load_script}
+use Rattle.load_script.specs.Load.{drawn, method_of, key_of, request, requests_from, text_of, load_script}
 
 -- the words that are left of so many
 abbrev pub left : ℕ → ℕ → Lcg → List ℕ
@@ -78,3 +78,12 @@ pub one_more : (m : Method) (p g d p' g' d' done : ℕ) → p' ≡ p + cond (is_
 one_more Put p g d p' g' d' done e f h all = omega (arith, e, f, h, all)
 one_more Get p g d p' g' d' done e f h all = omega (arith, e, f, h, all)
 one_more Delete p g d p' g' d' done e f h all = omega (arith, e, f, h, all)
+
+words_length : (n : ℕ) (s : Lcg) → length (first_words pcg32 n s) ≡ n
+unfolding first_words
+words_length zero s = refl
+words_length (suc n) s = let more = words_length n (pcg32 s).1 in omega (arith, more)
+
+-- as many words are drawn as there are requests
+pub drawn_length : (seed size : ℕ) → length (drawn seed size) ≡ size
+drawn_length seed size = words_length size (pcg32_of_seed (pcg32_seed 16 seed))

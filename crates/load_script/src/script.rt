@@ -32,12 +32,7 @@ fn opening(alloc: Global, seed: u64) -> Result<Vec<u8>, Memory>
 }
 
 // Puts the request with this number and this word last, and the line that settles what it sends.
-fn put_request(
-    alloc: Global,
-    script: &mut Vec<u8>,
-    number: u32,
-    word: u32,
-) -> Result<(), Memory>
+fn put_request(alloc: Global, script: &mut Vec<u8>, number: u32, word: u32) -> Result<(), Memory>
     ensures { OnOk result (script.new.items ≡ (script.old.items ++ spec.request (spec.method_of word) number (spec.key_of word)) ++ codes "\nsettle 64\n") }
 {
     let line = request(alloc, method_of(word), number, word % 1000)?;

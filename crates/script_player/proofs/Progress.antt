@@ -1,5 +1,6 @@
 -- The lines that were played so far, and those that follow.
 use Rattle.std.proofs.Common.{◌≡◌, inl, inr, ℕ, suc, ◌+◌, ◌*◌, List, [], ◌∷◌, ◌++◌, Option, refl, sym, ◌∙◌, subst, append_assoc, append-nil, arith, true, nat_eq, length, eqb-true}
+use Rattle.std.specs.List.{flat_map}
 use Rattle.std.specs.Io.KnownBytes.{Appends}
 use Rattle.std.proofs.KnownBytes.{Appends-nil, Appends-trans}
 use Rattle.std.proofs.lemmas.Grind.{flat_map-append}
@@ -10,9 +11,8 @@ use Rattle.script_lang.specs.Text.{reason_text}
 use Rattle.script_runs.specs.Lines.{Said, Nothing, Makes, Settles, Refuses}
 use Rattle.script_runs.specs.Plays.{Ending, Whole, Refused, Broken, Plays, over, breaks, skips, makes, settles, refuses, misfits, emptied, settled}
 use Rattle.script_player.specs.declared.stage.Turn.TheVariants as turn
-use Rattle.script_player.specs.Stage.{Turns, GoesOn, WritesAll, WritesFirst, PlaysTo, PlaysPart}
+use Rattle.script_player.specs.Stage.{Turns, GoesOn, TakesAll, TakesFirst, PlaysTo, PlaysPart}
 use Rattle.script_player.specs.Run.{WritesPart, made_in}
-use Rattle.script_player.specs.Text.{outs_text, line_of_out}
 use Rattle.script_player.specs.Line.{lines_of}
 use Rattle.script_player.proofs.Written.{part_after}
 
@@ -66,17 +66,17 @@ ends_refused says number line lines c d outs bad t = by (says (suc c.asked) line
     by (Refuses why) e (same, none, is) =
         (same, none, subst (λ z. Longer says number (line ∷ lines) c [] (Refused number z) c 0) is (record { plays = refuses why e; counts = refl }))
 
--- What was played so far, whatever follows, with all its outs written.
-pub record SoFar (says : ℕ → List ℕ → Said) (first : ℕ) (all : List (List ℕ)) (start : Cluster) (held held' : Option (List ℕ)) (made : ℕ) (number : ℕ) (lines : List (List ℕ)) (c : Cluster) : Type 0 where
+-- What was played so far, whatever follows, with all its outs taken.
+pub record SoFar (adds : Out → List ℕ) (says : ℕ → List ℕ → Said) (first : ℕ) (all : List (List ℕ)) (start : Cluster) (held held' : Option (List ℕ)) (made : ℕ) (number : ℕ) (lines : List (List ℕ)) (c : Cluster) : Type 0 where
   pub outs : List Out
-  pub written : Appends held held' (outs_text outs)
+  pub taken : Appends held held' (flat_map adds outs)
   pub on : (later : List Out) (end : Ending) (c' : Cluster) (p : Plays says number lines c later end c') →
       Longer says first all start (outs ++ later) end c' (made + made_in says number lines c later end c' p)
 
-pub so_far_none : (says : ℕ → List ℕ → Said) (first : ℕ) (all : List (List ℕ)) (start : Cluster) (held : Option (List ℕ)) → SoFar says first all start held held 0 first all start
-so_far_none says first all start held = record {
+pub so_far_none : (adds : Out → List ℕ) (says : ℕ → List ℕ → Said) (first : ℕ) (all : List (List ℕ)) (start : Cluster) (held : Option (List ℕ)) → SoFar adds says first all start held held 0 first all start
+so_far_none adds says first all start held = record {
   outs = [];
-  written = Appends-nil held;
+  taken = Appends-nil held;
   on = λ later end c' p. record { plays = p; counts = zero_more (made_in says first all start later end c' p) };
 }
 
@@ -85,17 +85,17 @@ longer_as : (says : ℕ → List ℕ → Said) (number : ℕ) (lines : List (Lis
 longer_as says number lines c outs outs' end c' made made' e f l =
     subst (λ z. Longer says number lines c outs' end c' z) f (subst (λ z. Longer says number lines c z end c' made) e l)
 
-texts_join : (held held' held'' : Option (List ℕ)) (outs more : List Out) → Appends held held' (outs_text outs) → Appends held' held'' (outs_text more) → Appends held held'' (outs_text (outs ++ more))
-texts_join held held' held'' outs more a b =
-    subst (λ (z : List ℕ). Appends held held'' z) (sym (flat_map-append line_of_out outs more)) (Appends-trans held held' held'' (outs_text outs) (outs_text more) a b)
+texts_join : (adds : Out → List ℕ) (held held' held'' : Option (List ℕ)) (outs more : List Out) → Appends held held' (flat_map adds outs) → Appends held' held'' (flat_map adds more) → Appends held held'' (flat_map adds (outs ++ more))
+texts_join adds held held' held'' outs more a b =
+    subst (λ (z : List ℕ). Appends held held'' z) (sym (flat_map-append adds outs more)) (Appends-trans held held' held'' (flat_map adds outs) (flat_map adds more) a b)
 
 -- one line more
-pub so_far_more : (says : ℕ → List ℕ → Said) (first : ℕ) (all : List (List ℕ)) (start : Cluster) (held held' held'' : Option (List ℕ)) (made number : ℕ) (line : List ℕ) (lines : List (List ℕ)) (c d : Cluster) (n : ℕ) →
-    SoFar says first all start held held' made number (line ∷ lines) c → WritesAll (λ outs. Turns c (says (suc c.asked) line) d outs (turn.Made n)) held' held'' →
-    SoFar says first all start held held'' (made + n) (suc number) lines d
-so_far_more says first all start held held' held'' made number line lines c d n s (outs, t, w) = record {
+pub so_far_more : (adds : Out → List ℕ) (says : ℕ → List ℕ → Said) (first : ℕ) (all : List (List ℕ)) (start : Cluster) (held held' held'' : Option (List ℕ)) (made number : ℕ) (line : List ℕ) (lines : List (List ℕ)) (c d : Cluster) (n : ℕ) →
+    SoFar adds says first all start held held' made number (line ∷ lines) c → TakesAll adds (λ outs. Turns c (says (suc c.asked) line) d outs (turn.Made n)) held' held'' →
+    SoFar adds says first all start held held'' (made + n) (suc number) lines d
+so_far_more adds says first all start held held' held'' made number line lines c d n s (outs, t, w) = record {
   outs = s.outs ++ outs;
-  written = texts_join held held' held'' s.outs outs s.written w;
+  taken = texts_join adds held held' held'' s.outs outs s.taken w;
   on = λ later end c' p.
       let f = follows says number line lines c d outs n t later end c' p in
       let rest = made_in says (suc number) lines d later end c' p in
@@ -105,44 +105,44 @@ so_far_more says first all start held held' held'' made number line lines c d n 
       (sym (append_assoc s.outs outs later)) (omega (arith, counts)) l;
 }
 
-pub so_far_at : (says : ℕ → List ℕ → Said) (first : ℕ) (all : List (List ℕ)) (start : Cluster) (held held' : Option (List ℕ)) (made number next : ℕ) (lines : List (List ℕ)) (c : Cluster) →
-    number ≡ next → SoFar says first all start held held' made number lines c → SoFar says first all start held held' made next lines c
-so_far_at says first all start held held' made number next lines c e s =
-    subst (λ (n : ℕ). SoFar says first all start held held' made n lines c) e s
+pub so_far_at : (adds : Out → List ℕ) (says : ℕ → List ℕ → Said) (first : ℕ) (all : List (List ℕ)) (start : Cluster) (held held' : Option (List ℕ)) (made number next : ℕ) (lines : List (List ℕ)) (c : Cluster) →
+    number ≡ next → SoFar adds says first all start held held' made number lines c → SoFar adds says first all start held held' made next lines c
+so_far_at adds says first all start held held' made number next lines c e s =
+    subst (λ (n : ℕ). SoFar adds says first all start held held' made n lines c) e s
 
 no_more : (made : ℕ) → made + 0 ≡ made
 no_more made = omega arith
 
 -- all lines were played
-pub ends_whole : (says : ℕ → List ℕ → Said) (first : ℕ) (all : List (List ℕ)) (start : Cluster) (held held' : Option (List ℕ)) (made number : ℕ) (c : Cluster) →
-    SoFar says first all start held held' made number [] c → PlaysTo says first all start Whole c made held held'
-ends_whole says first all start held held' made number c s =
+pub ends_whole : (adds : Out → List ℕ) (says : ℕ → List ℕ → Said) (first : ℕ) (all : List (List ℕ)) (start : Cluster) (held held' : Option (List ℕ)) (made number : ℕ) (c : Cluster) →
+    SoFar adds says first all start held held' made number [] c → PlaysTo adds says first all start Whole c made held held'
+ends_whole adds says first all start held held' made number c s =
     let l = longer_as says first all start (s.outs ++ []) s.outs Whole c (made + 0) made (append-nil s.outs) (no_more made) (s.on [] Whole c over) in
-    record { outs = s.outs; plays = l.plays; counts = l.counts; written = s.written }
+    record { outs = s.outs; plays = l.plays; counts = l.counts; taken = s.taken }
 
-pub ends_empty : (says : ℕ → List ℕ → Said) (first : ℕ) (all : List (List ℕ)) (start : Cluster) (held held' : Option (List ℕ)) (made number : ℕ) (rest : List ℕ) (c : Cluster) →
-    SoFar says first all start held held' made number (lines_of rest) c → true ≡ nat_eq (length rest) 0 → PlaysTo says first all start Whole c made held held'
-ends_empty says first all start held held' made number [] c s e = ends_whole says first all start held held' made number c s
-ends_empty says first all start held held' made number (b ∷ bs) c s e =
+pub ends_empty : (adds : Out → List ℕ) (says : ℕ → List ℕ → Said) (first : ℕ) (all : List (List ℕ)) (start : Cluster) (held held' : Option (List ℕ)) (made number : ℕ) (rest : List ℕ) (c : Cluster) →
+    SoFar adds says first all start held held' made number (lines_of rest) c → true ≡ nat_eq (length rest) 0 → PlaysTo adds says first all start Whole c made held held'
+ends_empty adds says first all start held held' made number [] c s e = ends_whole adds says first all start held held' made number c s
+ends_empty adds says first all start held held' made number (b ∷ bs) c s e =
     let none : length (b ∷ bs) ≡ 0 = eqb-true _ _ (sym e) in absurd (omega (arith, none))
 
 -- a line is refused
-pub ends_at : (says : ℕ → List ℕ → Said) (first : ℕ) (all : List (List ℕ)) (start : Cluster) (held held' held'' : Option (List ℕ)) (made number : ℕ) (line : List ℕ) (lines : List (List ℕ)) (c d : Cluster) (bad : BadLine) →
-    SoFar says first all start held held' made number (line ∷ lines) c → WritesAll (λ outs. Turns c (says (suc c.asked) line) d outs (turn.Refused bad)) held' held'' →
-    PlaysTo says first all start (Refused number (reason_text bad)) d made held held''
-ends_at says first all start held held' held'' made number line lines c d bad s (outs, t, w) =
+pub ends_at : (adds : Out → List ℕ) (says : ℕ → List ℕ → Said) (first : ℕ) (all : List (List ℕ)) (start : Cluster) (held held' held'' : Option (List ℕ)) (made number : ℕ) (line : List ℕ) (lines : List (List ℕ)) (c d : Cluster) (bad : BadLine) →
+    SoFar adds says first all start held held' made number (line ∷ lines) c → TakesAll adds (λ outs. Turns c (says (suc c.asked) line) d outs (turn.Refused bad)) held' held'' →
+    PlaysTo adds says first all start (Refused number (reason_text bad)) d made held held''
+ends_at adds says first all start held held' held'' made number line lines c d bad s (outs, t, w) =
     let q = ends_refused says number line lines c d outs bad t in
     let last = q.2 in
     let end = Refused number (reason_text bad) in
     let counts = last.counts in
     let l = longer_as says first all start (s.outs ++ []) s.outs end c _ made (append-nil s.outs) (omega (arith, counts)) (s.on [] end c last.plays) in
-    let nothing = subst (λ (z : List Out). Appends held' held'' (outs_text z)) q.1 w in
-    subst (λ (z : Cluster). PlaysTo says first all start end z made held held'') (sym q.0)
+    let nothing = subst (λ (z : List Out). Appends held' held'' (flat_map adds z)) q.1 w in
+    subst (λ (z : Cluster). PlaysTo adds says first all start end z made held held'') (sym q.0)
     (record {
       outs = s.outs;
       plays = l.plays;
       counts = l.counts;
-      written = subst (λ (z : List Out). Appends held held'' (outs_text z)) (append-nil s.outs) (texts_join held held' held'' s.outs [] s.written nothing);
+      taken = subst (λ (z : List Out). Appends held held'' (flat_map adds z)) (append-nil s.outs) (texts_join adds held held' held'' s.outs [] s.taken nothing);
     })
 
 -- nothing more was written
@@ -151,19 +151,19 @@ part_so_far held held' held'' text a b =
     record { front = text ++ []; rest = []; written = Appends-trans held held' held'' text [] a b; splits = sym (append-nil (text ++ []) ∙ append-nil text) }
 
 -- a line broke off
-pub breaks_at : (says : ℕ → List ℕ → Said) (first : ℕ) (all : List (List ℕ)) (start : Cluster) (held held' held'' : Option (List ℕ)) (made number : ℕ) (line : List ℕ) (lines : List (List ℕ)) (c : Cluster) →
-    SoFar says first all start held held' made number (line ∷ lines) c → WritesFirst (GoesOn c (says (suc c.asked) line)) held' held'' →
-    PlaysPart says first all start held held''
-breaks_at says first all start held held' held'' made number line lines c s (inl nothing) =
-    record { outs = s.outs ++ []; reached = c; plays = (s.on [] Broken c breaks).plays; part = subst (λ (z : List Out). WritesPart held held'' (outs_text z)) (sym (append-nil s.outs)) (part_so_far held held' held'' (outs_text s.outs) s.written nothing) }
-breaks_at says first all start held held' held'' made number line lines c s (inr (outs, (d, n, t), part)) =
+pub breaks_at : (adds : Out → List ℕ) (says : ℕ → List ℕ → Said) (first : ℕ) (all : List (List ℕ)) (start : Cluster) (held held' held'' : Option (List ℕ)) (made number : ℕ) (line : List ℕ) (lines : List (List ℕ)) (c : Cluster) →
+    SoFar adds says first all start held held' made number (line ∷ lines) c → TakesFirst adds (GoesOn c (says (suc c.asked) line)) held' held'' →
+    PlaysPart adds says first all start held held''
+breaks_at adds says first all start held held' held'' made number line lines c s (inl nothing) =
+    record { outs = s.outs ++ []; reached = c; plays = (s.on [] Broken c breaks).plays; part = subst (λ (z : List Out). WritesPart held held'' (flat_map adds z)) (sym (append-nil s.outs)) (part_so_far held held' held'' (flat_map adds s.outs) s.taken nothing) }
+breaks_at adds says first all start held held' held'' made number line lines c s (inr (outs, (d, n, t), part)) =
     let f = follows says number line lines c d outs n t [] Broken d breaks in
     record {
       outs = s.outs ++ (outs ++ []);
       reached = d;
       plays = (s.on (outs ++ []) Broken d f.plays).plays;
       part =
-          subst (λ (z : List Out). WritesPart held held'' (outs_text (s.outs ++ z))) (sym (append-nil outs))
-          (subst (λ (z : List ℕ). WritesPart held held'' z) (sym (flat_map-append line_of_out s.outs outs))
-          (part_after held held' held'' (outs_text s.outs) (outs_text outs) s.written part));
+          subst (λ (z : List Out). WritesPart held held'' (flat_map adds (s.outs ++ z))) (sym (append-nil outs))
+          (subst (λ (z : List ℕ). WritesPart held held'' z) (sym (flat_map-append adds s.outs outs))
+          (part_after held held' held'' (flat_map adds s.outs) (flat_map adds outs) s.taken part));
     }

@@ -58,20 +58,29 @@ pub record IsReportOf (c : Cluster) (made : ℕ) (report : Report) : Type 0 wher
   pub unanswered : report.unanswered ≡ held_numbers c
   pub marks : report.marks ≡ reverse c.past
 
--- A whole run: its text was written and this is reported of it. The report's marks, taken as moves, lead from the start
--- to the end.
-pub record WholeRun (script : Script) (held held' : Option (List ℕ)) (report : Report) : Type 0 where
+-- A whole run of which this is reported, where `Shows` holds of its outs and the cluster at its end. The report's marks,
+-- taken as moves, lead from the start to the end.
+pub record RunOf (script : Script) (Shows : List Out → Cluster → Type 0) (report : Report) : Type 0 where
   pub outs : List Out
   pub run : Played script outs Whole
-  pub written : Appends held held' (outs_text outs ++ last_text Whole run.reached)
+  pub shows : Shows outs run.reached
   pub tells : IsReportOf run.reached (made_in (said run.opening.seed) run.next run.lines run.start outs Whole run.reached run.plays) report
   pub ascending : Ascend report.unanswered
   pub leads : Reached run.start true (moves_of (reverse report.marks)) run.reached
+
+-- a whole run whose text was written
+abbrev pub WholeRun : Script → Option (List ℕ) → Option (List ℕ) → Report → Type 0
+WholeRun script held held' report =
+    RunOf script (λ outs c. Appends held held' (outs_text outs ++ last_text Whole c)) report
 
 -- What a script's run writes in all, by how its lines end.
 pub data Writes (script : Script) : Ending → List ℕ → Type 0 where
   closed : (line : ℕ) (why : List ℕ) → script ≡ Closed line why → Writes script (Refused line why) (refused_text line why)
   played : (outs : List Out) (end : Ending) (run : Played script outs end) → Writes script end (outs_text outs ++ last_text end run.reached)
+
+-- a line of the script is refused
+abbrev pub IsRefused : Script → Type 0
+IsRefused script = (line : ℕ) × (why : List ℕ) × (text : List ℕ) × Writes script (Refused line why) text
 
 -- A line is refused: what was written is all that the lines before it gave, and its number with the reason.
 pub record RefusedRun (script : Script) (held held' : Option (List ℕ)) : Type 0 where

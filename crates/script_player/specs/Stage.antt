@@ -1,5 +1,6 @@
 -- What playing a script does, line by line.
 use Rattle.std.specs.Prelude.{◌≡◌, ◌⊎◌, ◌<◌, ◌≤◌, ℕ, ◌*◌, ◌^◌, true, List, [], Option, Some, None, Result, Ok, Err}
+use Rattle.std.specs.List.{flat_map}
 use Rattle.std.specs.Io.KnownBytes.{Appends}
 use Rattle.cat_outside.specs.Causes.{Rose}
 use Rattle.cat_outside.specs.declared.faults.KeepFail.{KeepFail}
@@ -26,7 +27,6 @@ use Rattle.script_player.specs.declared.stage.Turn.TheVariants as turn
 use Rattle.script_player.specs.declared.refused.Refused as refused
 use Rattle.script_player.specs.Script.{Script, Closed}
 use Rattle.cluster_interface.specs.Interface.{IsPlayed}
-use Rattle.script_player.specs.Text.{outs_text}
 use Rattle.script_player.specs.Run.{WritesPart, made_in}
 
 -- the sink's count of faults rose where it failed, and nowhere else
@@ -97,13 +97,13 @@ abbrev pub IsFew : Turn → Type 0
 IsFew (turn.Made events) = events ≤ 2 ^ 33
 IsFew (turn.Refused bad) = Unit {0}
 
--- all outs that are given were written
-abbrev pub WritesAll : (List Out → Type 0) → Option (List ℕ) → Option (List ℕ) → Type 0
-WritesAll Gives held held' = (outs : List Out) × Gives outs × Appends held held' (outs_text outs)
+-- all outs that are given were taken, each of which adds so much to what is held
+abbrev pub TakesAll : (Out → List ℕ) → (List Out → Type 0) → Option (List ℕ) → Option (List ℕ) → Type 0
+TakesAll adds Gives held held' = (outs : List Out) × Gives outs × Appends held held' (flat_map adds outs)
 
--- nothing was written, or a first part of the outs that are given
-abbrev pub WritesFirst : (List Out → Type 0) → Option (List ℕ) → Option (List ℕ) → Type 0
-WritesFirst Gives held held' = Appends held held' [] ⊎ ((outs : List Out) × Gives outs × WritesPart held held' (outs_text outs))
+-- nothing was taken, or a first part of the outs that are given
+abbrev pub TakesFirst : (Out → List ℕ) → (List Out → Type 0) → Option (List ℕ) → Option (List ℕ) → Type 0
+TakesFirst adds Gives held held' = Appends held held' [] ⊎ ((outs : List Out) × Gives outs × WritesPart held held' (flat_map adds outs))
 
 -- what a line does that doesn't end the run
 abbrev pub GoesOn : Cluster → Said → List Out → Type 0
@@ -114,16 +114,16 @@ abbrev pub ending_of : Option refused.Refused → Ending
 ending_of None = Whole
 ending_of (Some why) = Refused why.line (reason_text why.reason)
 
--- The lines lead to this cluster by so many events, and all their outs were written.
-pub record PlaysTo (says : ℕ → List ℕ → Said) (number : ℕ) (lines : List (List ℕ)) (c : Cluster) (end : Ending) (c' : Cluster) (made : ℕ) (held held' : Option (List ℕ)) : Type 0 where
+-- The lines lead to this cluster by so many events, and all their outs were taken.
+pub record PlaysTo (adds : Out → List ℕ) (says : ℕ → List ℕ → Said) (number : ℕ) (lines : List (List ℕ)) (c : Cluster) (end : Ending) (c' : Cluster) (made : ℕ) (held held' : Option (List ℕ)) : Type 0 where
   pub outs : List Out
   pub plays : Plays says number lines c outs end c'
   pub counts : made_in says number lines c outs end c' plays ≡ made
-  pub written : Appends held held' (outs_text outs)
+  pub taken : Appends held held' (flat_map adds outs)
 
--- A first part was written of the outs of lines that broke off.
-pub record PlaysPart (says : ℕ → List ℕ → Said) (number : ℕ) (lines : List (List ℕ)) (c : Cluster) (held held' : Option (List ℕ)) : Type 0 where
+-- A first part was taken of the outs of lines that broke off.
+pub record PlaysPart (adds : Out → List ℕ) (says : ℕ → List ℕ → Said) (number : ℕ) (lines : List (List ℕ)) (c : Cluster) (held held' : Option (List ℕ)) : Type 0 where
   pub outs : List Out
   pub reached : Cluster
   pub plays : Plays says number lines c outs Broken reached
-  pub part : WritesPart held held' (outs_text outs)
+  pub part : WritesPart held held' (flat_map adds outs)

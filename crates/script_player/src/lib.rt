@@ -1,6 +1,8 @@
 //! Plays a script of requests and events on anything that holds a cluster of servers, and writes the replies.
 #![tactic(auto)]
 
+mod finding;
+mod found;
 mod line;
 mod opening;
 mod output;
@@ -9,8 +11,11 @@ mod reading;
 mod refused;
 mod report;
 mod stage;
+mod taker;
 mod text;
 
+pub use finding::play_finding;
+pub use found::Found;
 pub use line::split_at_byte;
 pub use output::write_all;
 pub use playing::{play_script, write_report};

@@ -144,21 +144,32 @@ fn close<S: ClusterInterface>(
     ensures report { IfOk result (λ c. IsReportOf (S.state servers) events c.0) }
     ensures text { IfOk result (λ c. c.1 ≡ last_text Whole (S.state servers)) }
 {
+    let report = report_of(alloc, servers, events)?;
+    let length = report.agreed.len() as u64;
+    let text = end_text(alloc, length, report.unanswered.as_slice())?;
+    Ok((report, text))
+}
+
+/// The report of a whole run, in which so many events were made.
+pub fn report_of<S: ClusterInterface>(
+    alloc: Global,
+    servers: S,
+    events: u64,
+) -> Result<Report, Memory>
+    ensures { IfOk result (IsReportOf (S.state servers) events) }
+{
     let unanswered = servers.unanswered(alloc)?;
     let applied = applied_by_all(alloc, &servers)?;
-    let length = servers.agreed().len() as u64;
-    let text = end_text(alloc, length, unanswered.as_slice())?;
     let requests = servers.asked();
     let History { agreed, marks } = servers.into_history(alloc)?;
-    let report = Report {
+    Ok(Report {
         events,
         requests,
         agreed,
         applied,
         unanswered,
         marks,
-    };
-    Ok((report, text))
+    })
 }
 
 // How many entries of the agreed log each server has applied, the first one first.

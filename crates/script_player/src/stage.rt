@@ -1,4 +1,4 @@
-ghost use Rattle.std.specs.Prelude.{◌≡◌, ℕ, suc, ◌+◌, ◌<◌, ◌^◌, IfOk, OnOk, OnErr, MatchResult, length, None};
+ghost use Rattle.std.specs.Prelude.{◌≡◌, ℕ, suc, ◌+◌, ◌<◌, ◌^◌, IfOk, OnOk, OnErr, MatchResult, flat_map, length, None};
 ghost use Rattle.std.specs.Io.KnownBytes.{Appends};
 ghost use Rattle.cluster_rules.specs.Cluster.{Cluster};
 ghost use Rattle.script_runs.specs.Lines.{misfit};
@@ -6,19 +6,16 @@ ghost use Rattle.script_runs.specs.Plays.{emptied};
 ghost use Rattle.script_player.specs.Line.{lines_of};
 ghost use Rattle.script_player.specs.Script.{said};
 ghost use Rattle.cluster_interface.specs.Interface.{IsPlayed};
-ghost use Rattle.script_player.specs.Stage.{CountsWrite, MakesTo, SettlesAll, Turns, IsFew, WritesAll, WritesFirst, GoesOn, ending_of, PlaysTo, PlaysPart};
-ghost use Rattle.script_player.specs.Text.{outs_text, line_of_out as line_of};
+ghost use Rattle.script_player.specs.Stage.{CountsWrite, MakesTo, SettlesAll, Turns, IsFew, TakesAll, TakesFirst, GoesOn, ending_of, PlaysTo, PlaysPart};
 ghost use Rattle.script_player.specs.Run.{WritesPart};
 
 use crate::line::split_at_byte;
-use crate::output::write_all;
 use crate::reading::{Says, said_by};
 use crate::refused::Refused;
-use crate::text::line_of_out;
-use cat_model::{Bytes, Event, Memory};
-use cat_outside::{KeepFail, Sink};
+use crate::taker::Taker;
+use cat_model::{Event, Memory};
+use cat_outside::KeepFail;
 use cluster_interface::ClusterInterface;
-use open_requests::Out;
 use script_lang::BadLine;
 use std::alloc::Global;
 
@@ -36,26 +33,26 @@ pub struct Played {
     pub refused: Option<Refused>,
 }
 
-/// Plays the lines after the opening, the first of them with the number `first`.
-pub fn play<S: ClusterInterface, Si: Sink>(
+/// Plays the lines after the opening, the first of them with the number `first`, and hands their outs on.
+pub fn play<S: ClusterInterface, T: Taker>(
     alloc: Global,
-    sink: &mut Si,
+    taker: &mut T,
     servers: &mut S,
     seed: u64,
     first: u64,
     lines: &[u8],
 ) -> Result<Played, KeepFail>
     requires { first + length lines.now < 2 ^ 30 }
-    ensures plays { IfOk result (λ p. PlaysTo (said seed) first (lines_of lines.now) (S.state servers.old) (ending_of p.refused) (S.state servers.new) p.events (Si.held sink.old) (Si.held sink.new)) }
-    ensures part { OnErr result (PlaysPart (said seed) first (lines_of lines.now) (S.state servers.old) (Si.held sink.old) (Si.held sink.new)) }
-    ensures cause { MatchResult result (λ _. Si.faults sink.new ≡ Si.faults sink.old) (λ fail. CountsWrite fail (Si.faults sink.old) (Si.faults sink.new)) }
+    ensures plays { IfOk result (λ p. PlaysTo T.adds (said seed) first (lines_of lines.now) (S.state servers.old) (ending_of p.refused) (S.state servers.new) p.events (T.held taker.old) (T.held taker.new)) }
+    ensures part { OnErr result (PlaysPart T.adds (said seed) first (lines_of lines.now) (S.state servers.old) (T.held taker.old) (T.held taker.new)) }
+    ensures cause { MatchResult result (λ _. T.faults taker.new ≡ T.faults taker.old) (λ fail. CountsWrite fail (T.faults taker.old) (T.faults taker.new)) }
 {
     let mut rest = lines;
     let mut number = first;
     let mut events: u64 = 0;
     while !rest.is_empty() {
         let (line, after) = split_at_byte(rest, b'\n');
-        match play_line(alloc, sink, servers, seed, line) {
+        match play_line(alloc, taker, servers, seed, line) {
             Ok(Turn::Made(made)) => events += made,
             Ok(Turn::Refused(reason)) => {
                 return Ok(Played {
@@ -78,25 +75,25 @@ pub fn play<S: ClusterInterface, Si: Sink>(
 }
 
 // Plays one line.
-fn play_line<S: ClusterInterface, Si: Sink>(
+fn play_line<S: ClusterInterface, T: Taker>(
     alloc: Global,
-    sink: &mut Si,
+    taker: &mut T,
     servers: &mut S,
     seed: u64,
     line: &[u8],
 ) -> Result<Turn, KeepFail>
-    ensures turns { IfOk result (λ turn. WritesAll (λ outs. Turns (S.state servers.old) (said seed (suc (S.state servers.old).asked) line.now) (S.state servers.new) outs turn) (Si.held sink.old) (Si.held sink.new)) }
+    ensures turns { IfOk result (λ turn. TakesAll T.adds (λ outs. Turns (S.state servers.old) (said seed (suc (S.state servers.old).asked) line.now) (S.state servers.new) outs turn) (T.held taker.old) (T.held taker.new)) }
     ensures few { IfOk result IsFew }
-    ensures part { OnErr result (WritesFirst (GoesOn (S.state servers.old) (said seed (suc (S.state servers.old).asked) line.now)) (Si.held sink.old) (Si.held sink.new)) }
-    ensures cause { MatchResult result (λ _. Si.faults sink.new ≡ Si.faults sink.old) (λ fail. CountsWrite fail (Si.faults sink.old) (Si.faults sink.new)) }
+    ensures part { OnErr result (TakesFirst T.adds (GoesOn (S.state servers.old) (said seed (suc (S.state servers.old).asked) line.now)) (T.held taker.old) (T.held taker.new)) }
+    ensures cause { MatchResult result (λ _. T.faults taker.new ≡ T.faults taker.old) (λ fail. CountsWrite fail (T.faults taker.old) (T.faults taker.new)) }
 {
     match said_by(alloc, servers, seed, line) {
         Ok(Says::Nothing) => Ok(Turn::Made(0)),
-        Ok(Says::Makes(event)) => match make(alloc, sink, servers, event) {
+        Ok(Says::Makes(event)) => match make(alloc, taker, servers, event) {
             Ok(()) => Ok(Turn::Made(1)),
             Err(fail) => Err(fail),
         },
-        Ok(Says::Settles(most)) => match settle(alloc, sink, servers, most) {
+        Ok(Says::Settles(most)) => match settle(alloc, taker, servers, most) {
             Ok(pairs) => Ok(Turn::Made(2 * u64::from(pairs))),
             Err(fail) => Err(fail),
         },
@@ -105,39 +102,39 @@ fn play_line<S: ClusterInterface, Si: Sink>(
     }
 }
 
-// Makes the event, and writes what it gives.
+// Makes the event, and hands on what it gives.
 #[tactic(auto, using(crate::proofs::Turning::none_first))]
-fn make<S: ClusterInterface, Si: Sink>(
+fn make<S: ClusterInterface, T: Taker>(
     alloc: Global,
-    sink: &mut Si,
+    taker: &mut T,
     servers: &mut S,
     event: Event,
 ) -> Result<(), KeepFail>
     requires fits { misfit (S.state servers.old) event ≡ None }
     requires built { IsPlayed event }
-    ensures made { OnOk result (WritesAll (MakesTo (S.state servers.old) event (S.state servers.new)) (Si.held sink.old) (Si.held sink.new)) }
-    ensures part { OnErr result (WritesFirst (λ outs. (c : Cluster) × MakesTo (S.state servers.old) event c outs) (Si.held sink.old) (Si.held sink.new)) }
-    ensures cause { MatchResult result (λ _. Si.faults sink.new ≡ Si.faults sink.old) (λ fail. CountsWrite fail (Si.faults sink.old) (Si.faults sink.new)) }
+    ensures made { OnOk result (TakesAll T.adds (MakesTo (S.state servers.old) event (S.state servers.new)) (T.held taker.old) (T.held taker.new)) }
+    ensures part { OnErr result (TakesFirst T.adds (λ outs. (c : Cluster) × MakesTo (S.state servers.old) event c outs) (T.held taker.old) (T.held taker.new)) }
+    ensures cause { MatchResult result (λ _. T.faults taker.new ≡ T.faults taker.old) (λ fail. CountsWrite fail (T.faults taker.old) (T.faults taker.new)) }
 {
     match servers.step(alloc, event) {
-        Ok(()) => write_outs(alloc, sink, servers),
+        Ok(()) => take_outs(alloc, taker, servers),
         Err(Memory) => Err(KeepFail::Memory),
     }
 }
 
-// Settles, and writes what it gives. Says how many messages were delivered.
-fn settle<S: ClusterInterface, Si: Sink>(
+// Settles, and hands on what it gives. Says how many messages were delivered.
+fn settle<S: ClusterInterface, T: Taker>(
     alloc: Global,
-    sink: &mut Si,
+    taker: &mut T,
     servers: &mut S,
     most: u32,
 ) -> Result<u32, KeepFail>
-    ensures made { IfOk result (λ pairs. WritesAll (SettlesAll (S.state servers.old) most pairs (S.state servers.new)) (Si.held sink.old) (Si.held sink.new)) }
-    ensures part { OnErr result (WritesFirst (λ outs. (pairs : ℕ) × (c : Cluster) × SettlesAll (S.state servers.old) most pairs c outs) (Si.held sink.old) (Si.held sink.new)) }
-    ensures cause { MatchResult result (λ _. Si.faults sink.new ≡ Si.faults sink.old) (λ fail. CountsWrite fail (Si.faults sink.old) (Si.faults sink.new)) }
+    ensures made { IfOk result (λ pairs. TakesAll T.adds (SettlesAll (S.state servers.old) most pairs (S.state servers.new)) (T.held taker.old) (T.held taker.new)) }
+    ensures part { OnErr result (TakesFirst T.adds (λ outs. (pairs : ℕ) × (c : Cluster) × SettlesAll (S.state servers.old) most pairs c outs) (T.held taker.old) (T.held taker.new)) }
+    ensures cause { MatchResult result (λ _. T.faults taker.new ≡ T.faults taker.old) (λ fail. CountsWrite fail (T.faults taker.old) (T.faults taker.new)) }
 {
     match servers.settle(alloc, most) {
-        Ok(pairs) => match write_outs(alloc, sink, servers) {
+        Ok(pairs) => match take_outs(alloc, taker, servers) {
             Ok(()) => Ok(pairs),
             Err(fail) => Err(fail),
         },
@@ -145,42 +142,22 @@ fn settle<S: ClusterInterface, Si: Sink>(
     }
 }
 
-// Takes all outs that wait, and writes them.
-fn write_outs<S: ClusterInterface, Si: Sink>(
+// Hands on all outs that wait.
+fn take_outs<S: ClusterInterface, T: Taker>(
     alloc: Global,
-    sink: &mut Si,
+    taker: &mut T,
     servers: &mut S,
 ) -> Result<(), KeepFail>
     ensures state { OnOk result (S.state servers.new ≡ emptied (S.state servers.old)) }
-    ensures text { OnOk result (Appends (Si.held sink.old) (Si.held sink.new) (outs_text (S.state servers.old).tray)) }
-    ensures part { OnErr result (WritesPart (Si.held sink.old) (Si.held sink.new) (outs_text (S.state servers.old).tray)) }
-    ensures cause { MatchResult result (λ _. Si.faults sink.new ≡ Si.faults sink.old) (λ fail. CountsWrite fail (Si.faults sink.old) (Si.faults sink.new)) }
+    ensures adds { OnOk result (Appends (T.held taker.old) (T.held taker.new) (flat_map T.adds (S.state servers.old).tray)) }
+    ensures part { OnErr result (WritesPart (T.held taker.old) (T.held taker.new) (flat_map T.adds (S.state servers.old).tray)) }
+    ensures cause { MatchResult result (λ _. T.faults taker.new ≡ T.faults taker.old) (λ fail. CountsWrite fail (T.faults taker.old) (T.faults taker.new)) }
 {
     while let Some(out) = servers.next_out() {
-        match write_out(alloc, sink, out) {
+        match taker.take(alloc, out) {
             Ok(()) => {}
             Err(fail) => return Err(fail),
         }
     }
     Ok(())
-}
-
-// The line of an out, which is let go.
-fn line_of_taken(alloc: Global, out: Out) -> Result<Bytes, Memory>
-    ensures { IfOk result (λ text. text ≡ line_of out) }
-{
-    line_of_out(alloc, &out)
-}
-
-// Writes the line of an out.
-#[tactic(auto, using(crate::proofs::Written::part_none))]
-fn write_out<Si: Sink>(alloc: Global, sink: &mut Si, out: Out) -> Result<(), KeepFail>
-    ensures text { OnOk result (Appends (Si.held sink.old) (Si.held sink.new) (line_of out)) }
-    ensures part { OnErr result (WritesPart (Si.held sink.old) (Si.held sink.new) (line_of out)) }
-    ensures cause { MatchResult result (λ _. Si.faults sink.new ≡ Si.faults sink.old) (λ fail. CountsWrite fail (Si.faults sink.old) (Si.faults sink.new)) }
-{
-    match line_of_taken(alloc, out) {
-        Ok(text) => write_all(sink, text.as_slice()),
-        Err(Memory) => Err(KeepFail::Memory),
-    }
 }

@@ -11,7 +11,7 @@ loop-rest-init g c = record {
   few = omega arith;
   made = omega arith;
   faults = refl;
-  so_far = so_far_none _ _ _ _ _;
+  so_far = so_far_none _ _ _ _ _ _;
 }
 
 pub loop-rest-preserved : goal.loop-rest-preserved
@@ -31,8 +31,8 @@ loop-rest-preserved g c =
       made = omega (arith, few, inv.made);
       faults = c.in-Ok-Made.ensures.cause ∙ inv.faults;
       so_far = rw c.split_at_byte.ensures.after
-          (so_far_at (said c.args.seed) _ _ _ _ _ _ (suc number) (number + 1) lines _ next
-          (so_far_more (said c.args.seed) _ _ _ _ _ _ c.loop-rest.events number line lines _ _ made (rw (lines_of-step rest some) at inv.so_far) turns));
+          (so_far_at _ (said c.args.seed) _ _ _ _ _ _ (suc number) (number + 1) lines _ next
+          (so_far_more _ (said c.args.seed) _ _ _ _ _ _ c.loop-rest.events number line lines _ _ made (rw (lines_of-step rest some) at inv.so_far) turns));
     }
 
 pub returns-in-Err-clause-part : goal.returns-in-Err-clause-part
@@ -41,7 +41,7 @@ returns-in-Err-clause-part g c =
     let some : 0 < length rest = some_byte rest c.loop-rest-test.ensures in
     let line = before_first (λ b. nat_eq b 10) rest in
     let lines = lines_of (after_first (λ b. nat_eq b 10) rest) in
-    breaks_at (said c.args.seed) _ _ _ _ _ _ c.loop-rest.events c.loop-rest.number line lines _
+    breaks_at _ (said c.args.seed) _ _ _ _ _ _ c.loop-rest.events c.loop-rest.number line lines _
     (rw (lines_of-step rest some) at c.loop-rest.invariant.so_far) (rw c.split_at_byte.ensures.before at c.in-Err.ensures.part)
 
 pub returns-in-Ok-Refused-clause-plays : goal.returns-in-Ok-Refused-clause-plays
@@ -51,9 +51,9 @@ returns-in-Ok-Refused-clause-plays g c =
     let line = before_first (λ b. nat_eq b 10) rest in
     let lines = lines_of (after_first (λ b. nat_eq b 10) rest) in
     let turns = rw (c.in-Ok-Refused.field-0-is, c.split_at_byte.ensures.before) at c.in-Ok-Refused.ensures.turns in
-    ends_at (said c.args.seed) _ _ _ _ _ _ c.loop-rest.events c.loop-rest.number line lines _ _ c.in-Ok-Refused.reason
+    ends_at _ (said c.args.seed) _ _ _ _ _ _ c.loop-rest.events c.loop-rest.number line lines _ _ c.in-Ok-Refused.reason
     (rw (lines_of-step rest some) at c.loop-rest.invariant.so_far) turns
 
 pub returns-clause-plays : goal.returns-clause-plays
 returns-clause-plays g c =
-    ends_empty (said c.args.seed) _ _ _ _ _ c.loop-rest.events c.loop-rest.number c.loop-rest.rest.now _ c.loop-rest.invariant.so_far c.loop-rest-test.ensures
+    ends_empty _ (said c.args.seed) _ _ _ _ _ c.loop-rest.events c.loop-rest.number c.loop-rest.rest.now _ c.loop-rest.invariant.so_far c.loop-rest-test.ensures

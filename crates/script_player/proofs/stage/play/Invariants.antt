@@ -8,8 +8,8 @@ abbrev pub invariant-loop-rest : goal.invariant-loop-rest
 invariant-loop-rest g l = record {
   few : l.number + length l.rest ≤ l.fn.first + length l.fn.lines;
   made : l.events ≤ 8589934592 * l.number;
-  faults : g.Si.Sink.faults l.sink ≡ g.Si.Sink.faults l.fn.sink;
-  so_far : SoFar (said l.fn.seed) l.fn.first (lines_of l.fn.lines) (g.S.ClusterInterface.state l.fn.servers) (g.Si.Sink.held l.fn.sink) (g.Si.Sink.held l.sink) l.events l.number (lines_of l.rest) (g.S.ClusterInterface.state l.servers);
+  faults : g.T.Taker.faults l.taker ≡ g.T.Taker.faults l.fn.taker;
+  so_far : SoFar g.T.Taker.adds (said l.fn.seed) l.fn.first (lines_of l.fn.lines) (g.S.ClusterInterface.state l.fn.servers) (g.T.Taker.held l.fn.taker) (g.T.Taker.held l.taker) l.events l.number (lines_of l.rest) (g.S.ClusterInterface.state l.servers);
 }
 
 abbrev pub decreases-loop-rest : goal.decreases-loop-rest
