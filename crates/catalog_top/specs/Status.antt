@@ -31,6 +31,10 @@ IsPlainStatus n = (n ≡ 0) ⊎ ((n ≡ 2) ⊎ ((n ≡ 3) ⊎ ((n ≡ 4) ⊎ ((n
 abbrev pub IsServeStatus : ℕ → Type 0
 IsServeStatus n = (n ≡ 0) ⊎ ((n ≡ 5) ⊎ ((n ≡ 6) ⊎ (n ≡ 8)))
 
+-- the statuses of a load
+abbrev pub IsLoadStatus : ℕ → Type 0
+IsLoadStatus n = (n ≡ 0) ⊎ ((n ≡ 5) ⊎ (n ≡ 8))
+
 -- how a server's end is told
 abbrev pub IsToldAs : Result Report server.Stop → Outcome → Type 0
 IsToldAs (Ok report) outcome = outcome ≡ record { status = 0; report = Some report }

@@ -24,13 +24,65 @@ const PUT_AND_GET: &str =
 const USAGE: &str =
     "usage: catalogd script / load SEED SIZE / serve --servers S --agents A --port P --connections N [--keep DIR]\n";
 
-// Words that are no form, and a source and a sink that fail at a call.
-static ENDINGS: [Ending; 4] = [
+// Words that are no form, loads, and a source and a sink that fail at a call. The numbers of a load were worked out from
+// the generator's definition.
+static ENDINGS: [Ending; 12] = [
     Ending {
         words: "script now",
         failing: NONE_FAILS,
         status: 2,
         text: USAGE,
+    },
+    Ending {
+        words: "load 7 0",
+        failing: NONE_FAILS,
+        status: 2,
+        text: USAGE,
+    },
+    Ending {
+        words: "load 7 100001",
+        failing: NONE_FAILS,
+        status: 2,
+        text: USAGE,
+    },
+    Ending {
+        words: "load 7",
+        failing: NONE_FAILS,
+        status: 2,
+        text: USAGE,
+    },
+    Ending {
+        words: "load x 5",
+        failing: NONE_FAILS,
+        status: 2,
+        text: USAGE,
+    },
+    Ending {
+        words: "load 7 1",
+        failing: NONE_FAILS,
+        status: 0,
+        text: "requests 1 puts 0 gets 0 found 0 deletes 1 log 2\n",
+    },
+    Ending {
+        words: "load 7 1000",
+        failing: NONE_FAILS,
+        status: 0,
+        text: "requests 1000 puts 491 gets 262 found 51 deletes 247 log 739\n",
+    },
+    Ending {
+        words: "load 7 1000",
+        failing: NONE_FAILS,
+        status: 0,
+        text: "requests 1000 puts 491 gets 262 found 51 deletes 247 log 739\n",
+    },
+    Ending {
+        words: "load 7 1",
+        failing: Failing {
+            read: None,
+            write: Some(1),
+        },
+        status: 5,
+        text: "",
     },
     Ending {
         words: "script",
