@@ -1,5 +1,5 @@
 -- No line of a load is refused.
-use Rattle.std.proofs.Common.{◌≡◌, ◌⊎◌, inl, inr, ℕ, suc, ◌+◌, ◌<◌, ◌≤◌, ◌^◌, true, List, [], ◌∷◌, length, codes, None, Some, refl, sym, ap, ◌∙◌, subst, arith}
+use Rattle.std.proofs.Common.{◌≡◌, ◌⊎◌, inl, inr, ℕ, suc, ◌+◌, ◌<◌, ◌^◌, true, List, ◌∷◌, length, codes, None, Some, refl, sym, ap, ◌∙◌, subst, arith}
 use Rattle.std.specs.List.{AllByRecursion as Each}
 use Rattle.cat_model.specs.declared.request.Asked.{Asked}
 use Rattle.cat_model.specs.declared.request.Draw.{Draw}
@@ -10,8 +10,8 @@ use Rattle.cluster_rules.specs.Reached.{Settling, none, pair}
 use Rattle.load_script.specs.Load.{load_script, requests_from, drawn}
 use Rattle.script_runs.specs.Lines.{Said, Nothing, Makes, Settles, Refuses, misfit}
 use Rattle.script_runs.specs.Plays.{Refused, Plays, skips, makes, settles, refuses, misfits}
-use Rattle.script_player.specs.Run.{IsRefused, Played, closed, played}
-use Rattle.script_player.specs.Script.{Opened, said, script_of}
+use Rattle.script_player.specs.Run.{IsRefused, closed, played}
+use Rattle.script_player.specs.Script.{said, script_of}
 use Rattle.serving_rules.proofs.Serving.{agents_after}
 use Rattle.load_script.proofs.Drawing.{drawn_length}
 use Rattle.load_player.proofs.Lines.{each_line}

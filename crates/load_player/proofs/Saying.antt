@@ -1,7 +1,6 @@
 -- What the lines of a load say.
-use Rattle.std.proofs.Common.{◌≡◌, ◌⊎◌, inl, inr, ℕ, ◌+◌, ◌<◌, ◌^◌, Bool, true, false, nat_lt, ◌&&◌, cond, List, [], ◌∷◌, ◌++◌, length, codes, Option, Some, None, Result, Ok, Err, refl, sym, ap, ◌∙◌, arith}
+use Rattle.std.proofs.Common.{◌≡◌, ℕ, ◌+◌, ◌<◌, ◌^◌, Bool, true, false, cond, List, [], ◌∷◌, ◌++◌, length, codes, Option, Result, Ok, Err, refl, ap, ◌∙◌, arith}
 use Rattle.std.specs.Fmt.{decimal}
-use Rattle.std.specs.List.{AllByRecursion as Each}
 use Rattle.std.specs.Str.{bytes_eq}
 use Rattle.std.proofs.lemmas.Bool.Decides.{nat_tests}
 use Rattle.cat_model.specs.declared.request.Asked.{Asked}
@@ -10,20 +9,19 @@ use Rattle.cat_model.specs.declared.request.Event.TheVariants.{Ask, Timeout}
 use Rattle.http_routes.specs.Routes.{route_of}
 use Rattle.load_script.specs.declared.method.Method.{Method}
 use Rattle.load_script.specs.declared.method.Method.TheVariants.{Put, Get, Delete}
-use Rattle.load_script.specs.Load.{request, requests_from, load_lines, load_script, drawn}
+use Rattle.load_script.specs.Load.{request, requests_from, load_script, drawn}
 use Rattle.script_lang.specs.declared.bad_line.BadLine.{BadLine}
 use Rattle.script_lang.specs.declared.bad_line.BadLine.TheVariants.{BadRequestLine, UnknownLine, ExpectedCluster}
 use Rattle.script_lang.specs.declared.line.Line.{Line}
 use Rattle.script_lang.specs.declared.line.Line.TheVariants as line
 use Rattle.script_lang.specs.Answers.{◌>>=◌}
-use Rattle.script_lang.specs.Lines.{any64, asking, first_of, line_of, opening, worded}
+use Rattle.script_lang.specs.Lines.{any64, asking, first_of, opening, worded}
 use Rattle.script_lang.specs.Numbers.{number_in, is_within}
 use Rattle.script_lang.specs.Requests.{asked_of, body_of, is_token}
 use Rattle.script_lang.specs.Words.{is_nothing, rest_of, words_of}
 use Rattle.script_runs.specs.Lines.{Said, Makes, Refuses, Settles}
 use Rattle.script_player.specs.declared.opening.Opening.{Opening}
-use Rattle.script_player.specs.Line.{lines_of}
-use Rattle.script_player.specs.Script.{Script, Opened, said, said_of, opened_at, opened_by, opening_of, script_from, script_of}
+use Rattle.script_player.specs.Script.{Opened, said, said_of, opened_at, opened_by, opening_of, script_from, script_of}
 use Rattle.load_player.proofs.Decimals.{and_true, is_some_text, number_read}
 use Rattle.load_player.proofs.Lines.{load_lines_are}
 use Rattle.load_player.proofs.Words.{target, target_is_token, put_words, get_words, delete_words, opening_words}

@@ -1,5 +1,5 @@
 -- The words of the command line that ask for a load.
-use Rattle.std.specs.Prelude.{◌≡◌, ◌<◌, ◌≤◌, ◌^◌, ℕ, List, [], ◌∷◌, Ok, codes}
+use Rattle.std.specs.Prelude.{◌≡◌, ℕ, List, [], ◌∷◌, Ok, codes}
 use Rattle.script_lang.specs.Lines.{any64, between}
 use Rattle.script_lang.specs.Numbers.{number_in}
 use Rattle.load_player.specs.declared.load.Load.{Load}

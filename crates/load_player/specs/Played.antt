@@ -1,5 +1,5 @@
 -- What playing a load does. `held` is what the sink holds before it and, primed, after it.
-use Rattle.std.specs.Prelude.{◌≡◌, ◌⊎◌, ℕ, List, [], flat_map, length, Option}
+use Rattle.std.specs.Prelude.{◌⊎◌, ℕ, List, [], flat_map, length, Option}
 use Rattle.std.specs.Io.KnownBytes.{Appends}
 use Rattle.cluster_rules.specs.Replies.{Out}
 use Rattle.cluster_rules.specs.Cluster.{Cluster}

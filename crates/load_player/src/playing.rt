@@ -1,7 +1,10 @@
-ghost use Rattle.std.specs.Prelude.{◌≡◌, ◌≤◌, IfOk, OnOk, OnErr, MatchResult, length};
+ghost use Rattle.std.specs.Prelude.{◌≡◌, ◌≤◌, IfOk, OnOk, OnErr, MatchResult, flat_map};
 ghost use Rattle.std.specs.Io.KnownBytes.{Appends};
+ghost use Rattle.load_script.specs.Load.{load_script};
 ghost use Rattle.load_script.specs.Summary.{summary_text};
-ghost use Rattle.script_player.specs.Run.{WritesPart};
+ghost use Rattle.script_player.specs.Found.{found_in};
+ghost use Rattle.script_player.specs.Run.{RunOf, WritesPart};
+ghost use Rattle.script_player.specs.Script.{script_of};
 ghost use Rattle.script_player.specs.Stage.{CountsWrite};
 ghost use Rattle.load_player.specs.Played.{PlayedLoad, WritesLoadPart};
 
@@ -10,7 +13,7 @@ use cat_model::Memory;
 use cat_outside::{KeepFail, Sink};
 use cluster_interface::ClusterInterface;
 use load_script::{make_load, summarize};
-use script_player::{Report, play_finding, write_all};
+use script_player::{Found, Report, play_finding, write_all};
 use std::alloc::Global;
 
 /// Plays the load's script on servers of the type `S`, writes the line that sums it up, and reports the run. After a
@@ -25,19 +28,32 @@ pub fn play_load<S: ClusterInterface, Si: Sink>(
     ensures part { OnErr result (WritesLoadPart load.now (Si.held sink.old) (Si.held sink.new)) }
     ensures cause { MatchResult result (λ _. Si.faults sink.new ≡ Si.faults sink.old) (λ fail. CountsWrite fail (Si.faults sink.old) (Si.faults sink.new)) }
 {
-    let Ok(script) = make_load(alloc, load.seed, load.size) else {
-        return Err(KeepFail::Memory);
-    };
-    match play_finding::<S>(alloc, &script) {
-        Ok(Some((report, found))) => {
+    match play_drawn::<S>(alloc, load.seed, load.size) {
+        Ok((report, found)) => {
             let log = report.agreed.len() as u64;
             match write_summary(alloc, sink, load, found.numbers.len() as u64, log) {
                 Ok(()) => Ok(report),
                 Err(fail) => Err(fail),
             }
         }
-        Ok(None) => unreachable!(),
         Err(Memory) => Err(KeepFail::Memory),
+    }
+}
+
+// Plays the load with this seed and size, no line of which is refused. It reports the run, with the numbers of the
+// requests that found something.
+fn play_drawn<S: ClusterInterface>(
+    alloc: Global,
+    seed: u64,
+    size: u32,
+) -> Result<(Report, Found), Memory>
+    requires { size ≤ 100000 }
+    ensures { IfOk result (λ ran. RunOf (script_of (load_script seed size)) (λ outs c. ran.1.numbers ≡ flat_map found_in outs) ran.0) }
+{
+    let script = make_load(alloc, seed, size)?;
+    match play_finding::<S>(alloc, &script)? {
+        Some(ran) => Ok(ran),
+        None => unreachable!(),
     }
 }
 

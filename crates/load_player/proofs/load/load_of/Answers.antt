@@ -1,5 +1,5 @@
-use Rattle.std.proofs.Common.{arith, rules}
-use Rattle.load_player.proofs.Asking.{asks_from, word_at, words_count}
+use Rattle.std.proofs.Common.{arith}
+use Rattle.load_player.proofs.Asking.{asks_from, words_count}
 use Rattle.load_player.proofs.load.load_of.Goals as goal
 
 pub returns-in-load-clause-asked : goal.returns-in-load-clause-asked
