@@ -6,6 +6,6 @@ pub returns-in-Ok-write_refused-clause-run : goal.returns-in-Ok-write_refused-cl
 returns-in-Ok-write_refused-clause-run g c =
     closed_from _ _ _ _ _ (rw c.in-Err-Refused.field-0-is at c.in-Err-Refused.ensures.refused) c.in-Ok-write_refused.ensures.text
 
-pub returns-in-Err-clause-part : goal.returns-in-Err-clause-part
-returns-in-Err-clause-part g c =
+pub returns-in-Err-Refused-clause-part : goal.returns-in-Err-Refused-clause-part
+returns-in-Err-Refused-clause-part g c =
     inr (part_closed _ _ _ _ _ (rw c.in-Err-Refused.field-0-is at c.in-Err-Refused.ensures.refused) c.in-Err.ensures.part)
