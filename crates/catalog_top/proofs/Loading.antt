@@ -16,3 +16,11 @@ pub load_not_two : (n : ℕ) → IsLoadStatus n → n ≡ 2 → ⊥
 load_not_two n (inl z) e = cc (sym z ∙ e)
 load_not_two n (inr (inl f)) e = cc (sym f ∙ e)
 load_not_two n (inr (inr h)) e = cc (sym h ∙ e)
+
+-- what words that ask for no server may be, they may be with servers too
+pub form_with : {A B C D E F : Type 0} → A ⊎ (B ⊎ (C ⊎ (D ⊎ E))) → A ⊎ (B ⊎ (C ⊎ (D ⊎ (E ⊎ F))))
+form_with (inl a) = inl a
+form_with (inr (inl b)) = inr (inl b)
+form_with (inr (inr (inl c))) = inr (inr (inl c))
+form_with (inr (inr (inr (inl d)))) = inr (inr (inr (inl d)))
+form_with (inr (inr (inr (inr e)))) = inr (inr (inr (inr (inl e))))
