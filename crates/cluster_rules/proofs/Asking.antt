@@ -50,7 +50,7 @@ due_not n c i a w e = due_cases c i (WorkIsNot n) (λ (h : Pending). h.question.
       rises = λ _ _ _ _. other;
       answers = λ _ _ _ _ _ _ _ _ _ _. other;
       refuses = λ _ _ _ _ _ _ _ _ _ _ _. other;
-      sees = λ _ _ _ _ _ _ _ _ _ _ _. l;
+      sees = λ _ _ _ _ _ _ _ _ _. l;
       runs = λ _ _ _ _ _ _ _. other;
       turns = λ _ _ _ _ _ _. l;
     }

@@ -15,7 +15,7 @@ use Rattle.raft_model.specs.declared.message.Round.{Round}
 use Rattle.raft_model.specs.Rules.{is_confirmed}
 use Rattle.raft_model.proofs.Tests.{lt_tells, lt_tells_not, le_tells, eq_tells}
 use Rattle.cluster_rules.specs.Cluster.{Stand, AtPlace, InRound, ForIndex, Ended, Pending, Cluster, node_of, applied_of, clock_of}
-use Rattle.cluster_rules.specs.Due.{Work, Replies, Holds, Closes, Applies, landed, was_seen, is_new, waiting, asks_read, early_stand, is_ended, early_work, late_stand, late_work, IsDue, early, next_one, late}
+use Rattle.cluster_rules.specs.Due.{Work, Replies, Holds, Closes, Applies, landed, waiting, asks_read, early_stand, is_ended, early_work, late_stand, late_work, IsDue, early, next_one, late}
 use Rattle.cluster_rules.proofs.Tools.{both, neither, one_of, not_tells_not, le_tells_not, each_in}
 
 -- what a fact has to hold of for a held request
@@ -24,26 +24,22 @@ pub record Leaves (c : Cluster) (i : ℕ) (P : Work → Type 0) (h : Pending) : 
   pub closes : (event : ℕ) → h.stand ≡ Ended event → P (Closes h.question.number event)
   pub lands : (index term : ℕ) → h.stand ≡ AtPlace index term → index ≤ length (applied_of c i) → P (Replies h.question (landed index term (applied_of c i)))
   pub rises : (round : Round) (deadline : ℕ) → h.stand ≡ InRound round deadline → round.term < (node_of c.world i).term → P (Replies h.question (Refused (refusal.Lost round.term (node_of c.world i).term)))
-  pub answers : (deadline : ℕ) (seen : Option ℕ) (query : Query) (mode : Mode) (least wait : ℕ) (raw : Bool) → h.stand ≡ ForIndex deadline seen → h.question.asked ≡ Good (Read query mode least wait raw) →
+  pub answers : (deadline : ℕ) (looked : Bool) (query : Query) (mode : Mode) (least wait : ℕ) (raw : Bool) → h.stand ≡ ForIndex deadline looked → h.question.asked ≡ Good (Read query mode least wait raw) →
       (least < index_of query (commands_of (applied_of c i))) ⊎ (deadline ≤ clock_of c.world i) →
       P (Replies h.question (At mode (length (applied_of c i)) (index_of query (commands_of (applied_of c i))) (clock_of c.world i) deadline))
-  pub refuses : (deadline : ℕ) (query : Query) (mode : Mode) (least wait : ℕ) (raw : Bool) → h.stand ≡ ForIndex deadline None → h.question.asked ≡ Good (Read query mode least wait raw) →
+  pub refuses : (deadline : ℕ) (query : Query) (mode : Mode) (least wait : ℕ) (raw : Bool) → h.stand ≡ ForIndex deadline false → h.question.asked ≡ Good (Read query mode least wait raw) →
       index_of query (commands_of (applied_of c i)) ≤ least → clock_of c.world i < deadline → 4096 ≤ waiting i c.held → P (Replies h.question (Refused (refusal.TooMany (waiting i c.held))))
-  pub sees : (deadline : ℕ) (seen : Option ℕ) (query : Query) (mode : Mode) (least wait : ℕ) (raw : Bool) → h.stand ≡ ForIndex deadline seen → h.question.asked ≡ Good (Read query mode least wait raw) →
-      index_of query (commands_of (applied_of c i)) ≤ least → was_seen seen (length (applied_of c i)) ≡ false → P (Holds (record h { stand = ForIndex deadline (Some (length (applied_of c i))) }))
-  pub runs : (deadline : ℕ) (seen : Option ℕ) (name : List ℕ) (limit : ℕ) (mode : Mode) → h.stand ≡ ForIndex deadline seen → h.question.asked ≡ Good (Execute name limit mode) →
+  pub sees : (deadline : ℕ) (query : Query) (mode : Mode) (least wait : ℕ) (raw : Bool) → h.stand ≡ ForIndex deadline false → h.question.asked ≡ Good (Read query mode least wait raw) →
+      index_of query (commands_of (applied_of c i)) ≤ least → P (Holds (record h { stand = ForIndex deadline true }))
+  pub runs : (deadline : ℕ) (looked : Bool) (name : List ℕ) (limit : ℕ) (mode : Mode) → h.stand ≡ ForIndex deadline looked → h.question.asked ≡ Good (Execute name limit mode) →
       P (Replies h.question (Seen mode (length (applied_of c i))))
-  pub turns : (round : Round) (deadline : ℕ) → h.stand ≡ InRound round deadline → (node_of c.world i).halted ≡ false → is_confirmed (node_of c.world i) round ≡ true → round.commit ≤ length (applied_of c i) → P (Holds (record h { stand = ForIndex deadline None }))
+  pub turns : (round : Round) (deadline : ℕ) → h.stand ≡ InRound round deadline → (node_of c.world i).halted ≡ false → is_confirmed (node_of c.world i) round ≡ true → round.commit ≤ length (applied_of c i) → P (Holds (record h { stand = ForIndex deadline false }))
 
 pub some_work : (w v : Work) → Some w ≡ Some v → w ≡ v
 some_work w v e = cc e
 
 pub no_work : (w : Work) → None ≡ Some w → ⊥
 no_work w e = cc e
-
-is_none_new : (seen : Option ℕ) → is_new seen ≡ true → seen ≡ None
-is_none_new None e = refl
-is_none_new (Some n) e = absurd (cc e)
 
 module _ (c : Cluster) (i : ℕ) (P : Work → Type 0) where
   is_it : (v w : Work) → P v → Some v ≡ Some w → P w
@@ -61,26 +57,26 @@ module _ (c : Cluster) (i : ℕ) (P : Work → Type 0) where
   either a b m n (inl e) = inl (lt_tells a b e)
   either a b m n (inr e) = inr (le_tells m n e)
 
-  read_case : (h : Pending) → Leaves c i P h → (deadline : ℕ) (seen : Option ℕ) → h.stand ≡ ForIndex deadline seen → (asked : Asked) → h.question.asked ≡ asked → (w : Work) → asks_read h (waiting i c.held) (clock_of c.world i) (applied_of c i) deadline seen asked ≡ Some w → P w
-  read_case h l deadline seen st (Good (Read query mode least wait raw)) ask w =
+  read_case : (h : Pending) → Leaves c i P h → (deadline : ℕ) (looked : Bool) → h.stand ≡ ForIndex deadline looked → (asked : Asked) → h.question.asked ≡ asked → (w : Work) → asks_read h (waiting i c.held) (clock_of c.world i) (applied_of c i) deadline looked asked ≡ Some w → P w
+  read_case h l deadline looked st (Good (Read query mode least wait raw)) ask w =
       on (nat_lt least index || nat_le deadline clock) _ _ w
-      (λ e. is_it _ w (l.answers deadline seen query mode least wait raw st ask (either least index deadline clock (one_of (nat_lt least index) (nat_le deadline clock) e))))
-      (λ e. on (was_seen seen (length (applied_of c i))) _ _ w (λ _. is_none w)
-      (λ u. on (is_new seen && nat_le 4096 (waiting i c.held)) _ _ w
-      (λ f. let b = both (is_new seen) (nat_le 4096 (waiting i c.held)) f in let n = neither (nat_lt least index) (nat_le deadline clock) e in
-      is_it _ w (l.refuses deadline query mode least wait raw (subst (λ z. h.stand ≡ ForIndex deadline z) (is_none_new seen b.0) st) ask (lt_tells_not least index n.0) (le_tells_not deadline clock n.1) (le_tells 4096 (waiting i c.held) b.1)))
-      (λ _. is_it _ w (l.sees deadline seen query mode least wait raw st ask (lt_tells_not least index ((neither (nat_lt least index) (nat_le deadline clock) e).0)) u))))
+      (λ e. is_it _ w (l.answers deadline looked query mode least wait raw st ask (either least index deadline clock (one_of (nat_lt least index) (nat_le deadline clock) e))))
+      (λ e. on looked _ _ w (λ _. is_none w)
+      (λ u. let n = neither (nat_lt least index) (nat_le deadline clock) e in let new = subst (λ z. h.stand ≡ ForIndex deadline z) u st in
+      on (nat_le 4096 (waiting i c.held)) _ _ w
+      (λ f. is_it _ w (l.refuses deadline query mode least wait raw new ask (lt_tells_not least index n.0) (le_tells_not deadline clock n.1) (le_tells 4096 (waiting i c.held) f)))
+      (λ _. is_it _ w (l.sees deadline query mode least wait raw new ask (lt_tells_not least index n.0)))))
     where
       index : ℕ
       index = index_of query (commands_of (applied_of c i))
 
       clock : ℕ
       clock = clock_of c.world i
-  read_case h l deadline seen st (Good (Write command)) ask w = is_none w
-  read_case h l deadline seen st (Good (Execute name limit mode)) ask w = is_it _ w (l.runs deadline seen name limit mode st ask)
-  read_case h l deadline seen st (Good (Renew id)) ask w = is_none w
-  read_case h l deadline seen st (Good (Agent op)) ask w = is_none w
-  read_case h l deadline seen st (Bad why) ask w = is_none w
+  read_case h l deadline looked st (Good (Write command)) ask w = is_none w
+  read_case h l deadline looked st (Good (Execute name limit mode)) ask w = is_it _ w (l.runs deadline looked name limit mode st ask)
+  read_case h l deadline looked st (Good (Renew id)) ask w = is_none w
+  read_case h l deadline looked st (Good (Agent op)) ask w = is_none w
+  read_case h l deadline looked st (Bad why) ask w = is_none w
 
   early_case : (h : Pending) → (h.server ≡ i → Leaves c i P h) → (w : Work) → early_work c i h ≡ Some w → P w
   early_case h m w = on (h.server == i) _ _ w
@@ -92,7 +88,7 @@ module _ (c : Cluster) (i : ℕ) (P : Work → Type 0) where
       by l (Ended event) e = is_it _ w (l.closes event e)
       by l (AtPlace index term) e = on (nat_le index (length (applied_of c i))) _ _ w (λ t. is_it _ w (l.lands index term e (le_tells index _ t))) (λ _. is_none w)
       by l (InRound round deadline) e = on (nat_lt round.term (node_of c.world i).term) _ _ w (λ t. is_it _ w (l.rises round deadline e (lt_tells round.term _ t))) (λ _. is_none w)
-      by l (ForIndex deadline seen) e = read_case h l deadline seen e h.question.asked refl w
+      by l (ForIndex deadline looked) e = read_case h l deadline looked e h.question.asked refl w
 
   late_case : (h : Pending) → (h.server ≡ i → Leaves c i P h) → (w : Work) → late_work c i h ≡ Some w → P w
   late_case h m w = on (h.server == i) _ _ w (λ t. by (m (eq_tells h.server i t)) h.stand refl) (λ _. is_none w)
@@ -100,7 +96,7 @@ module _ (c : Cluster) (i : ℕ) (P : Work → Type 0) where
       by : Leaves c i P h → (st : Stand) → h.stand ≡ st → late_stand c i h st ≡ Some w → P w
       by l (Ended event) e = is_none w
       by l (AtPlace index term) e = is_none w
-      by l (ForIndex deadline seen) e = is_none w
+      by l (ForIndex deadline looked) e = is_none w
       by l (InRound round deadline) e = on (not (node_of c.world i).halted && (is_confirmed (node_of c.world i) round && nat_le round.commit (length (applied_of c i)))) _ _ w
           (λ t. let a = both (not (node_of c.world i).halted) (is_confirmed (node_of c.world i) round && nat_le round.commit (length (applied_of c i))) t in
           let b = both (is_confirmed (node_of c.world i) round) (nat_le round.commit (length (applied_of c i))) a.1 in

@@ -1,6 +1,6 @@
 -- A consistent read at one server, computed step by step.
 use Rattle.std.proofs.Common.{arith, inr}
-use Rattle.std.specs.Prelude.{◌≢◌, [], None, refl, true}
+use Rattle.std.specs.Prelude.{◌≢◌, [], refl, true, false}
 use Rattle.cat_model.specs.Tables.{put}
 use Rattle.cat_model.specs.Same.{same_kv}
 use Rattle.cat_model.specs.Catalog.{same_catalog}
@@ -47,7 +47,7 @@ three : Cluster
 three = holding reader 1 (InRound round 300000) (Probed 1 1 round) (moved 1 asked_all (marked (event.Ask 1 sure_a drawn) two))
 
 looks : Pending
-looks = record { question = reader; server = 1; stand = ForIndex 300000 None }
+looks = record { question = reader; server = 1; stand = ForIndex 300000 false }
 
 four : Cluster
 four = did 1 (Replies reader (At Consistent 1 1 0 300000)) (did 1 (Holds looks) three)

@@ -1,5 +1,5 @@
 -- No request is lost, and none is in two places.
-use Rattle.std.proofs.Common.{◌≡◌, ◌≢◌, ℕ, suc, ◌+◌, ◌≤◌, inl, inr, Bool, true, false, cond, not, List, [], ◌∷◌, ◌++◌, length, map, refl, sym, ◌∙◌, ap, subst, arith, Option, Some, None}
+use Rattle.std.proofs.Common.{◌≡◌, ◌≢◌, ℕ, suc, ◌+◌, ◌≤◌, inl, inr, Bool, true, false, cond, not, List, [], ◌∷◌, ◌++◌, length, map, refl, sym, ◌∙◌, ap, subst, arith, Option, Some}
 use Rattle.std.specs.Prelude.{◌==◌, nat_lt, nat_le, ◌&&◌}
 use Rattle.std.specs.List.{AllByRecursion as Each}
 use Rattle.std.proofs.lemmas.Bool.Decides.{nat_tests}
@@ -132,9 +132,9 @@ module _ (n : ℕ) (c : Cluster) (lost : NoneLost n c) where
         rises = λ _ _ _ _. gives h.question.number _ refl l;
         answers = λ _ _ _ _ _ _ _ _ _ _. gives h.question.number _ refl l;
         refuses = λ _ _ _ _ _ _ _ _ _ _ _. gives h.question.number _ refl l;
-        sees = λ deadline _ _ _ _ _ _ _ _ _ _. λ k. keeps k (record h { stand = ForIndex deadline (Some (length (applied_of c i))) });
+        sees = λ deadline _ _ _ _ _ _ _ _. λ k. keeps k (record h { stand = ForIndex deadline true });
         runs = λ _ _ _ _ _ _ _. gives h.question.number _ refl l;
-        turns = λ _ deadline _ _ _ _. λ k. keeps k (record h { stand = ForIndex deadline None });
+        turns = λ _ deadline _ _ _ _. λ k. keeps k (record h { stand = ForIndex deadline false });
       })
       (λ _ k. refl) w d
 

@@ -1,5 +1,5 @@
 -- What is due is right, so doing it leaves the cluster sound.
-use Rattle.std.proofs.Common.{◌≡◌, ◌≢◌, ℕ, ◌<◌, ◌≤◌, ◌⊎◌, inl, inr, Bool, true, false, cond, List, [], ◌∷◌, length, take, refl, sym, ◌∙◌, ap, subst, arith, Option, Some, None}
+use Rattle.std.proofs.Common.{◌≡◌, ◌≢◌, ℕ, ◌<◌, ◌≤◌, ◌⊎◌, inl, inr, Bool, true, false, cond, List, [], ◌∷◌, length, take, refl, sym, ◌∙◌, ap, subst, arith}
 use Rattle.std.specs.Prelude.{◌==◌}
 use Rattle.std.proofs.lemmas.List.{take_all, length-take}
 use Rattle.cat_model.specs.declared.query.Query.{Query}
@@ -30,7 +30,7 @@ use Rattle.cluster_rules.specs.Replies.{Question, came, entered}
 use Rattle.cluster_rules.specs.Lasting.{IsWrite, IsRead, IsLook, IsSeen, RefusesLook, RefusesRead, RefusesWrite, IsRefused, HasLostRound, LastsFor, IsAnswerAt}
 use Rattle.cluster_rules.specs.Cluster.{Stand, AtPlace, InRound, ForIndex, Ended, Pending, Start, Proposed, Probed, Cluster, node_of, server_of, applied_of, clock_of}
 use Rattle.cluster_rules.specs.Due.{Work, landed, waiting, is_ended, did, IsDue, Works, none, work}
-use Rattle.cluster_rules.specs.Sound.{IsAmong, NeverEnters, asked_in, entries_before, IsFresh, StartIsSound, SeenBelow, StandIsSound, PendingIsSound, LostFor, PastIsSound, ServerIsSound, IsSoundAtWork}
+use Rattle.cluster_rules.specs.Sound.{IsAmong, NeverEnters, asked_in, entries_before, IsFresh, StartIsSound, LookedBelow, StandIsSound, PendingIsSound, LostFor, PastIsSound, ServerIsSound, IsSoundAtWork}
 use Rattle.cluster_rules.proofs.Tools.{eq_tells_not, there_or_none, each_among}
 use Rattle.cluster_rules.proofs.Entries.{agree_entry}
 use Rattle.cluster_rules.proofs.Grows.{write_map, look_map}
@@ -97,7 +97,7 @@ look_start (Good (Renew id)) mode Q x = absurd x
 look_start (Good (Agent op)) mode Q x = absurd x
 look_start (Bad why) mode Q x = absurd x
 
-pub new_below : (asked : Asked) (applied : Log) → SeenBelow asked None applied
+pub new_below : (asked : Asked) (applied : Log) → LookedBelow asked false applied
 new_below (Good (Read query mode least wait raw)) applied = tt
 new_below (Good (Execute name limit mode)) applied = tt
 new_below (Good (Write command)) applied = tt
@@ -200,7 +200,7 @@ module _ (c : Cluster) (s : IsSoundAtWork c) (i : ℕ) where
         by : (st : Stand) → h.stand ≡ st → is_ended st ≡ false → IsRefused h.question.asked (refusal.Halted i)
         by (AtPlace index term) e _ = write_refused h.question.asked _ _ (of_stand (AtPlace index term) e) tt
         by (InRound round deadline) e _ = look_refused h.question.asked _ _ (of_stand (InRound round deadline) e) (λ mode p. tt)
-        by (ForIndex deadline seen) e _ = look_refused h.question.asked _ _ (of_stand (ForIndex deadline seen) e).0 (λ mode p. tt)
+        by (ForIndex deadline looked) e _ = look_refused h.question.asked _ _ (of_stand (ForIndex deadline looked) e).0 (λ mode p. tt)
         by (Ended event) e n = absurd (cc n)
 
     rises_right : (round : Round) (deadline : ℕ) → h.stand ≡ InRound round deadline → round.term < (node_of c.world i).term → IsRight c (applied_of c i) h.question (Refused (refusal.Lost round.term (node_of c.world i).term))
@@ -214,21 +214,21 @@ module _ (c : Cluster) (s : IsSoundAtWork c) (i : ℕ) where
     }
 
     -- of a read or an execution, what its stand says
-    look_stand : (deadline : ℕ) (seen : Option ℕ) (asked : Asked) → h.stand ≡ ForIndex deadline seen → h.question.asked ≡ asked →
-        IsLook asked (λ mode. IsFresh mode h.question.number c.past c.starts (length (applied_of c i))) × SeenBelow asked seen (applied_of c i)
-    look_stand deadline seen asked st ask =
-        subst (λ z. IsLook z (λ mode. IsFresh mode h.question.number c.past c.starts (length (applied_of c i))) × SeenBelow z seen (applied_of c i)) ask (of_stand (ForIndex deadline seen) st)
+    look_stand : (deadline : ℕ) (looked : Bool) (asked : Asked) → h.stand ≡ ForIndex deadline looked → h.question.asked ≡ asked →
+        IsLook asked (λ mode. IsFresh mode h.question.number c.past c.starts (length (applied_of c i))) × LookedBelow asked looked (applied_of c i)
+    look_stand deadline looked asked st ask =
+        subst (λ z. IsLook z (λ mode. IsFresh mode h.question.number c.past c.starts (length (applied_of c i))) × LookedBelow z looked (applied_of c i)) ask (of_stand (ForIndex deadline looked) st)
 
-    answers_right : (deadline : ℕ) (seen : Option ℕ) (query : Query) (mode : Mode) (least wait : ℕ) (raw : Bool) → h.stand ≡ ForIndex deadline seen → h.question.asked ≡ Good (Read query mode least wait raw) →
+    answers_right : (deadline : ℕ) (looked : Bool) (query : Query) (mode : Mode) (least wait : ℕ) (raw : Bool) → h.stand ≡ ForIndex deadline looked → h.question.asked ≡ Good (Read query mode least wait raw) →
         (least < index_of query (commands_of (applied_of c i))) ⊎ (deadline ≤ clock_of c.world i) →
         IsRight c (applied_of c i) h.question (At mode (length (applied_of c i)) (index_of query (commands_of (applied_of c i))) (clock_of c.world i) deadline)
     unfolding LastsFor
-    answers_right deadline seen query mode least wait raw st ask due = record {
+    answers_right deadline looked query mode least wait raw st ask due = record {
       asked = x.asked;
       open_ = x.open_;
       lasts = subst (λ z. IsRead z (λ query' mode' least'. (mode ≡ mode') × IsAnswerAt query' least' (length (applied_of c i)) (index_of query (commands_of (applied_of c i))) (clock_of c.world i) deadline (applied_of c i))) (sym ask)
           (refl, record { within = omega arith; index_is = ap (λ z. index_of query (commands_of z)) (sym (take_all (length (applied_of c i)) (applied_of c i) (omega arith))); due = due });
-      fresh = (look_stand deadline seen (Good (Read query mode least wait raw)) st ask).0;
+      fresh = (look_stand deadline looked (Good (Read query mode least wait raw)) st ask).0;
       rests = tt;
     }
 
@@ -242,35 +242,35 @@ module _ (c : Cluster) (s : IsSoundAtWork c) (i : ℕ) where
       rests = tt;
     }
 
-    runs_right : (deadline : ℕ) (seen : Option ℕ) (name : List ℕ) (limit : ℕ) (mode : Mode) → h.stand ≡ ForIndex deadline seen → h.question.asked ≡ Good (Execute name limit mode) →
+    runs_right : (deadline : ℕ) (looked : Bool) (name : List ℕ) (limit : ℕ) (mode : Mode) → h.stand ≡ ForIndex deadline looked → h.question.asked ≡ Good (Execute name limit mode) →
         IsRight c (applied_of c i) h.question (Seen mode (length (applied_of c i)))
     unfolding LastsFor
-    runs_right deadline seen name limit mode st ask = record {
+    runs_right deadline looked name limit mode st ask = record {
       asked = x.asked;
       open_ = x.open_;
       lasts = subst (λ z. IsSeen z mode × (length (applied_of c i) ≤ length (applied_of c i))) (sym ask) (refl, omega arith);
-      fresh = (look_stand deadline seen (Good (Execute name limit mode)) st ask).0;
+      fresh = (look_stand deadline looked (Good (Execute name limit mode)) st ask).0;
       rests = tt;
     }
 
     -- another stand
-    waits_on : (deadline : ℕ) (seen : Option ℕ) → IsLook h.question.asked (λ mode. IsFresh mode h.question.number c.past c.starts (length (applied_of c i))) × SeenBelow h.question.asked seen (applied_of c i) → PendingIsSound c.servers c.past c.starts (record h { stand = ForIndex deadline seen })
-    waits_on deadline seen y = record {
+    waits_on : (deadline : ℕ) (looked : Bool) → IsLook h.question.asked (λ mode. IsFresh mode h.question.number c.past c.starts (length (applied_of c i))) × LookedBelow h.question.asked looked (applied_of c i) → PendingIsSound c.servers c.past c.starts (record h { stand = ForIndex deadline looked })
+    waits_on deadline looked y = record {
       asked = x.asked;
       open_ = x.open_;
-      stand = subst (λ z. StandIsSound (server_of c.servers z).applied c.past c.starts z h.question (ForIndex deadline seen)) (sym at) y;
+      stand = subst (λ z. StandIsSound (server_of c.servers z).applied c.past c.starts z h.question (ForIndex deadline looked)) (sym at) y;
     }
 
-    sees_right : (deadline : ℕ) (seen : Option ℕ) (query : Query) (mode : Mode) (least wait : ℕ) (raw : Bool) → h.stand ≡ ForIndex deadline seen → h.question.asked ≡ Good (Read query mode least wait raw) →
-        index_of query (commands_of (applied_of c i)) ≤ least → PendingIsSound c.servers c.past c.starts (record h { stand = ForIndex deadline (Some (length (applied_of c i))) })
-    sees_right deadline seen query mode least wait raw st ask below =
-        waits_on deadline (Some (length (applied_of c i)))
-        (subst (λ z. IsLook z (λ mode. IsFresh mode h.question.number c.past c.starts (length (applied_of c i))) × SeenBelow z (Some (length (applied_of c i))) (applied_of c i)) (sym ask)
-        ((look_stand deadline seen (Good (Read query mode least wait raw)) st ask).0, (omega arith, subst (λ z. index_of query (commands_of z) ≤ least) (sym (take_all (length (applied_of c i)) (applied_of c i) (omega arith))) below)))
+    sees_right : (deadline : ℕ) (query : Query) (mode : Mode) (least wait : ℕ) (raw : Bool) → h.stand ≡ ForIndex deadline false → h.question.asked ≡ Good (Read query mode least wait raw) →
+        index_of query (commands_of (applied_of c i)) ≤ least → PendingIsSound c.servers c.past c.starts (record h { stand = ForIndex deadline true })
+    sees_right deadline query mode least wait raw st ask below =
+        waits_on deadline true
+        (subst (λ z. IsLook z (λ mode. IsFresh mode h.question.number c.past c.starts (length (applied_of c i))) × LookedBelow z true (applied_of c i)) (sym ask)
+        ((look_stand deadline false (Good (Read query mode least wait raw)) st ask).0, (length (applied_of c i), omega arith, subst (λ z. index_of query (commands_of z) ≤ least) (sym (take_all (length (applied_of c i)) (applied_of c i) (omega arith))) below)))
 
-    turns_right : (round : Round) (deadline : ℕ) → h.stand ≡ InRound round deadline → is_confirmed (node_of c.world i) round ≡ true → round.commit ≤ length (applied_of c i) → PendingIsSound c.servers c.past c.starts (record h { stand = ForIndex deadline None })
+    turns_right : (round : Round) (deadline : ℕ) → h.stand ≡ InRound round deadline → is_confirmed (node_of c.world i) round ≡ true → round.commit ≤ length (applied_of c i) → PendingIsSound c.servers c.past c.starts (record h { stand = ForIndex deadline false })
     turns_right round deadline st confirmed applies =
-        waits_on deadline None (look_map h.question.asked _ _ (λ mode p. subst (λ z. IsFresh z h.question.number c.past c.starts (length (applied_of c i))) (sym p.0) (fresh p.1)) (of_stand (InRound round deadline) st), new_below h.question.asked (applied_of c i))
+        waits_on deadline false (look_map h.question.asked _ _ (λ mode p. subst (λ z. IsFresh z h.question.number c.past c.starts (length (applied_of c i))) (sym p.0) (fresh p.1)) (of_stand (InRound round deadline) st), new_below h.question.asked (applied_of c i))
       where
         -- the node is there, since it leads
         there : IsServer c.world i (node_of c.world i)
@@ -290,7 +290,7 @@ module _ (c : Cluster) (s : IsSoundAtWork c) (i : ℕ) where
       rises = rises_right;
       answers = answers_right;
       refuses = λ deadline query mode least wait raw st ask below early l. refuses_right query mode least wait raw ask l;
-      sees = λ deadline seen query mode least wait raw st ask below u. sees_right deadline seen query mode least wait raw st ask below;
+      sees = sees_right;
       runs = runs_right;
       turns = λ round deadline st up confirmed l. turns_right round deadline st confirmed l;
     }

@@ -1,6 +1,6 @@
 -- A read that waits to the end of its time, computed step by step.
 use Rattle.std.proofs.Common.{arith, inr}
-use Rattle.std.specs.Prelude.{ℕ, Option, ◌≢◌, ◌∷◌, [], None, Some, refl, true}
+use Rattle.std.specs.Prelude.{◌≢◌, ◌∷◌, [], refl, true, false}
 use Rattle.cat_model.specs.Tables.{put}
 use Rattle.cat_model.specs.Same.{same_kv}
 use Rattle.cat_model.specs.Catalog.{same_catalog}
@@ -39,14 +39,14 @@ two = shelved (did 1 Applies one)
 reader : Question
 reader = record { number = 1; agent = 1; asked = wait_a; draw = drawn }
 
-waits_at : Option ℕ → Pending
-waits_at seen = record { question = reader; server = 1; stand = ForIndex 10000 seen }
+waits : Pending
+waits = record { question = reader; server = 1; stand = ForIndex 10000 true }
 
 three : Cluster
-three = holding reader 1 (ForIndex 10000 None) (Looked 1 1 1) (marked (event.Ask 1 wait_a drawn) two)
+three = holding reader 1 (ForIndex 10000 false) (Looked 1 1 1) (marked (event.Ask 1 wait_a drawn) two)
 
 four : Cluster
-four = shelved (did 1 (Holds (waits_at (Some 1))) three)
+four = shelved (did 1 (Holds waits) three)
 
 writer : Question
 writer = record { number = 2; agent = 1; asked = put_b; draw = drawn }
@@ -58,7 +58,7 @@ five : Cluster
 five = holding writer 1 (AtPlace 2 1) (Proposed 2 (record { term = 1; number = 2; command = set_b })) (moved 1 wrote (marked (event.Ask 1 put_b drawn) four))
 
 six : Cluster
-six = did 1 (Replies writer (Acked 2)) (did 1 (Holds (waits_at (Some 2))) (did 1 Applies five))
+six = did 1 (Replies writer (Acked 2)) (did 1 Applies five)
 
 later : World
 later = record wrote { clocks = 9999 ∷ [] }
@@ -111,32 +111,32 @@ first_step = whole_step 1 (marked (event.Timeout 1) (started (fresh 1) 1)) (did 
     (acts one (did 1 Applies one) (takes Timeout led refl refl timeout refl) timeout_works (work Applies (next_one refl refl) none, refl) (over refl)) refl
 
 second_step : ClusterStep two (event.Ask 1 wait_a drawn) four true
-unfolding four three waits_at reader two one led given fresh done does timed_out candidate leads proposes did number_within entered shown put same_kv same_catalog write_kv kv_set act unless broken end_sessions apply at_past reads touches some_vanishes past_index answer_from
-second_step = whole_step 1 (marked (event.Ask 1 wait_a drawn) two) (did 1 (Holds (waits_at (Some 1))) three) (none, refl)
+unfolding four three waits reader two one led given fresh done does timed_out candidate leads proposes did number_within entered shown put same_kv same_catalog write_kv kv_set act unless broken end_sessions apply at_past reads touches some_vanishes past_index answer_from
+second_step = whole_step 1 (marked (event.Ask 1 wait_a drawn) two) (did 1 (Holds waits) three) (none, refl)
     (acts three _ (handles 1 wait_a drawn refl refl refl (reads_it Default 10000 refl (λ e. absurd (cc e)) (inr refl) refl)) tt
-    (work (Holds (waits_at (Some 1))) (early [] [] _ refl refl) none, refl) (over refl)) refl
+    (work (Holds waits) (early [] [] _ refl refl) none, refl) (over refl)) refl
 
 third_step : ClusterStep four (event.Ask 1 put_b drawn) (shelved six) true
-unfolding six five wrote writer four three waits_at reader two one led given fresh done does timed_out candidate leads proposes did number_within entered shown put same_kv same_catalog write_kv kv_set act unless broken end_sessions apply at_past reads touches some_vanishes past_index answer_from propose
+unfolding six five wrote writer four three waits reader two one led given fresh done does timed_out candidate leads proposes did number_within entered shown put same_kv same_catalog write_kv kv_set act unless broken end_sessions apply at_past reads touches some_vanishes past_index answer_from propose
 third_step = whole_step 1 (marked (event.Ask 1 put_b drawn) four) six (none, refl)
     (acts five six (handles 1 put_b drawn refl refl refl (proposes_it set_b wrote refl refl (inr refl) refl propose refl refl)) tt
-    (work Applies (next_one refl refl) (work (Holds (waits_at (Some 2))) (early [] (_ ∷ []) (waits_at (Some 1)) refl refl) (work (Replies writer (Acked 2)) (early (waits_at (Some 2) ∷ []) [] _ refl refl) none)), refl) (over refl)) refl
+    (work Applies (next_one refl refl) (work (Replies writer (Acked 2)) (early (waits ∷ []) [] _ refl refl) none), refl) (over refl)) refl
 
 fourth_step : ClusterStep (shelved six) (event.Tick 1 9999) seven true
-unfolding seven later six five wrote writer four three waits_at reader two one led given fresh done does timed_out candidate leads proposes did number_within entered shown put same_kv same_catalog write_kv kv_set act unless broken end_sessions apply at_past reads touches some_vanishes past_index answer_from
+unfolding seven later six five wrote writer four three waits reader two one led given fresh done does timed_out candidate leads proposes did number_within entered shown put same_kv same_catalog write_kv kv_set act unless broken end_sessions apply at_past reads touches some_vanishes past_index answer_from
 fourth_step = whole_step 1 (marked (event.Tick 1 9999) (shelved six)) _ (none, refl)
     (acts _ _ (ticks 9999 later refl refl (node_of wrote 1, (omega arith, refl), refl) refl) tt (none, refl)
     (acts _ _ (tends 9999 true refl refl (in_turn 0 0 _ _ refl none_left none_left refl)) refl (none, refl) (over refl))) refl
 
 fifth_step : ClusterStep seven (event.Tick 1 1) nine true
-unfolding nine eight latest seven later six five wrote writer four three waits_at reader two one led given fresh done does timed_out candidate leads proposes did number_within entered shown put same_kv same_catalog write_kv kv_set act unless broken end_sessions apply at_past reads touches some_vanishes past_index answer_from
+unfolding nine eight latest seven later six five wrote writer four three waits reader two one led given fresh done does timed_out candidate leads proposes did number_within entered shown put same_kv same_catalog write_kv kv_set act unless broken end_sessions apply at_past reads touches some_vanishes past_index answer_from
 fifth_step = whole_step 1 (marked (event.Tick 1 1) seven) _ (none, refl)
     (acts eight _ (ticks 1 latest refl refl (node_of wrote 1, (omega arith, refl), refl) refl) tt
     (work (Replies reader (At Default 2 1 10000 10000)) (early [] [] _ refl refl) none, refl)
     (acts _ _ (tends 1 true refl refl (in_turn 0 0 _ _ refl none_left none_left refl)) refl (none, refl) (over refl))) refl
 
 pub full_wait_run : FullWaitRun
-unfolding nine eight latest seven later six five wrote writer four three waits_at reader two one led given fresh done does timed_out candidate leads proposes did number_within entered shown put same_kv same_catalog write_kv kv_set act unless broken end_sessions apply at_past reads touches some_vanishes past_index answer_from
+unfolding nine eight latest seven later six five wrote writer four three waits reader two one led given fresh done does timed_out candidate leads proposes did number_within entered shown put same_kv same_catalog write_kv kv_set act unless broken end_sessions apply at_past reads touches some_vanishes past_index answer_from
 full_wait_run = record {
   cluster = nine;
   reached =

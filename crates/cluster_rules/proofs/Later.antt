@@ -1,5 +1,5 @@
 -- More marks, more starts and a later world leave sound what was sound.
-use Rattle.std.proofs.Common.{◌≡◌, ℕ, ◌≤◌, inr, List, [], ◌∷◌, length, take, refl, sym, ◌∙◌, subst, arith, Option, Some, None}
+use Rattle.std.proofs.Common.{◌≡◌, ℕ, ◌≤◌, inr, Bool, true, false, List, [], ◌∷◌, length, take, refl, sym, ◌∙◌, subst, arith}
 use Rattle.cat_model.specs.declared.query.Query.{Query}
 use Rattle.cat_model.specs.declared.request.Mode.{Mode}
 use Rattle.cat_model.specs.declared.request.Mode.TheVariants.{Default, Consistent, Stale}
@@ -19,7 +19,7 @@ use Rattle.raft_model.specs.World.{World}
 use Rattle.raft_model.proofs.Logs.{front_take}
 use Rattle.cluster_rules.specs.Replies.{Question, came, Out, Replied, Closed, Synced}
 use Rattle.cluster_rules.specs.Cluster.{Server, Stand, AtPlace, InRound, ForIndex, Ended, Pending, Start, Proposed, Probed, Looked, server_of}
-use Rattle.cluster_rules.specs.Sound.{IsAmong, IsOpen, entries_before, RestartedAt, IsFresh, IsFreshKind, StartIsSound, WasBelow, SeenBelow, StandIsSound, PendingIsSound, LostFor, RestsOn, PastIsSound, OutIsSound}
+use Rattle.cluster_rules.specs.Sound.{IsAmong, IsOpen, entries_before, RestartedAt, IsFresh, IsFreshKind, StartIsSound, WasBelow, LookedBelow, StandIsSound, PendingIsSound, LostFor, RestsOn, PastIsSound, OutIsSound}
 use Rattle.cluster_rules.proofs.Grows.{GoesTo, write_map, look_map, front_length, lasting_grows, reply_same, term_grows, never_grows, goes_nowhere}
 
 pub record Later (w w' : World) (past past' : List Mark) (starts starts' : List Start) : Type 0 where
@@ -47,25 +47,25 @@ module _ (number : ℕ) (past past' : List Mark) (same : entries_before number p
   fresh_kind_later (Delayed key until now) x = x
   fresh_kind_later (Refused why) x = x
 
-below_later : (query : Query) (least : ℕ) (seen : Option ℕ) (a a' : Log) → take (length a) a' ≡ a → WasBelow query least seen a → WasBelow query least seen a'
-below_later query least None a a' f x = x
-below_later query least (Some n) a a' f x = (let z = x.0 in let k = front_length a a' f in omega arith, subst (λ z. index_of query (commands_of z) ≤ least) (sym (front_take n a a' f x.0)) x.1)
+below_later : (query : Query) (least : ℕ) (looked : Bool) (a a' : Log) → take (length a) a' ≡ a → WasBelow query least looked a → WasBelow query least looked a'
+below_later query least false a a' f x = x
+below_later query least true a a' f x = (x.0, let z = x.1 in let k = front_length a a' f in omega arith, subst (λ z. index_of query (commands_of z) ≤ least) (sym (front_take x.0 a a' f x.1)) x.2)
 
-seen_later : (asked : Asked) (seen : Option ℕ) (a a' : Log) → take (length a) a' ≡ a → SeenBelow asked seen a → SeenBelow asked seen a'
-seen_later (Good (Read query mode least wait raw)) seen a a' f x = below_later query least seen a a' f x
-seen_later (Good (Write command)) seen a a' f x = x
-seen_later (Good (Execute name limit mode)) seen a a' f x = x
-seen_later (Good (Renew id)) seen a a' f x = x
-seen_later (Good (Agent op)) seen a a' f x = x
-seen_later (Bad why) seen a a' f x = x
+looked_later : (asked : Asked) (looked : Bool) (a a' : Log) → take (length a) a' ≡ a → LookedBelow asked looked a → LookedBelow asked looked a'
+looked_later (Good (Read query mode least wait raw)) looked a a' f x = below_later query least looked a a' f x
+looked_later (Good (Write command)) looked a a' f x = x
+looked_later (Good (Execute name limit mode)) looked a a' f x = x
+looked_later (Good (Renew id)) looked a a' f x = x
+looked_later (Good (Agent op)) looked a a' f x = x
+looked_later (Bad why) looked a a' f x = x
 
 module _ (w w' : World) (past past' : List Mark) (starts starts' : List Start) (l : Later w w' past past' starts starts') where
   -- what a held request waits for
   stand_later : (a a' : Log) (server : ℕ) (q : Question) (s : Stand) → take (length a) a' ≡ a → entries_before q.number past' ≡ entries_before q.number past → StandIsSound a past starts server q s → StandIsSound a' past' starts' server q s
   stand_later a a' server q (AtPlace index term) f e x = write_map q.asked _ _ (λ c p. l.more _ p) x
   stand_later a a' server q (InRound round deadline) f e x = look_map q.asked _ _ (λ mode p. (p.0, l.more _ p.1)) x
-  stand_later a a' server q (ForIndex deadline seen) f e x =
-      (look_map q.asked _ _ (λ mode p. fresh_later q.number past past' e starts starts' l.more mode (length a) (length a') (front_length a a' f) p) x.0, seen_later q.asked seen a a' f x.1)
+  stand_later a a' server q (ForIndex deadline looked) f e x =
+      (look_map q.asked _ _ (λ mode p. fresh_later q.number past past' e starts starts' l.more mode (length a) (length a') (front_length a a' f) p) x.0, looked_later q.asked looked a a' f x.1)
   stand_later a a' server q (Ended event) f e x = l.restarted event server x
 
   pub pending_later : (servers servers' : List Server) (h : Pending) → Same h.question.number past past' →

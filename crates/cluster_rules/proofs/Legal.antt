@@ -47,7 +47,7 @@ WorkHasCause c i Applies = Unit {0}
 halt_allowed : (c : Cluster) (i : ℕ) (asked : Asked) (st : Stand) → (node_of c.world i).halted ≡ true → is_ended st ≡ false → Allows c i asked st (Refused (refusal.Halted i))
 halt_allowed c i asked (AtPlace index term) h e = (refl, h)
 halt_allowed c i asked (InRound round deadline) h e = (refl, h)
-halt_allowed c i asked (ForIndex deadline seen) h e = (refl, h)
+halt_allowed c i asked (ForIndex deadline looked) h e = (refl, h)
 halt_allowed c i asked (Ended event) h e = absurd (cc e)
 
 landed_allowed : (c : Cluster) (i : ℕ) (asked : Asked) (index term : ℕ) → index ≤ length (applied_of c i) → Allows c i asked (AtPlace index term) (landed index term (applied_of c i))
@@ -66,11 +66,11 @@ module _ (c : Cluster) (i : ℕ) (h : Pending) (m : IsAmong h c.held) (at : h.se
     closes = λ event e. (h, m, refl, at, e);
     lands = λ index term e l. because _ (AtPlace index term) e (landed_allowed c i h.question.asked index term l);
     rises = λ round deadline e l. because _ (InRound round deadline) e (refl, refl, l);
-    answers = λ deadline seen query mode least wait raw st ask due. because _ (ForIndex deadline seen) st (refl, refl, refl);
-    refuses = λ deadline query mode least wait raw st ask below early l. because _ (ForIndex deadline None) st
+    answers = λ deadline looked query mode least wait raw st ask due. because _ (ForIndex deadline looked) st (refl, refl, refl);
+    refuses = λ deadline query mode least wait raw st ask below early l. because _ (ForIndex deadline false) st
         (refl, l, refl, subst (λ z. IsRead z (λ query mode least. (index_of query (commands_of (applied_of c i)) ≤ least) × (clock_of c.world i < deadline))) (sym ask) (below, early));
-    sees = λ deadline seen query mode least wait raw st ask below u. tt;
-    runs = λ deadline seen name limit mode st ask. waited h m refl at (subst (λ z. Allows c i h.question.asked z (Seen mode (length (applied_of c i)))) (sym st) (subst (λ z. AllowsIndex c i z deadline seen (Seen mode (length (applied_of c i)))) (sym ask) (refl, refl)));
+    sees = λ deadline query mode least wait raw st ask below. tt;
+    runs = λ deadline looked name limit mode st ask. waited h m refl at (subst (λ z. Allows c i h.question.asked z (Seen mode (length (applied_of c i)))) (sym st) (subst (λ z. AllowsIndex c i z deadline looked (Seen mode (length (applied_of c i)))) (sym ask) (refl, refl)));
     turns = λ round deadline st up confirmed l. tt;
   }
 

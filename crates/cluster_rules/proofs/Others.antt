@@ -40,14 +40,14 @@ early_stand_at : ℕ → Node → Log → ℕ → ℕ → Pending → Stand → 
 early_stand_at j n a k o h (Ended event) = Some (Closes h.question.number event)
 early_stand_at j n a k o h (AtPlace index term) = cond (nat_le index (length a)) (Some (Replies h.question (landed index term a))) None
 early_stand_at j n a k o h (InRound round deadline) = cond (nat_lt round.term n.term) (Some (Replies h.question (Refused (refusal.Lost round.term n.term)))) None
-early_stand_at j n a k o h (ForIndex deadline seen) = asks_read h o k a deadline seen h.question.asked
+early_stand_at j n a k o h (ForIndex deadline looked) = asks_read h o k a deadline looked h.question.asked
 
 early_stand_is : (c : Cluster) (j : ℕ) (h : Pending) (st : Stand) → early_stand c j h st ≡ early_stand_at j (node_of c.world j) (applied_of c j) (clock_of c.world j) (waiting j c.held) h st
 unfolding early_stand_at
 early_stand_is c j h (Ended event) = refl
 early_stand_is c j h (AtPlace index term) = refl
 early_stand_is c j h (InRound round deadline) = refl
-early_stand_is c j h (ForIndex deadline seen) = refl
+early_stand_is c j h (ForIndex deadline looked) = refl
 
 early_at : ℕ → Node → Log → ℕ → ℕ → Pending → Option Work
 early_at j n a k o h = cond (h.server == j) (cond (n.halted && not (is_ended h.stand)) (Some (Replies h.question (Refused (refusal.Halted j)))) (early_stand_at j n a k o h h.stand)) None
@@ -57,7 +57,7 @@ unfolding early_at
 early_is c j h = ap (λ z. cond (h.server == j) (cond ((node_of c.world j).halted && not (is_ended h.stand)) (Some (Replies h.question (Refused (refusal.Halted j)))) z) None) (early_stand_is c j h h.stand)
 
 late_stand_at : ℕ → Node → Log → Pending → Stand → Option Work
-late_stand_at j n a h (InRound round deadline) = cond (not n.halted && (is_confirmed n round && nat_le round.commit (length a))) (Some (Holds (record h { stand = ForIndex deadline None }))) None
+late_stand_at j n a h (InRound round deadline) = cond (not n.halted && (is_confirmed n round && nat_le round.commit (length a))) (Some (Holds (record h { stand = ForIndex deadline false }))) None
 late_stand_at j n a h other = None
 
 late_stand_is : (c : Cluster) (j : ℕ) (h : Pending) (st : Stand) → late_stand c j h st ≡ late_stand_at j (node_of c.world j) (applied_of c j) h st
@@ -65,7 +65,7 @@ unfolding late_stand_at
 late_stand_is c j h (Ended event) = refl
 late_stand_is c j h (AtPlace index term) = refl
 late_stand_is c j h (InRound round deadline) = refl
-late_stand_is c j h (ForIndex deadline seen) = refl
+late_stand_is c j h (ForIndex deadline looked) = refl
 
 late_at : ℕ → Node → Log → Pending → Option Work
 late_at j n a h = cond (h.server == j) (late_stand_at j n a h h.stand) None
@@ -202,10 +202,10 @@ module _ (j i : ℕ) (d : j ≢ i) (c : Cluster) (a : Ascends c.held) where
       closes = λ event e. closed event;
       lands = λ index term e l. replied _;
       rises = λ round deadline e l. replied _;
-      answers = λ deadline seen query mode least wait raw st ask due. replied _;
+      answers = λ deadline looked query mode least wait raw st ask due. replied _;
       refuses = λ deadline query mode least wait raw st ask below early l. replied _;
-      sees = λ deadline seen query mode least wait raw st ask below u. stands _;
-      runs = λ deadline seen name limit mode st ask. replied _;
+      sees = λ deadline query mode least wait raw st ask below. stands _;
+      runs = λ deadline looked name limit mode st ask. replied _;
       turns = λ round deadline st up confirmed l. stands _;
     }
 

@@ -147,11 +147,11 @@ is_delayed i c agent command draw key before goes ready still after =
 abbrev pub after_look : ℕ → ℕ → Cluster → ℕ → Asked → Draw → ℕ → Cluster
 after_look k i c agent asked draw wait =
     let m = marked (event.Ask agent asked draw) c in
-    after_act k i (holding (next_question c agent asked draw) i (ForIndex (clock_of c.world i + wait_of wait) None) (Looked (suc c.asked) i (length (applied_of c i))) m)
+    after_act k i (holding (next_question c agent asked draw) i (ForIndex (clock_of c.world i + wait_of wait) false) (Looked (suc c.asked) i (length (applied_of c i))) m)
 
 pub looks : (k i : ℕ) (c : Cluster) (agent : ℕ) (asked : Asked) (draw : Draw) (mode : Mode) (wait : ℕ) → due i (marked (event.Ask agent asked draw) c) ≡ None →
     way c.world (asked_server (length c.servers) agent) asked ≡ Some (Goes i) → is_ready c i ≡ true → look_of asked ≡ Some (mode, wait) → mode ≢ Consistent →
-    due i (made_up k i (holding (next_question c agent asked draw) i (ForIndex (clock_of c.world i + wait_of wait) None) (Looked (suc c.asked) i (length (applied_of c i))) (marked (event.Ask agent asked draw) c))) ≡ None →
+    due i (made_up k i (holding (next_question c agent asked draw) i (ForIndex (clock_of c.world i + wait_of wait) false) (Looked (suc c.asked) i (length (applied_of c i))) (marked (event.Ask agent asked draw) c))) ≡ None →
     ClusterStep c (event.Ask agent asked draw) (after_look k i c agent asked draw wait) true
 looks k i c agent asked draw mode wait before goes ready look other after =
     one_act c (event.Ask agent asked draw) i k _ before (handles agent asked draw refl refl goes (reads mode wait look other (inr ready) refl)) tt refl after
@@ -243,7 +243,7 @@ pub acts_on : (w : World) (i : ℕ) (input : Input) → GoesOn w i → IsNew w i
 acts_on w i input g new = plain_acts w i input (at_on w i g) g.2 new
 
 pub look_on : (k i : ℕ) (c : Cluster) (agent : ℕ) (asked : Asked) (draw : Draw) (wait : ℕ) → GoesOn c.world i → GoesOn (after_look k i c agent asked draw wait).world i
-look_on k i c agent asked draw wait g = after_on k i (holding (next_question c agent asked draw) i (ForIndex (clock_of c.world i + wait_of wait) None) (Looked (suc c.asked) i (length (applied_of c i))) (marked (event.Ask agent asked draw) c)) g
+look_on k i c agent asked draw wait g = after_on k i (holding (next_question c agent asked draw) i (ForIndex (clock_of c.world i + wait_of wait) false) (Looked (suc c.asked) i (length (applied_of c i))) (marked (event.Ask agent asked draw) c)) g
 
 told_on : (i : ℕ) (c : Cluster) (q : Question) (op : AgentOp) (g : Option Agent) → GoesOn c.world i → GoesOn (told q op g c).world i
 told_on i c q op None x = x

@@ -43,17 +43,17 @@ first_none f [] e = tt
 first_none f (h ∷ hs) e = (or_left (f h) (first_work f hs) e, first_none f hs (or_right (f h) (first_work f hs) e))
 
 -- a read that is not answered
-read_waits : (c : Cluster) (i : ℕ) (h : Pending) (deadline : ℕ) (seen : Option ℕ) (asked : Asked) (P : Mode → Type 0) → IsLook asked P → asks_read h (waiting i c.held) (clock_of c.world i) (applied_of c i) deadline seen asked ≡ None →
+read_waits : (c : Cluster) (i : ℕ) (h : Pending) (deadline : ℕ) (looked : Bool) (asked : Asked) (P : Mode → Type 0) → IsLook asked P → asks_read h (waiting i c.held) (clock_of c.world i) (applied_of c i) deadline looked asked ≡ None →
     IsRead asked (λ query mode least. (index_of query (commands_of (applied_of c i)) ≤ least) × (clock_of c.world i < deadline))
-read_waits c i h deadline seen (Good (Read query mode least wait raw)) P x e =
+read_waits c i h deadline looked (Good (Read query mode least wait raw)) P x e =
     let t = no_test (nat_lt least (index_of query (commands_of (applied_of c i))) || nat_le deadline (clock_of c.world i)) _ _ e in
     let n = neither (nat_lt least (index_of query (commands_of (applied_of c i)))) (nat_le deadline (clock_of c.world i)) t.0 in
     (lt_tells_not least (index_of query (commands_of (applied_of c i))) n.0, le_tells_not deadline (clock_of c.world i) n.1)
-read_waits c i h deadline seen (Good (Write command)) P x e = x
-read_waits c i h deadline seen (Good (Execute name limit mode)) P x e = absurd (some_none _ e)
-read_waits c i h deadline seen (Good (Renew id)) P x e = x
-read_waits c i h deadline seen (Good (Agent op)) P x e = x
-read_waits c i h deadline seen (Bad why) P x e = x
+read_waits c i h deadline looked (Good (Write command)) P x e = x
+read_waits c i h deadline looked (Good (Execute name limit mode)) P x e = absurd (some_none _ e)
+read_waits c i h deadline looked (Good (Renew id)) P x e = x
+read_waits c i h deadline looked (Good (Agent op)) P x e = x
+read_waits c i h deadline looked (Bad why) P x e = x
 
 module _ (c : Cluster) (i : ℕ) (up : (node_of c.world i).halted ≡ false) where
   by : (h : Pending) (st : Stand) → StandIsSound (server_of c.servers h.server).applied c.past c.starts h.server h.question st → early_stand c i h st ≡ None → late_stand c i h st ≡ None → StillWaits c i h st
@@ -63,7 +63,7 @@ module _ (c : Cluster) (i : ℕ) (up : (node_of c.world i).halted ≡ false) whe
     subst (λ b. (not b && (is_confirmed (node_of c.world i) round && nat_le round.commit (length (applied_of c i)))) ≡ false) up
         (no_test (not (node_of c.world i).halted && (is_confirmed (node_of c.world i) round && nat_le round.commit (length (applied_of c i)))) _ _ l).0,
   )
-  by h (ForIndex deadline seen) x e l = read_waits c i h deadline seen h.question.asked _ x.0 e
+  by h (ForIndex deadline looked) x e l = read_waits c i h deadline looked h.question.asked _ x.0 e
   by h (Ended event) x e l = some_none _ e
 
   waits_on : (h : Pending) → h.server ≡ i → PendingIsSound c.servers c.past c.starts h → early_work c i h ≡ None → late_work c i h ≡ None → StillWaits c i h h.stand
@@ -88,7 +88,7 @@ none_at_halted c i e down = go c.held (first_none (early_work c i) c.held (or_le
     ended h (Ended event) t p = some_none _ p
     ended h (AtPlace index term) t p = cc t
     ended h (InRound round deadline) t p = cc t
-    ended h (ForIndex deadline seen) t p = cc t
+    ended h (ForIndex deadline looked) t p = cc t
 
     one : (h : Pending) → (b : Bool) → is_ended h.stand ≡ b → h.server ≡ i → early_work c i h ≡ None → ⊥
     one h true t at p =

@@ -22,11 +22,12 @@ pub record Server : Type 0 where
   pub office : Office
 
 -- What a held request waits for: that the server applies its position; that its round is confirmed; an index above
--- the one given, last looked for after so many positions; to be closed, since its server restarted in this event.
+-- the one given, `looked` where it was looked for and was not there; to be closed, since its server restarted in this
+-- event.
 pub data Stand : Type 0 where
   AtPlace : (index term : ℕ) → Stand
   InRound : (round : Round) (deadline : ℕ) → Stand
-  ForIndex : (deadline : ℕ) (seen : Option ℕ) → Stand
+  ForIndex : (deadline : ℕ) (looked : Bool) → Stand
   Ended : (event : ℕ) → Stand
 
 -- a request that a server holds

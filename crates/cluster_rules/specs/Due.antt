@@ -42,19 +42,9 @@ first_work f (h ∷ hs) = or_work (f h) (first_work f hs)
 abbrev pub landed : ℕ → ℕ → Log → Kind
 landed index term applied = if term_at index applied == term then Acked index else Refused (refusal.Lost term (term_at index applied))
 
--- the query was looked for at just so many positions
-abbrev pub was_seen : Option ℕ → ℕ → Bool
-was_seen None n = false
-was_seen (Some m) n = m == n
-
--- it was not looked for yet
-abbrev pub is_new : Option ℕ → Bool
-is_new None = true
-is_new (Some n) = false
-
--- the request waits at server i for an index: it was looked for and was not there
+-- an index was looked for and was not there
 abbrev pub has_looked : Stand → Bool
-has_looked (ForIndex deadline seen) = not (is_new seen)
+has_looked (ForIndex deadline looked) = looked
 has_looked other = false
 
 -- a request that waits at server i for an index
@@ -65,21 +55,21 @@ waits i h = h.server == i && has_looked h.stand
 abbrev pub waiting : ℕ → List Pending → ℕ
 waiting i held = length (filter (waits i) held)
 
--- A query at an applied prefix: it is answered with an index above the one given, or once its time is over; a new one
--- is refused where 4,096 wait already.
-abbrev pub asks : Pending → ℕ → ℕ → Log → ℕ → Option ℕ → Query → Mode → ℕ → Option Work
-asks h others clock applied deadline seen query mode least =
+-- A query at an applied prefix: it is answered where its index is above the one given or its time is over. One that was
+-- looked for waits on; a new one begins to wait, or is refused where 4,096 wait already.
+abbrev pub asks : Pending → ℕ → ℕ → Log → ℕ → Bool → Query → Mode → ℕ → Option Work
+asks h others clock applied deadline looked query mode least =
     if nat_lt least (index_of query (commands_of applied)) || nat_le deadline clock
     then Some (Replies h.question (At mode (length applied) (index_of query (commands_of applied)) clock deadline))
-    else if was_seen seen (length applied) then None
-    else if is_new seen && nat_le 4096 others then Some (Replies h.question (Refused (refusal.TooMany others)))
-    else Some (Holds (record h { stand = ForIndex deadline (Some (length applied)) }))
+    else if looked then None
+    else if nat_le 4096 others then Some (Replies h.question (Refused (refusal.TooMany others)))
+    else Some (Holds (record h { stand = ForIndex deadline true }))
 
 -- a held read, or an execution, which waits for no index
-abbrev pub asks_read : Pending → ℕ → ℕ → Log → ℕ → Option ℕ → Asked → Option Work
-asks_read h others clock applied deadline seen (Good (Read query mode least wait raw)) = asks h others clock applied deadline seen query mode least
-asks_read h others clock applied deadline seen (Good (Execute name limit mode)) = Some (Replies h.question (Seen mode (length applied)))
-asks_read h others clock applied deadline seen other = None
+abbrev pub asks_read : Pending → ℕ → ℕ → Log → ℕ → Bool → Asked → Option Work
+asks_read h others clock applied deadline looked (Good (Read query mode least wait raw)) = asks h others clock applied deadline looked query mode least
+asks_read h others clock applied deadline looked (Good (Execute name limit mode)) = Some (Replies h.question (Seen mode (length applied)))
+asks_read h others clock applied deadline looked other = None
 
 -- what is due before the next position is applied
 abbrev pub early_stand : Cluster → ℕ → Pending → Stand → Option Work
@@ -88,7 +78,7 @@ early_stand c i h (AtPlace index term) =
     if nat_le index (length (applied_of c i)) then Some (Replies h.question (landed index term (applied_of c i))) else None
 early_stand c i h (InRound round deadline) =
     if nat_lt round.term (node_of c.world i).term then Some (Replies h.question (Refused (refusal.Lost round.term (node_of c.world i).term))) else None
-early_stand c i h (ForIndex deadline seen) = asks_read h (waiting i c.held) (clock_of c.world i) (applied_of c i) deadline seen h.question.asked
+early_stand c i h (ForIndex deadline looked) = asks_read h (waiting i c.held) (clock_of c.world i) (applied_of c i) deadline looked h.question.asked
 
 -- it is to be closed
 abbrev pub is_ended : Stand → Bool
@@ -108,7 +98,7 @@ early_work c i h =
 abbrev pub late_stand : Cluster → ℕ → Pending → Stand → Option Work
 late_stand c i h (InRound round deadline) =
     if not (node_of c.world i).halted && (is_confirmed (node_of c.world i) round && nat_le round.commit (length (applied_of c i)))
-    then Some (Holds (record h { stand = ForIndex deadline None }))
+    then Some (Holds (record h { stand = ForIndex deadline false }))
     else None
 late_stand c i h other = None
 

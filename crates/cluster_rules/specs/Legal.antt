@@ -1,5 +1,5 @@
 -- When a reply is legal in the cluster in which it is made, and what a held request waits for where nothing is due.
-use Rattle.std.specs.Prelude.{◌≡◌, ◌≢◌, ℕ, suc, ◌<◌, ◌≤◌, nat_le, ◌&&◌, Bool, true, false, List, length, Option, Some, None}
+use Rattle.std.specs.Prelude.{◌≡◌, ◌≢◌, ℕ, suc, ◌<◌, ◌≤◌, nat_le, ◌&&◌, Bool, true, false, List, length, Some, None}
 use Rattle.cat_model.specs.declared.command.Command.{Command}
 use Rattle.cat_model.specs.declared.request.Asked.{Asked}
 use Rattle.cat_model.specs.declared.request.Asked.TheVariants.{Good}
@@ -29,15 +29,15 @@ use Rattle.cluster_rules.specs.Sound.{IsAmong}
 
 -- What an index query that waits here allows: its index at all that the server has applied, above the one given or
 -- once the wait is over; or a refusal, where it is new and 4,096 wait already.
-abbrev pub AllowsIndex : Cluster → ℕ → Asked → ℕ → Option ℕ → Kind → Type 0
-AllowsIndex c i asked deadline seen (At mode prefix index clock deadline') =
+abbrev pub AllowsIndex : Cluster → ℕ → Asked → ℕ → Bool → Kind → Type 0
+AllowsIndex c i asked deadline looked (At mode prefix index clock deadline') =
     (prefix ≡ length (applied_of c i)) × (clock ≡ clock_of c.world i) × (deadline' ≡ deadline)
-AllowsIndex c i (Good (Execute name limit mode)) deadline seen (Seen by prefix) = (prefix ≡ length (applied_of c i)) × (by ≡ mode)
-AllowsIndex c i asked deadline seen (Refused (refusal.TooMany n)) =
-    (n ≡ waiting i c.held) × (4096 ≤ n) × (seen ≡ None)
+AllowsIndex c i (Good (Execute name limit mode)) deadline looked (Seen by prefix) = (prefix ≡ length (applied_of c i)) × (by ≡ mode)
+AllowsIndex c i asked deadline looked (Refused (refusal.TooMany n)) =
+    (n ≡ waiting i c.held) × (4096 ≤ n) × (looked ≡ false)
     × IsRead asked (λ query mode least. (index_of query (commands_of (applied_of c i)) ≤ least) × (clock_of c.world i < deadline))
-AllowsIndex c i asked deadline seen (Refused (refusal.Halted s)) = (s ≡ i) × ((node_of c.world i).halted ≡ true)
-AllowsIndex c i asked deadline seen kind = ⊥
+AllowsIndex c i asked deadline looked (Refused (refusal.Halted s)) = (s ≡ i) × ((node_of c.world i).halted ≡ true)
+AllowsIndex c i asked deadline looked kind = ⊥
 
 -- the answers that a held request may get, by what it waits for
 abbrev pub Allows : Cluster → ℕ → Asked → Stand → Kind → Type 0
@@ -47,7 +47,7 @@ Allows c i asked (AtPlace index term) (Refused (refusal.Lost old found)) =
 Allows c i asked (AtPlace index term) (Refused (refusal.Halted s)) = (s ≡ i) × ((node_of c.world i).halted ≡ true)
 Allows c i asked (InRound round deadline) (Refused (refusal.Lost old found)) = (old ≡ round.term) × (found ≡ (node_of c.world i).term) × (old < found)
 Allows c i asked (InRound round deadline) (Refused (refusal.Halted s)) = (s ≡ i) × ((node_of c.world i).halted ≡ true)
-Allows c i asked (ForIndex deadline seen) kind = AllowsIndex c i asked deadline seen kind
+Allows c i asked (ForIndex deadline looked) kind = AllowsIndex c i asked deadline looked kind
 Allows c i asked stand kind = ⊥
 
 -- why server i gives the request an answer of this kind
@@ -91,7 +91,7 @@ abbrev pub StillWaits : Cluster → ℕ → Pending → Stand → Type 0
 StillWaits c i h (AtPlace index term) = length (applied_of c i) < index
 StillWaits c i h (InRound round deadline) =
     ((node_of c.world i).term ≤ round.term) × ((is_confirmed (node_of c.world i) round && nat_le round.commit (length (applied_of c i))) ≡ false)
-StillWaits c i h (ForIndex deadline seen) =
+StillWaits c i h (ForIndex deadline looked) =
     IsRead h.question.asked (λ query mode least. (index_of query (commands_of (applied_of c i)) ≤ least) × (clock_of c.world i < deadline))
 StillWaits c i h (Ended event) = ⊥
 

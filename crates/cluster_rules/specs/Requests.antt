@@ -158,7 +158,7 @@ pub data Handles (c : Cluster) (i : ℕ) (q : Question) (c' : Cluster) : Type 0 
       c' ≡ holding q i (InRound (next_round (node_of c.world i)) (clock_of c.world i + wait_of wait)) (Probed q.number i (next_round (node_of c.world i))) (moved i w' c) → Handles c i q c'
   -- any other is asked at once
   reads : (mode : Mode) (wait : ℕ) → look_of q.asked ≡ Some (mode, wait) → mode ≢ Consistent → MayGo c i q →
-      c' ≡ holding q i (ForIndex (clock_of c.world i + wait_of wait) None) (Looked q.number i (length (applied_of c i))) c → Handles c i q c'
+      c' ≡ holding q i (ForIndex (clock_of c.world i + wait_of wait) false) (Looked q.number i (length (applied_of c i))) c → Handles c i q c'
   -- a session is renewed, where there is one
   renews : (id : ℕ) → q.asked ≡ Good (Renew id) → MayGo c i q →
       c' ≡ answered q (Seen Default (length (applied_of c i))) false 0 (applied_of c i) (with_office i (renew_in (session_of c i id) (clock_of c.world i) (office_of c i)) (record c { starts = Looked q.number i (length (applied_of c i)) ∷ c.starts })) → Handles c i q c'

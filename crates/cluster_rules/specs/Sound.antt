@@ -129,14 +129,14 @@ StartIsSound w past (Probed number server round) = IsFreshRound w (entries_befor
 StartIsSound w past (Looked number server applied) = WasAsked past number
 
 -- Requests: each held one was asked and is not answered, and what it waits for is so.
-abbrev pub WasBelow : Query → ℕ → Option ℕ → Log → Type 0
-WasBelow query least None applied = Unit {0}
-WasBelow query least (Some n) applied = (n ≤ length applied) × (index_of query (commands_of (take n applied)) ≤ least)
+abbrev pub WasBelow : Query → ℕ → Bool → Log → Type 0
+WasBelow query least false applied = Unit {0}
+WasBelow query least true applied = (n : ℕ) × (n ≤ length applied) × (index_of query (commands_of (take n applied)) ≤ least)
 
--- of a read, that its index was not above the one given when it was last looked for
-abbrev pub SeenBelow : Asked → Option ℕ → Log → Type 0
-SeenBelow (Good (Read query mode least wait raw)) seen applied = WasBelow query least seen applied
-SeenBelow other seen applied = Unit {0}
+-- of a read that was looked for, that its index was not above the one given then
+abbrev pub LookedBelow : Asked → Bool → Log → Type 0
+LookedBelow (Good (Read query mode least wait raw)) looked applied = WasBelow query least looked applied
+LookedBelow other looked applied = Unit {0}
 
 -- what a held request waits for is so, by what its server has applied
 abbrev pub StandIsSound : Log → List Mark → List Start → ℕ → Question → Stand → Type 0
@@ -144,8 +144,8 @@ StandIsSound applied past starts server q (AtPlace index term) =
     IsWrite q.asked (λ command. IsAmong (Proposed index (record { term = term; number = q.number; command = entered q command })) starts)
 StandIsSound applied past starts server q (InRound round deadline) =
     IsLook q.asked (λ mode. (mode ≡ Consistent) × IsAmong (Probed q.number server round) starts)
-StandIsSound applied past starts server q (ForIndex deadline seen) =
-    IsLook q.asked (λ mode. IsFresh mode q.number past starts (length applied)) × SeenBelow q.asked seen applied
+StandIsSound applied past starts server q (ForIndex deadline looked) =
+    IsLook q.asked (λ mode. IsFresh mode q.number past starts (length applied)) × LookedBelow q.asked looked applied
 StandIsSound applied past starts server q (Ended number) = RestartedAt number server past
 
 -- a held request

@@ -23,7 +23,7 @@ use Rattle.raft_model.specs.World.{World, Acts as NodeActs}
 use Rattle.cluster_rules.specs.Replies.{Question, came}
 use Rattle.cluster_rules.specs.Lasting.{IsRead, IsAnswerAt, Lasting, LastsFor}
 use Rattle.cluster_rules.specs.Cluster.{Stand, AtPlace, InRound, ForIndex, Ended, Pending, Start, Cluster, node_of, applied_of, clock_of}
-use Rattle.cluster_rules.specs.Due.{Work, Replies, Holds, Closes, Applies, asks, asks_read, early_stand, early_work, is_ended, late_stand, late_work, next_work, without, waiting, was_seen, is_new, landed, did, IsDue, early, next_one, late, Works, none, work}
+use Rattle.cluster_rules.specs.Due.{Work, Replies, Holds, Closes, Applies, asks, asks_read, early_stand, early_work, is_ended, late_stand, late_work, next_work, without, waiting, landed, did, IsDue, early, next_one, late, Works, none, work}
 use Rattle.cluster_rules.specs.Requests.{wait_of, entries_past, halts_past, joined, moved_with, halted_now, moved}
 use Rattle.cluster_rules.specs.Legal.{Allows, Cause, waited, at_once, not_ready, no_room, delay, renewed, by_agent, unknown_there, stopped, IsLegal, WorkIsLegal, AllLegal}
 use Rattle.cluster_rules.specs.Sound.{IsAmong}
@@ -38,7 +38,7 @@ UntilFor starts past k s deadline other = Unit {0}
 
 abbrev pub StandWaits : List Start → List Mark → Question → ℕ → Stand → Type 0
 StandWaits starts past q s (InRound round deadline) = UntilFor starts past q.number s deadline q.asked
-StandWaits starts past q s (ForIndex deadline seen) = UntilFor starts past q.number s deadline q.asked
+StandWaits starts past q s (ForIndex deadline looked) = UntilFor starts past q.number s deadline q.asked
 StandWaits starts past q s other = Unit {0}
 
 abbrev pub HeldWaits : List Start → List Mark → Pending → Type 0
@@ -86,7 +86,7 @@ module _ (starts : List Start) where
 
   stand_later : (m : Mark) (past : List Mark) (q : Question) (s : ℕ) (st : Stand) → StandWaits starts past q s st → StandWaits starts (m ∷ past) q s st
   stand_later m past q s (InRound round deadline) x = until_later m past q.number s deadline q.asked x
-  stand_later m past q s (ForIndex deadline seen) x = until_later m past q.number s deadline q.asked x
+  stand_later m past q s (ForIndex deadline looked) x = until_later m past q.number s deadline q.asked x
   stand_later m past q s (AtPlace index term) x = tt
   stand_later m past q s (Ended number) x = tt
 
@@ -136,7 +136,7 @@ until_more start starts past k s deadline other x = tt
 
 stand_more : (start : Start) (starts : List Start) (past : List Mark) (q : Question) (s : ℕ) (st : Stand) → StandWaits starts past q s st → StandWaits (start ∷ starts) past q s st
 stand_more start starts past q s (InRound round deadline) x = until_more start starts past q.number s deadline q.asked x
-stand_more start starts past q s (ForIndex deadline seen) x = until_more start starts past q.number s deadline q.asked x
+stand_more start starts past q s (ForIndex deadline looked) x = until_more start starts past q.number s deadline q.asked x
 stand_more start starts past q s (AtPlace index term) x = tt
 stand_more start starts past q s (Ended number) x = tt
 
@@ -169,11 +169,11 @@ acted_wait lag i input w' c a x = moved_wait lag (halted_now c.world w' i) i w' 
 -- The answer to a read that waited here.
 waited_read : (c : Cluster) (lag : ℕ → ℕ) → Of lag c → (i : ℕ) (q : Question) (asked : Asked) (st : Stand) (mode : Mode) (prefix index clock deadline : ℕ) →
     IsRead asked (λ query m least. (mode ≡ m) × IsAnswerAt query least prefix index clock deadline c.world.agreed) → Allows c i asked st (At mode prefix index clock deadline) →
-    ((d : ℕ) (seen : Option ℕ) → st ≡ ForIndex d seen → UntilFor c.starts c.past q.number i d asked) → IsReadFor asked (HasWaited q.number index c.starts c.past)
-waited_read c lag x i q (Good (Read query m least wait raw)) (ForIndex d seen) mode prefix index clock deadline r a u = elim r.1.due [
+    ((d : ℕ) (looked : Bool) → st ≡ ForIndex d looked → UntilFor c.starts c.past q.number i d asked) → IsReadFor asked (HasWaited q.number index c.starts c.past)
+waited_read c lag x i q (Good (Read query m least wait raw)) (ForIndex d looked) mode prefix index clock deadline r a u = elim r.1.due [
   | inl above ↦ inl above
   | inr late_enough ↦
-      let w = u d seen refl in
+      let w = u d looked refl in
       let same = a.1 in
       let till = a.2 in
       let here = x.clocks i in
@@ -185,8 +185,8 @@ waited_read c lag x i q (Good (Read query m least wait raw)) (InRound round d) m
 waited_read c lag x i q (Good (Read query m least wait raw)) (Ended number) mode prefix index clock deadline r a u = absurd a
 waited_read c lag x i q other st mode prefix index clock deadline r a u = absurd r
 
-index_stand : (starts : List Start) (past : List Mark) (q : Question) (s : ℕ) (st : Stand) (d : ℕ) (seen : Option ℕ) → st ≡ ForIndex d seen → StandWaits starts past q s st → UntilFor starts past q.number s d q.asked
-index_stand starts past q s st d seen e x = subst (λ z. StandWaits starts past q s z) e x
+index_stand : (starts : List Start) (past : List Mark) (q : Question) (s : ℕ) (st : Stand) (d : ℕ) (looked : Bool) → st ≡ ForIndex d looked → StandWaits starts past q s st → UntilFor starts past q.number s d q.asked
+index_stand starts past q s st d looked e x = subst (λ z. StandWaits starts past q s z) e x
 
 read_caused : (c : Cluster) (lag : ℕ → ℕ) → Of lag c → (i : ℕ) (q : Question) (mode : Mode) (prefix index clock deadline : ℕ) → IsAmong (came q) c.past → Lasting q (At mode prefix index clock deadline) c.world.agreed →
     Cause c i q (At mode prefix index clock deadline) → (p : Question) × IsAmong (came p) c.past × (p.number ≡ q.number) × IsReadFor p.asked (HasWaited q.number index c.starts c.past)
@@ -194,7 +194,7 @@ unfolding LastsFor
 read_caused c lag x i q mode prefix index clock deadline m l (waited h here is at a) =
     let held : HeldWaits c.starts c.past h = each_among (HeldWaits c.starts c.past) c.held h x.held_wait here in
     let stand : StandWaits c.starts c.past q i h.stand = subst (λ z. StandWaits c.starts c.past q z h.stand) at (subst (λ (z : Question). StandWaits c.starts c.past z h.server h.stand) is held.1) in
-    (q, m, refl, waited_read c lag x i q q.asked h.stand mode prefix index clock deadline l a (λ d seen e. index_stand c.starts c.past q i h.stand d seen e stand))
+    (q, m, refl, waited_read c lag x i q q.asked h.stand mode prefix index clock deadline l a (λ d looked e. index_stand c.starts c.past q i h.stand d looked e stand))
 read_caused c lag x i q mode prefix index clock deadline m l (at_once why k goes) = absurd (cc k)
 read_caused c lag x i q mode prefix index clock deadline m l (not_ready k goes st r) = absurd (cc k)
 read_caused c lag x i q mode prefix index clock deadline m l (no_room command k goes ask r room) = absurd (cc k)
@@ -222,33 +222,33 @@ module _ (starts : List Start) where
   fine_if past true x y f g = f
   fine_if past false x y f g = g
 
-  asks_fine : (past : List Mark) (h : Pending) (others clock : ℕ) (applied : Log) (deadline : ℕ) (seen : Option ℕ) (query : Query) (mode : Mode) (least : ℕ) → IsAmong (came h.question) past → UntilFor starts past h.question.number h.server deadline h.question.asked →
-      Fine starts past (asks h others clock applied deadline seen query mode least)
-  asks_fine past h others clock applied deadline seen query mode least m u =
+  asks_fine : (past : List Mark) (h : Pending) (others clock : ℕ) (applied : Log) (deadline : ℕ) (looked : Bool) (query : Query) (mode : Mode) (least : ℕ) → IsAmong (came h.question) past → UntilFor starts past h.question.number h.server deadline h.question.asked →
+      Fine starts past (asks h others clock applied deadline looked query mode least)
+  asks_fine past h others clock applied deadline looked query mode least m u =
       let index = index_of query (commands_of applied) in
       let answers : Option Work = Some (Replies h.question (At mode (length applied) index clock deadline)) in
       let refuses : Option Work = Some (Replies h.question (Refused (refusal.TooMany others))) in
-      let waits : Option Work = Some (Holds (record h { stand = ForIndex deadline (Some (length applied)) })) in
-      let again : HeldWaits starts past (record h { stand = ForIndex deadline (Some (length applied)) }) = (m, u) in
-      let new : Option Work = cond (is_new seen && nat_le 4096 others) refuses waits in
-      fine_if past (nat_lt least index || nat_le deadline clock) answers (cond (was_seen seen (length applied)) None new) tt
-      (fine_if past (was_seen seen (length applied)) None new tt (fine_if past (is_new seen && nat_le 4096 others) refuses waits tt again))
+      let waits : Option Work = Some (Holds (record h { stand = ForIndex deadline true })) in
+      let again : HeldWaits starts past (record h { stand = ForIndex deadline true }) = (m, u) in
+      let new : Option Work = cond (nat_le 4096 others) refuses waits in
+      fine_if past (nat_lt least index || nat_le deadline clock) answers (cond looked None new) tt
+      (fine_if past looked None new tt (fine_if past (nat_le 4096 others) refuses waits tt again))
 
-  asks_read_fine : (past : List Mark) (h : Pending) (others clock : ℕ) (applied : Log) (deadline : ℕ) (seen : Option ℕ) (asked : Asked) → IsAmong (came h.question) past → UntilFor starts past h.question.number h.server deadline h.question.asked →
-      Fine starts past (asks_read h others clock applied deadline seen asked)
-  asks_read_fine past h others clock applied deadline seen (Good (Read query mode least wait raw)) m u = asks_fine past h others clock applied deadline seen query mode least m u
-  asks_read_fine past h others clock applied deadline seen (Good (Execute name limit mode)) m u = tt
-  asks_read_fine past h others clock applied deadline seen (Good (Write command)) m u = tt
-  asks_read_fine past h others clock applied deadline seen (Good (Renew id)) m u = tt
-  asks_read_fine past h others clock applied deadline seen (Good (OfAgent op)) m u = tt
-  asks_read_fine past h others clock applied deadline seen (Bad why) m u = tt
+  asks_read_fine : (past : List Mark) (h : Pending) (others clock : ℕ) (applied : Log) (deadline : ℕ) (looked : Bool) (asked : Asked) → IsAmong (came h.question) past → UntilFor starts past h.question.number h.server deadline h.question.asked →
+      Fine starts past (asks_read h others clock applied deadline looked asked)
+  asks_read_fine past h others clock applied deadline looked (Good (Read query mode least wait raw)) m u = asks_fine past h others clock applied deadline looked query mode least m u
+  asks_read_fine past h others clock applied deadline looked (Good (Execute name limit mode)) m u = tt
+  asks_read_fine past h others clock applied deadline looked (Good (Write command)) m u = tt
+  asks_read_fine past h others clock applied deadline looked (Good (Renew id)) m u = tt
+  asks_read_fine past h others clock applied deadline looked (Good (OfAgent op)) m u = tt
+  asks_read_fine past h others clock applied deadline looked (Bad why) m u = tt
 
   stand_fine : (c : Cluster) (past : List Mark) (i : ℕ) (h : Pending) (st : Stand) → IsAmong (came h.question) past → StandWaits starts past h.question h.server st → Fine starts past (early_stand c i h st)
   stand_fine c past i h (Ended number) m x = tt
   stand_fine c past i h (AtPlace index term) m x = fine_if past (nat_le index (length (applied_of c i))) (Some (Replies h.question (landed index term (applied_of c i)))) None tt tt
   stand_fine c past i h (InRound round deadline) m x =
       fine_if past (nat_lt round.term (node_of c.world i).term) (Some (Replies h.question (Refused (refusal.Lost round.term (node_of c.world i).term)))) None tt tt
-  stand_fine c past i h (ForIndex deadline seen) m x = asks_read_fine past h (waiting i c.held) (clock_of c.world i) (applied_of c i) deadline seen h.question.asked m x
+  stand_fine c past i h (ForIndex deadline looked) m x = asks_read_fine past h (waiting i c.held) (clock_of c.world i) (applied_of c i) deadline looked h.question.asked m x
 
   early_fine : (c : Cluster) (past : List Mark) (i : ℕ) (h : Pending) → HeldWaits starts past h → Fine starts past (early_work c i h)
   early_fine c past i h x =
@@ -258,9 +258,9 @@ module _ (starts : List Start) where
 
   turn_fine : (c : Cluster) (past : List Mark) (i : ℕ) (h : Pending) (st : Stand) → IsAmong (came h.question) past → StandWaits starts past h.question h.server st → Fine starts past (late_stand c i h st)
   turn_fine c past i h (InRound round deadline) m x =
-      let again : HeldWaits starts past (record h { stand = ForIndex deadline None }) = (m, x) in
-      fine_if past (not (node_of c.world i).halted && (is_confirmed (node_of c.world i) round && nat_le round.commit (length (applied_of c i)))) (Some (Holds (record h { stand = ForIndex deadline None }))) None again tt
-  turn_fine c past i h (ForIndex deadline seen) m x = tt
+      let again : HeldWaits starts past (record h { stand = ForIndex deadline false }) = (m, x) in
+      fine_if past (not (node_of c.world i).halted && (is_confirmed (node_of c.world i) round && nat_le round.commit (length (applied_of c i)))) (Some (Holds (record h { stand = ForIndex deadline false }))) None again tt
+  turn_fine c past i h (ForIndex deadline looked) m x = tt
   turn_fine c past i h (AtPlace index term) m x = tt
   turn_fine c past i h (Ended number) m x = tt
 
