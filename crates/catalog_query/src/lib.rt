@@ -19,4 +19,4 @@ mod sessions;
 mod view;
 
 pub use fault::ExecuteFault;
-pub use view::{View, chans, evaluate, execute};
+pub use view::{View, chans, evaluate, execute, index};

@@ -39,6 +39,14 @@ impl<'a> Model for View<'a> {
     ghost view = { λ v. kept_of v.kv.now.now v.catalog.now.now v.sessions.now.now v.queries.now.now v.indexes.now.now };
 }
 
+/// The index of the query. It takes no memory, and no answer is made.
+pub fn index(view: &View, query: &Query) -> u64
+    ensures index { result ≡ view_index query.now view.now }
+    ensures stands { (log : List Command) → Stands view.now log → result ≡ index_of query.now log }
+{
+    indexes::of_query(view.kv, view.catalog, view.indexes, query)
+}
+
 /// The answer to the query with its index. It is one step, also where memory fails.
 pub fn evaluate<L: Ledger>(
     alloc: Global,
@@ -61,8 +69,7 @@ pub fn evaluate<L: Ledger>(
         view.queries,
         query,
     )?;
-    let index = indexes::of_query(view.kv, view.catalog, view.indexes, query);
-    Ok((answer, index))
+    Ok((answer, index(view, query)))
 }
 
 /// The channels on which the query hangs.

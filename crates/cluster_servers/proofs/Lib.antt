@@ -5,3 +5,4 @@ pub mod Leading
 pub mod Stepping
 pub mod Beginning
 pub mod Placed
+pub mod Sparing

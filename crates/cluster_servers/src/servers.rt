@@ -1,6 +1,7 @@
 //! The servers of a cluster.
 
 ghost use Rattle.std.specs.Prelude.{◌≡◌, ◌+◌, ◌≤◌, ◌&&◌, length, nat_le, nat_lt, IfOk, OnErr, OnOk};
+ghost use Rattle.cat_model.specs.Channels.{chans};
 ghost use Rattle.cat_model.specs.Indexes.{index_of};
 ghost use Rattle.cat_model.specs.Log.{commands_of};
 ghost use Rattle.cat_model.specs.Machine.{catalog_at};
@@ -8,10 +9,11 @@ ghost use Rattle.cat_model.specs.Queries.{answer};
 ghost use Rattle.cluster_rules.specs.Cluster.{clock_of, node_of, server_of};
 ghost use Rattle.raft_world.specs.Steps.{IsNumber};
 ghost use Rattle.office_rules.specs.Offices.{has_removed, looks_on, office_from};
+ghost use Rattle.replica.specs.Sparing.{SparesOthers};
 ghost use Rattle.replica.specs.States.{last_reply};
 ghost use Rattle.cluster_servers.specs.Servers.{HasNext, applies_next, officed};
 
-use cat_model::{Answer, Applied, Entry, Memory, Query, Steps};
+use cat_model::{Answer, Applied, Chan, Entry, List, Memory, Query, Steps};
 use cat_outside::Keeper;
 use catalog_store::is_taken;
 use raft_node::Node;
@@ -135,6 +137,23 @@ impl<K: Keeper> Servers<K> {
         self.replica(s).read(alloc, query, steps)
     }
 
+    /// The index of a query at all that a server has applied. It takes no memory, and no answer is made.
+    pub fn index(&self, s: u32, query: &Query) -> u64
+        requires { IsNumber s self.now.world }
+        ensures { result ≡ index_of query.now (commands_of (server_of self.now.servers s).applied) }
+    {
+        self.replica(s).index(query)
+    }
+
+    /// The channels on which a query hangs at all that a server has applied: one, or two.
+    pub fn chans(&self, alloc: Global, s: u32, query: &Query) -> Result<List<Chan>, Memory>
+        requires { IsNumber s self.now.world }
+        ensures chans { IfOk result (λ l. l ≡ chans query.now (catalog_at (commands_of (server_of self.now.servers s).applied))) }
+        ensures few { IfOk result (λ l. length l ≤ 2) }
+    {
+        self.replica(s).chans(alloc, query)
+    }
+
     /// A copy of the catalog's answer to the command that a server applied last.
     pub fn reply(&self, alloc: Global, s: u32) -> Result<Option<Applied>, Memory>
         requires { IsNumber s self.now.world }
@@ -143,13 +162,14 @@ impl<K: Keeper> Servers<K> {
         self.replica(s).reply(alloc)
     }
 
-    /// A server applies its next position, at its clock's time. It answers Memory also where the entry there is one
-    /// that its tables don't take: no request enters such a one, and it can only come out of a durable store. After
-    /// Memory all is as before.
-    pub fn apply(&mut self, alloc: Global, s: u32) -> Result<(), Memory>
+    /// A server applies its next position, at its clock's time. It gives the channels that the step fires: a query that
+    /// hangs on none of them reads as before. It answers Memory also where the entry there is one that its tables don't
+    /// take: no request enters such a one, and it can only come out of a durable store. After Memory all is as before.
+    pub fn apply(&mut self, alloc: Global, s: u32) -> Result<List<Chan>, Memory>
         requires server { IsNumber s self.old.world }
         requires next { HasNext self.old s }
         ensures ok { OnOk result (self.new ≡ applies_next s self.old) }
+        ensures spares { IfOk result (SparesOthers (commands_of (server_of self.old.servers s).applied) (commands_of (server_of self.new.servers s).applied)) }
         ensures err { OnErr result (self.new ≡ self.old) }
     {
         let clock = self.world.clock(s);
@@ -162,8 +182,8 @@ impl<K: Keeper> Servers<K> {
         if applied >= MOST || !is_taken(&entry.command) {
             return Err(Memory);
         }
-        replica.apply(alloc, &entry.command, clock)?;
-        Ok(())
+        let fired = replica.apply(alloc, &entry.command, clock)?;
+        Ok(fired)
     }
 
     /// A server takes office, at its clock's time.

@@ -5,3 +5,5 @@ pub mod Standing
 pub mod Making
 pub mod Waiting
 pub mod Quieting
+pub mod Channels
+pub mod Sparing

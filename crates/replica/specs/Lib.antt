@@ -2,3 +2,4 @@ pub mod Delays
 pub mod Removing
 pub mod States
 pub mod Making
+pub mod Sparing

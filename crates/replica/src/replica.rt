@@ -2,7 +2,7 @@ ghost use Rattle.std.specs.Prelude.{◌≡◌, ◌+◌, ◌<◌, ◌≤◌, ◌+
 ghost use Rattle.std.specs.Option.{option_copied};
 ghost use Rattle.cat_model.specs.Catalog.{session_at};
 ghost use Rattle.cat_model.specs.Machine.{catalog_at};
-ghost use Rattle.cat_model.specs.Channels.{fires};
+ghost use Rattle.cat_model.specs.Channels.{chans, fires};
 ghost use Rattle.cat_model.specs.Executions.{execution};
 ghost use Rattle.cat_model.specs.Queries.{answer};
 ghost use Rattle.cat_model.specs.Indexes.{index_of};
@@ -11,6 +11,7 @@ ghost use Rattle.catalog_query.specs.Standing.{Stands};
 ghost use Rattle.catalog_store.specs.Taken.{is_taken};
 ghost use Rattle.agent_rules.specs.Agents.{remote_of};
 ghost use Rattle.office_rules.specs.Offices.{delay_over, has_removed};
+ghost use Rattle.replica.specs.Sparing.{SparesOthers};
 ghost use Rattle.replica.specs.States.{nothing_applied, applied_at, last_reply};
 
 use crate::delays::Delays;
@@ -125,7 +126,8 @@ impl Replica {
     }
 
     /// Applies the command at the next position, at this time of the server's clock. The catalog's answer is then the
-    /// last reply. It gives the channels that the step fires. After want of memory all is as before.
+    /// last reply. It gives the channels that the step fires: a query that hangs on none of them reads as before. After
+    /// want of memory all is as before.
     #[tactic(auto, using(crate::proofs::Replying::last_is))]
     pub fn apply(
         &mut self,
@@ -137,6 +139,7 @@ impl Replica {
         requires kind { is_taken command.now ≡ true }
         ensures ok { OnOk result (self.new ≡ applied_at command.now now self.old) }
         ensures fired { IfOk result (λ chans. FiresJust (fires (catalog_at self.old.commands) command.now (catalog_at (self.old.commands ++ command.now ∷ []))) chans) }
+        ensures spares { IfOk result (SparesOthers self.old.commands (self.old.commands ++ command.now ∷ [])) }
         ensures err { OnErr result (self.new ≡ self.old) }
     {
         self.delays.settle(alloc)?;
@@ -187,6 +190,22 @@ impl Replica {
         ensures cost { steps.new ≡ steps.old + 1 }
     {
         catalog_query::evaluate(alloc, &view_of(&self.store), query, steps)
+    }
+
+    /// The index of the query at all that is applied. It takes no memory, and no answer is made.
+    pub fn index(&self, query: &Query) -> u64
+        ensures { result ≡ index_of query.now self.now.commands }
+    {
+        catalog_query::index(&view_of(&self.store), query)
+    }
+
+    /// The channels on which the query hangs at all that is applied: one, or two.
+    #[tactic(auto, using(crate::proofs::Channels::few_chans))]
+    pub fn chans(&self, alloc: Global, query: &Query) -> Result<List<Chan>, Memory>
+        ensures chans { IfOk result (λ l. l ≡ chans query.now (catalog_at self.now.commands)) }
+        ensures few { IfOk result (λ l. length l ≤ 2) }
+    {
+        catalog_query::chans(alloc, &view_of(&self.store), query)
     }
 
     /// What the prepared query that the name names gives at all that is applied: the one of the identifier that the name

@@ -1,7 +1,6 @@
-use Rattle.std.proofs.Common.{◌≡◌, ◌∙◌, sym, ap}
+use Rattle.std.proofs.Common.{◌∙◌, ap}
 use Rattle.cat_model.specs.Queries.{answer}
 use Rattle.cat_model.specs.Views.{Kept}
-use Rattle.catalog_query.specs.Standing.{view_index}
 use Rattle.catalog_query.specs.Laws.{positions_are, stands_answer, stands_index}
 use Rattle.catalog_query.proofs.view.evaluate.Goals as goal
 
@@ -9,7 +8,7 @@ pub returns-clause-answer : goal.returns-clause-answer
 returns-clause-answer g c = c.in_ok-answer.ensures ∙ ap (λ (k : Kept). answer c.args.query.now k.rows) c.view.view_is
 
 pub returns-clause-index : goal.returns-clause-index
-returns-clause-index g c = c.of_query-index.ensures c.view.inside.sessions.now.now c.view.inside.queries.now.now ∙ ap (view_index c.args.query.now) c.view.view_is
+returns-clause-index g c = c.index.ensures.index
 
 pub returns-clause-kept : goal.returns-clause-kept
 returns-clause-kept g c = λ fit. returns-clause-index g c ∙ positions_are c.args.query.now c.args.view.now fit

@@ -1,9 +1,11 @@
 use Rattle.std.proofs.Common.{ap, sym, ◌∙◌, arith, ◌+◌}
 use Rattle.std.proofs.lemmas.Grind.{common_steps}
 use Rattle.office_rules.specs.Offices.{has_removed}
+use Rattle.replica.specs.States.{ReplicaState}
 use Rattle.replica.proofs.Delaying.{delays_next}
 use Rattle.replica.proofs.Quieting.{quiet_next}
 use Rattle.replica.proofs.Replying.{last_is}
+use Rattle.replica.proofs.Sparing.{spares_others}
 use Rattle.replica.proofs.replica.Replica.apply.Goals as goal
 
 pub invariant_of-self-in-Ok : goal.invariant_of-self-in-Ok
@@ -17,3 +19,6 @@ invariant_of-self-in-Ok c = (
   quiet_next c.self.inside.store c.self.inside.clocks.items c.self.inside.office c.self.inside.quiet_until c.applied-self-inside.result c.args.now c.args.command.now c.self.invariant.0 c.applied-self-inside.ensures.earlier c.applied-self-inside.ensures.within c.self.invariant.5
       c.apply.new.self c.in-Ok.ensures.ok c.push.new.self.items c.in_ok-push.ensures.items,
 )
+
+pub returns-in-Ok-clause-spares : goal.returns-in-Ok-clause-spares
+returns-in-Ok-clause-spares c = spares_others c.self.inside.store c.args.command.now c.args.self.now.commands (ap (λ (s : ReplicaState). s.commands) c.self.view_is) _ c.in-Ok.ensures.fired
