@@ -5,3 +5,5 @@
 mod lists;
 #[cfg(test)]
 mod timers;
+#[cfg(test)]
+mod watches;

@@ -3,6 +3,9 @@ use Rattle.std.proofs.Common.{◌≡◌, ◌≢◌, ℕ, ◌<◌, ◌≤◌, ◌
 use Rattle.std.specs.Ordering.{nat_cmp, is_eq, match_ordering}
 use Rattle.std.specs.declared.cmp.Ordering.{Ordering}
 use Rattle.std.specs.declared.cmp.Ordering.TheVariants.{Less, Equal, Greater}
+use Rattle.std.proofs.lemmas.Cmp.{nat_cmp_total, eq_by_cmp_equiv}
+use Rattle.std.proofs.lemmas.Map.{lookup-remove_entry}
+use Rattle.std.proofs.lemmas.Map.Keys.{IsDistinct-from_sorted}
 use Rattle.std.proofs.lemmas.Map.Lookups.{exact_unsigned}
 use Rattle.std.proofs.lemmas.Bool.{true≢false, le-ltb, eq-eqb}
 use Rattle.std.specs.Map.{lookup, remove_entry, keys_of}
@@ -53,6 +56,15 @@ shown_lookup t (e ∷ es) = go (shown_lookup t es) (t e.0)
     go more true = refl
     go more false = more
 
+-- a waiter that is not there is not seen by callers
+pub shown_absent : (t : ℕ → Bool) (es : List (ℕ × Waiting)) → lookup t es ≡ None → lookup t (map shown es) ≡ None
+shown_absent t [] h = refl
+shown_absent t (e ∷ es) h = go (shown_absent t es) (t e.0) h
+  where
+    go : (lookup t es ≡ None → lookup t (map shown es) ≡ None) → (b : Bool) → cond b (Some e.1) (lookup t es) ≡ None → cond b (Some e.1.chans) (lookup t (map shown es)) ≡ None
+    go more true k = cc
+    go more false k = more k
+
 pub shown_long : (es : List (ℕ × Waiting)) → length (map shown es) ≡ length es
 shown_long [] = refl
 shown_long (e ∷ es) = ap suc (shown_long es)
@@ -86,6 +98,12 @@ is_equal Greater e = absurd (true≢false (sym e))
 
 pub key_same : (a b : ℕ) → is_at (nat_cmp a) b ≡ true → b ≡ a
 key_same a b h = sym (exact_unsigned a b (is_equal (nat_cmp a b) h))
+
+-- a waiter that was taken out is there no more
+pub shown_gone : (key : ℕ) (es : List (ℕ × Waiting)) → IsStrictlySortedBy nat_cmp (keys_of es) → lookup (is_at (nat_cmp key)) (map shown (remove_entry (is_at (nat_cmp key)) es)) ≡ None
+shown_gone key es order =
+    let u = lookup-remove_entry (eq_by_cmp_equiv nat_cmp_total) (is_at (nat_cmp key)) (λ x y h. ap (λ k. is_at (nat_cmp k) y) (sym (key_same key x h))) key es (IsDistinct-from_sorted nat_cmp (keys_of es) order) in
+    shown_absent (is_at (nat_cmp key)) (remove_entry (is_at (nat_cmp key)) es) (u ∙ ap (λ b. cond b None (lookup (is_at (nat_cmp key)) es)) (at_itself key))
 
 -- what is there without a key was there before, at another key
 pub less_one : (es es' : List (ℕ × Waiting)) (key k : ℕ) (p : Waiting) → lookup (is_at (nat_cmp k)) es' ≡ cond (is_at (nat_cmp key) k) None (lookup (is_at (nat_cmp k)) es) → lookup (is_at (nat_cmp k)) es' ≡ Some p → (k ≢ key) × (lookup (is_at (nat_cmp k)) es ≡ Some p)

@@ -97,7 +97,8 @@ impl WatchRegistry {
 
     /// Takes a waiter out, if it is there. It takes no memory.
     pub fn remove(&mut self, waiter: u64)
-        ensures { self.new ≡ remove_entry (is_at (nat_cmp waiter)) self.old }
+        ensures left { self.new ≡ remove_entry (is_at (nat_cmp waiter)) self.old }
+        ensures gone { lookup (is_at (nat_cmp waiter)) self.new ≡ None }
     {
         release(&mut self.list, &mut self.waiters, waiter);
     }

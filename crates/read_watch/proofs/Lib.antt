@@ -1,0 +1,4 @@
+pub mod Lookups
+pub mod Members
+pub mod Places
+pub mod Leavers

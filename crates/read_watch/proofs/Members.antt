@@ -1,0 +1,117 @@
+-- Numbers on a list.
+use Rattle.std.proofs.Common.{◌≡◌, ◌≢◌, ℕ, zero, suc, ◌+◌, ◌<◌, ◌⊎◌, inl, inr, Bool, true, false, cond, not, ◌||◌, List, [], ◌∷◌, ◌++◌, refl, sym, ◌∙◌, ap, subst, map, filter, take, drop, length, get_or, arith, Contains, Some, nat_eq, add-one}
+use Rattle.std.specs.List.{list_any, remove}
+use Rattle.std.specs.Ordering.{nat_cmp}
+use Rattle.std.specs.Map.{lookup}
+use Rattle.std.specs.BTreeMap.{is_at}
+use Rattle.std.proofs.Math.Seq.{drop-cons}
+use Rattle.std.proofs.lemmas.Bool.{eqb-true, eq-eqb, true≢false}
+use Rattle.std.proofs.lemmas.List.{take-append-drop, take_more}
+use Rattle.std.proofs.lemmas.List.Elements.{Contains-append_left, Contains-append_right, Contains-append_cases}
+use Rattle.std.proofs.lemmas.Map.Views.{Contains-from_any}
+use Rattle.cat_model.specs.declared.query.Chan.{Chan}
+use Rattle.watch_registry.proofs.Holds.{key_same}
+use Rattle.read_watch.specs.Watch.{is_among}
+
+pub listed : (n : ℕ) (xs : List ℕ) → is_among n xs ≡ true → Contains xs n
+listed n xs h = Contains-from_any {eq = λ q y. nat_eq y q} (λ x y e. sym (eqb-true y x e)) n xs h
+
+pub or_true : (a b : Bool) → b ≡ true → (a || b) ≡ true
+or_true true b h = refl
+or_true false b h = h
+
+pub among : (n : ℕ) (xs : List ℕ) → Contains xs n → is_among n xs ≡ true
+among n [] h = absurd (omega (arith, h.1))
+among n (x ∷ xs) (zero, low, e) = ap (λ b. b || is_among n xs) (eq-eqb x n e)
+among n (x ∷ xs) (suc k, low, e) = or_true (nat_eq x n) (is_among n xs) (among n xs (k, omega (arith, low), e))
+
+-- what passes stays
+among_passing : (p : ℕ → Bool) (n : ℕ) (xs : List ℕ) → p n ≡ true → is_among n xs ≡ true → is_among n (filter p xs) ≡ true
+among_passing p n [] g h = h
+among_passing p n (x ∷ xs) g h = go (among_passing p n xs g) (nat_eq x n) refl (p x) refl h
+  where
+    go : (is_among n xs ≡ true → is_among n (filter p xs) ≡ true) → (b : Bool) → nat_eq x n ≡ b → (c : Bool) → p x ≡ c → (b || is_among n xs) ≡ true → is_among n (cond c (x ∷ filter p xs) (filter p xs)) ≡ true
+    go more true a true c k = ap (λ b. b || is_among n (filter p xs)) a
+    go more true a false c k = absurd (true≢false (sym g ∙ ap p (sym (eqb-true x n a)) ∙ c))
+    go more false a true c k = or_true (nat_eq x n) (is_among n (filter p xs)) (more k)
+    go more false a false c k = more k
+
+among_not : (p : ℕ → Bool) (n : ℕ) (xs : List ℕ) → p n ≡ false → is_among n (filter p xs) ≡ true → ⊥
+among_not p n [] g h = true≢false (sym h)
+among_not p n (x ∷ xs) g h = go (among_not p n xs g) (p x) refl h
+  where
+    go : (is_among n (filter p xs) ≡ true → ⊥) → (c : Bool) → p x ≡ c → is_among n (cond c (x ∷ filter p xs) (filter p xs)) ≡ true → ⊥
+    go more false c k = more k
+    go more true c k = both (nat_eq x n) refl k
+      where
+        both : (b : Bool) → nat_eq x n ≡ b → (b || is_among n (filter p xs)) ≡ true → ⊥
+        both true a m = true≢false (sym c ∙ ap p (eqb-true x n a) ∙ g)
+        both false a m = more m
+
+eqb_not : (n m : ℕ) → n ≢ m → nat_eq n m ≡ false
+eqb_not n m d = go (nat_eq n m) refl
+  where
+    go : (b : Bool) → nat_eq n m ≡ b → b ≡ false
+    go true e = absurd (d (eqb-true n m e))
+    go false e = refl
+
+pub others_kept : (m : ℕ) (xs ys : List ℕ) → ys ≡ filter (λ y. not (nat_eq y m)) xs → (n : ℕ) → n ≢ m → Contains xs n → Contains ys n
+others_kept m xs ys e n d h = subst (λ l. Contains l n) (sym e) (listed n _ (among_passing (λ y. not (nat_eq y m)) n xs (ap not (eqb_not n m d)) (among n xs h)))
+
+pub none_kept : (m : ℕ) (xs ys : List ℕ) → ys ≡ filter (λ y. not (nat_eq y m)) xs → Contains ys m → ⊥
+none_kept m xs ys e h = among_not (λ y. not (nat_eq y m)) m xs (ap not (eq-eqb m m refl)) (among m _ (subst (λ l. Contains l m) e h))
+
+-- one was taken out at a place
+pub others_left : (m i : ℕ) (xs ys : List ℕ) → i < length xs → get_or xs i 0 ≡ m → ys ≡ take i xs ++ drop (i + 1) xs → (n : ℕ) → n ≢ m → Contains xs n → Contains ys n
+others_left m i xs ys low at e n d h =
+    let whole : xs ≡ take i xs ++ (m ∷ [] ++ drop (i + 1) xs) = sym (take-append-drop i xs) ∙ ap (λ l. take i xs ++ l) (drop-cons xs i 0 low ∙ (λ k. at k ∷ drop (sym (add-one i) k) xs)) in
+    subst (λ l. Contains l n) (sym e) (go (Contains-append_cases (take i xs) (m ∷ [] ++ drop (i + 1) xs) n (subst (λ l. Contains l n) whole h)))
+  where
+    single : Contains (m ∷ []) n → ⊥
+    single (zero, l, q) = d (sym q)
+    single (suc k, l, q) = absurd (omega (arith, l))
+
+    last : Contains (m ∷ []) n ⊎ Contains (drop (i + 1) xs) n → Contains (take i xs ++ drop (i + 1) xs) n
+    last (inl c) = absurd (single c)
+    last (inr c) = Contains-append_right (take i xs) (drop (i + 1) xs) n c
+
+    go : Contains (take i xs) n ⊎ Contains (m ∷ [] ++ drop (i + 1) xs) n → Contains (take i xs ++ drop (i + 1) xs) n
+    go (inl c) = Contains-append_left (take i xs) (drop (i + 1) xs) n c
+    go (inr c) = last (Contains-append_cases (m ∷ []) (drop (i + 1) xs) n c)
+
+-- a number that is not among the first i + 1 is not among the first i, and not at i
+any_append : (n : ℕ) (xs ys : List ℕ) → is_among n (xs ++ ys) ≡ (is_among n xs || is_among n ys)
+any_append n [] ys = refl
+any_append n (x ∷ xs) ys = go (nat_eq x n) (any_append n xs ys)
+  where
+    go : (b : Bool) → is_among n (xs ++ ys) ≡ (is_among n xs || is_among n ys) → (b || is_among n (xs ++ ys)) ≡ ((b || is_among n xs) || is_among n ys)
+    go true e = refl
+    go false e = e
+
+or_first : (a b : Bool) → (a || b) ≡ false → a ≡ false
+or_first false b h = refl
+or_first true b h = h
+
+or_second : (a b : Bool) → (a || b) ≡ false → b ≡ false
+or_second false b h = h
+or_second true b h = absurd (true≢false h)
+
+pub not_before : (n i : ℕ) (xs : List ℕ) → i < length xs → is_among n (take (i + 1) xs) ≡ false → (is_among n (take i xs) ≡ false) × (n ≢ get_or xs i 0)
+not_before n i xs low h =
+    let e : (is_among n (take i xs) || (nat_eq (get_or xs i 0) n || false)) ≡ false = sym (any_append n (take i xs) (get_or xs i 0 ∷ [])) ∙ ap (is_among n) (sym (take_more xs i 0 low)) ∙ h in
+    (or_first _ _ e, λ q. true≢false (sym (eq-eqb (get_or xs i 0) n (sym q)) ∙ or_first (nat_eq (get_or xs i 0) n) false (or_second (is_among n (take i xs)) _ e)))
+
+-- the number of an entry whose value passes is listed
+pub passing_listed : (p : List Chan → Bool) (n : ℕ) (v : List Chan) (es : List (ℕ × List Chan)) → lookup (is_at (nat_cmp n)) es ≡ Some v → p v ≡ true → Contains (map (λ e. e.0) (filter (λ e. p e.1) es)) n
+passing_listed p n v es h g = listed n _ (go es h)
+  where
+    go : (es : List (ℕ × List Chan)) → lookup (is_at (nat_cmp n)) es ≡ Some v → is_among n (map (λ e. e.0) (filter (λ e. p e.1) es)) ≡ true
+    go [] h = cc
+    go (e ∷ es) h = each (go es) (is_at (nat_cmp n) e.0) refl (p e.1) refl h
+      where
+        each : (lookup (is_at (nat_cmp n)) es ≡ Some v → is_among n (map (λ e. e.0) (filter (λ e. p e.1) es)) ≡ true) → (b : Bool) → is_at (nat_cmp n) e.0 ≡ b → (c : Bool) → p e.1 ≡ c → cond b (Some e.1) (lookup (is_at (nat_cmp n)) es) ≡ Some v
+            → is_among n (map (λ (d : ℕ × List Chan). d.0) (cond c (e ∷ filter (λ d. p d.1) es) (filter (λ d. p d.1) es))) ≡ true
+        each more true a true c k = ap (λ b. b || is_among n (map (λ d. d.0) (filter (λ d. p d.1) es))) (eq-eqb e.0 n (key_same n e.0 a))
+        each more true a false c k = let i : e.1 ≡ v = cc in absurd (true≢false (sym g ∙ ap p (sym i) ∙ c))
+        each more false a true c k = or_true (nat_eq e.0 n) _ (more k)
+        each more false a false c k = more k

@@ -1,0 +1,11 @@
+use Rattle.read_watch.proofs.Leavers.{hung, rested}
+use Rattle.read_watch.proofs.sleeping.SleepingReads.rest.Goals as goal
+
+pub returns-clause-sleeps : goal.returns-clause-sleeps
+returns-clause-sleeps c = λ h. record {
+  hangs = hung c.enter.result c.args.number c.args.chans.now c.self.inside.registry c.enter.new.registry c.enter.ensures.hangs h;
+  until = c.enter.ensures.until h;
+}
+
+pub returns-clause-others : goal.returns-clause-others
+returns-clause-others c = rested c.enter.result c.args.number c.args.chans.now c.args.self.now c.forget.new.self c.self.inside.registry c.enter.new.registry c.self.inside.timers c.enter.new.timers c.forget.ensures.others c.self.view_is c.enter.ensures.hangs c.enter.ensures.others

@@ -1,0 +1,156 @@
+//! The requests of all servers.
+
+ghost use Rattle.std.specs.Prelude.{◌≡◌, ◌≢◌, ◌+◌, ◌<◌, ◌≤◌, ◌⊎◌, ℕ, List as Items, false, length, IfOk, Contains};
+ghost use Rattle.cat_model.specs.Reach.{is_on};
+ghost use Rattle.cat_model.specs.declared.query.Chan.{Chan as Channel};
+
+use crate::awake::{add, take_all, take_last};
+use crate::sleeping::SleepingReads;
+use cat_model::{Chan, List, Memory};
+use std::alloc::Global;
+use std::marker::Model;
+
+/// Which requests are awake, so that something may be due of them, and which reads sleep at each server, numbered from
+/// 1. Where memory ran out, any request may be awake.
+#[derive(Drop)]
+pub struct Watch {
+    servers: Vec<SleepingReads>,
+    awake: Vec<u64>,
+    all: bool,
+}
+
+impl Model for Watch {
+    ghost use Rattle.read_watch.specs.Watch as spec;
+
+    ghost Value = { spec.Watch };
+
+    ghost view = { λ w. record { servers = w.servers.items; awake = w.awake.items; all = w.all } };
+}
+
+/// The place of a server among all.
+fn place(server: u32) -> usize
+    requires { 1 ≤ server }
+    ensures { result + 1 ≡ server }
+{
+    server as usize - 1
+}
+
+impl Watch {
+    ghost use Rattle.read_watch.specs.Watch.{nobody, IsServer, IsAwake, Sleeps};
+
+    /// No request at so many servers.
+    pub fn new(alloc: Global, servers: u32) -> Result<Watch, Memory>
+        ensures { IfOk result (λ w. w ≡ nobody servers) }
+    {
+        let mut sleeping = Vec::new(alloc);
+        while sleeping.len() < servers as usize {
+            sleeping.push(SleepingReads::new(alloc)?)?;
+        }
+        Ok(Watch {
+            servers: sleeping,
+            awake: Vec::new(alloc),
+            all: false,
+        })
+    }
+
+    /// Whether memory ran out, so that any request may be awake.
+    pub fn is_all(&self) -> bool
+        ensures { result ≡ self.now.all }
+    {
+        self.all
+    }
+
+    /// The numbers of the requests that are awake, where memory did not run out.
+    pub fn awake(&self) -> &[u64]
+        ensures { result.now ≡ self.now.awake }
+    {
+        self.awake.as_slice()
+    }
+
+    fn wake_each(&mut self, numbers: &[u64])
+        ensures awake { (n : ℕ) → Contains numbers.now n → IsAwake n self.new }
+        ensures kept { (n : ℕ) → IsAwake n self.old → IsAwake n self.new }
+        ensures servers { self.new.servers ≡ self.old.servers }
+    {
+        if !add(&mut self.awake, numbers) {
+            self.all = true;
+        }
+    }
+
+    /// A request wakes.
+    pub fn wake(&mut self, number: u64)
+        ensures awake { IsAwake number self.new }
+        ensures kept { (n : ℕ) → IsAwake n self.old → IsAwake n self.new }
+        ensures servers { self.new.servers ≡ self.old.servers }
+    {
+        if !self.awake.contains(&number) {
+            self.wake_each(&[number]);
+        }
+    }
+
+    /// Channels were fired at a server. Those of its reads wake that hang on a channel which a fired one reaches.
+    pub fn fire(&mut self, alloc: Global, server: u32, fired: &List<Chan>)
+        requires { IsServer server self.old }
+        ensures kept { (n : ℕ) → IsAwake n self.old → IsAwake n self.new }
+        ensures sleepers { (i n : ℕ) (chans : Items Channel) (deadline : ℕ) → Sleeps i n chans deadline self.old → IsAwake n self.new ⊎ (Sleeps i n chans deadline self.new × (i ≡ server → is_on fired.now chans ≡ false)) }
+        ensures servers { length self.new.servers ≡ length self.old.servers }
+    {
+        match self.servers[place(server)].take_fired(alloc, fired) {
+            Ok(hit) => self.wake_each(hit.as_slice()),
+            Err(_) => self.all = true,
+        }
+    }
+
+    /// A server's clock shows this time. Those of its reads wake whose deadline has come. It looks only at the timers of
+    /// the milliseconds that passed since the last call, at 65,536 of them at most.
+    pub fn wake_over(&mut self, alloc: Global, server: u32, clock: u64)
+        requires { IsServer server self.old }
+        ensures kept { (n : ℕ) → IsAwake n self.old → IsAwake n self.new }
+        ensures sleepers { (i n : ℕ) (chans : Items Channel) (deadline : ℕ) → Sleeps i n chans deadline self.old → IsAwake n self.new ⊎ (Sleeps i n chans deadline self.new × (i ≡ server → clock < deadline)) }
+        ensures servers { length self.new.servers ≡ length self.old.servers }
+    {
+        match self.servers[place(server)].take_over(alloc, clock) {
+            Ok(over) => self.wake_each(over.as_slice()),
+            Err(_) => self.all = true,
+        }
+    }
+
+    /// A request that is awake, a read that waits, sleeps at a server until one of these channels is fired there or its
+    /// deadline comes. Where there is no memory, or as many sleep there as may, it is awake. It is taken out of those
+    /// that are awake where it stands last.
+    pub fn sleep(
+        &mut self,
+        alloc: Global,
+        server: u32,
+        number: u64,
+        chans: &List<Chan>,
+        deadline: u64,
+    )
+        requires server { IsServer server self.old }
+        requires two { length chans.now ≤ 2 }
+        ensures rests { IsAwake number self.new ⊎ Sleeps server number chans.now deadline self.new }
+        ensures kept { (n : ℕ) → n ≢ number → IsAwake n self.old → IsAwake n self.new }
+        ensures sleepers { (i n : ℕ) (cs : Items Channel) (d : ℕ) → n ≢ number → Sleeps i n cs d self.old → Sleeps i n cs d self.new }
+        ensures servers { length self.new.servers ≡ length self.old.servers }
+    {
+        let sleeps = self.servers[place(server)].rest(alloc, number, chans, deadline);
+        if sleeps {
+            take_last(&mut self.awake, number);
+        } else {
+            self.wake(number);
+        }
+    }
+
+    /// A request of a server is neither awake nor asleep any more. It takes no memory.
+    pub fn forget(&mut self, server: u32, number: u64)
+        requires { IsServer server self.old }
+        ensures kept { (n : ℕ) → n ≢ number → IsAwake n self.old → IsAwake n self.new }
+        ensures sleepers { (i n : ℕ) (cs : Items Channel) (d : ℕ) → n ≢ number → Sleeps i n cs d self.old → Sleeps i n cs d self.new }
+        ensures up { Contains self.new.awake number → ⊥ }
+        ensures down { (chans : Items Channel) (deadline : ℕ) → Sleeps server number chans deadline self.new → ⊥ }
+        ensures servers { length self.new.servers ≡ length self.old.servers }
+    {
+        self.servers[place(server)].forget(number);
+        take_all(&mut self.awake, number);
+    }
+}
