@@ -6,3 +6,4 @@ pub mod Placing
 pub mod Numbering
 pub mod Amounts
 pub mod LastOut
+pub mod Order

@@ -46,7 +46,7 @@ least_of other = 0
 abbrev pub awaits_of : Asked → Stand → Awaits
 awaits_of asked (AtPlace index term) = awaits.Position index
 awaits_of asked (InRound round deadline) = awaits.Round round.number
-awaits_of asked (ForIndex deadline seen) = awaits.Index (least_of asked) deadline
+awaits_of asked (ForIndex deadline looked) = awaits.Index (least_of asked) deadline
 awaits_of asked (Ended event) = awaits.Closing
 
 -- the held request of this number waits for this

@@ -6,6 +6,7 @@ mod answering;
 mod collected;
 mod content;
 mod copies;
+mod finding;
 mod giving;
 mod history;
 mod holding;

@@ -17,8 +17,8 @@ pub enum Stand {
     AtPlace { index: u64, term: u64 },
     /// That its round is confirmed.
     InRound { round: Round, deadline: u64 },
-    /// An index above the one given. It was last looked for after so many positions.
-    ForIndex { deadline: u64, seen: Option<u64> },
+    /// An index above the one given. It was `looked` for and was not there, or is to be looked for yet.
+    ForIndex { deadline: u64, looked: bool },
     /// To be closed, since its server restarted in the event with this number.
     Ended { event: u64 },
 }
