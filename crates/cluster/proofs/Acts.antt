@@ -26,16 +26,20 @@ use Rattle.cluster_turns.specs.Turns.{ActsWhole, ActsCut}
 use Rattle.open_requests.specs.Requests.{Requests, cluster_of as whole_of}
 use Rattle.cluster.specs.declared.moving.Seen.{Seen}
 use Rattle.cluster.specs.Moving.{Ends, MarksStep, Seats, seen_of}
-use Rattle.cluster.specs.Standing.{Stands}
+use Rattle.cluster.specs.Standing as standing
 use Rattle.cluster.proofs.Carried.{Goes, all_officed, arming_goes, carries, sound_officed}
 use Rattle.cluster.proofs.Forgetting.{forgot}
 use Rattle.cluster.proofs.Marking.{cluster_marked, stands_marked, with_room}
 use Rattle.agent_rules.specs.Agents.{Agent}
+use Rattle.cluster.specs.Watching.{Watching}
 
-module _ (gs : List Agent) where
+module _ (gs : List Agent) (wt : Watching) where
   -- the cluster of these parts, with these agents
   abbrev cluster_of : World → List Server → Requests → Cluster
   cluster_of w servers r = whole_of w servers gs r
+
+  abbrev Stands : World → List Server → Requests → Type 0
+  Stands w servers r = standing.Stands wt w servers r
 
   -- the node behind a step
   stepped : (w : World) (i : ℕ) (input : Input) (w' : World) → (a : NodeActs w i input w') → node_of w' i ≡ a.new
@@ -98,11 +102,12 @@ module _ (gs : List Agent) where
     reached = s.reached;
     some = let k = length_set_server servers i (record (server_of servers i) { office = o }) in omega (arith, s.some, k);
     count = length_set_server servers i (record (server_of servers i) { office = o }) ∙ s.count;
+    watching = (s.watching.0 ∙ sym (length_set_server servers i (record (server_of servers i) { office = o })), s.watching.1);
     sound = sound_officed w servers i o s.sound;
     joined = s.joined;
     proposed = s.proposed;
     ascends = s.ascends;
-    held = all_officed w servers i o r.asked r.held s.held;
+    held = all_officed wt w servers i o r.asked r.held s.held;
   }
 
   stands_seated : (w w' : World) (i : ℕ) (servers : List Server) (r : Requests) → Stands w' servers r → Stands w' (seated_servers w w' i servers) r
@@ -134,8 +139,8 @@ module _ (gs : List Agent) where
     step_acted : (a : NodeActs w i input w') → MarksStep (seen_of w i) (seen_of w' i) i r r'
         → Stands w' (seated_servers w w' i servers) r' × ((act : Acts 0 (cluster_of w servers r) i made (cluster_of w' (seated_servers w w' i servers) r')) × ((a.outcome ≢ Forgets → Remembers act) × (a.outcome ≡ Forgets → ¬ Remembers act)))
     step_acted a m =
-        let moves : cluster_of w' servers r' ≡ moved i w' (cluster_of w servers r) = cluster_marked gs (halted_now w w' i) i w w' servers r r' s k m in (
-          stands_seated w w' i servers r' (stands_marked gs (halted_now w w' i) i w w' servers r r' s k (carries w w' servers (acts_go w i made input w' s.reached is a) s.sound) (greatest_kept w i input w' plain a) m),
+        let moves : cluster_of w' servers r' ≡ moved i w' (cluster_of w servers r) = cluster_marked gs wt (halted_now w w' i) i w w' servers r r' s k m in (
+          stands_seated w w' i servers r' (stands_marked gs wt (halted_now w w' i) i w w' servers r r' s k (carries w w' servers (acts_go w i made input w' s.reached is a) s.sound) (greatest_kept w i input w' plain a) m),
           (takes input w' refl is a (cluster_seated w w' i servers r' ∙ ap (seated w i) moves), ((λ n. n), (λ f n. n f))),
         )
 
@@ -161,7 +166,7 @@ module _ (gs : List Agent) where
       → OnOk done (StepsWhole w i input s₁.world) → OnErr done (FindsNoMemory w i input s₁.world) → before ≡ seen_of w i → now ≡ seen_of s₁.world i → Seats before now i s₁ s₂ → Ends before now i done result r₁ r'
       → Acted i made c s₂.world s₂.servers r' result
   acts_by i made input w servers s₁ s₂ r r₁ r' c before now done result room s view ready k same plain is ok err was seen seats m =
-      let p = with_room gs w servers r r₁ room s ready in
+      let p = with_room gs wt w servers r r₁ room s ready in
       let ends : Ends (seen_of w i) (seen_of s₁.world i) i done result r₁ r' = subst (λ (z : Seen). Ends z (seen_of s₁.world i) i done result r₁ r') was (subst (λ (z : Seen). Ends before z i done result r₁ r') seen m) in
       let t = ended i made input w s₁.world servers r₁ r' p.0 k plain is done result ok err ends in
       let on = are_seated i w s₁ s₂ before now was seen seats in
@@ -203,11 +208,11 @@ module _ (gs : List Agent) where
   pub moves_by : (i : ℕ) (w w' : World) (servers : List Server) (r r₁ r' : Requests) (before now : Seen) (room : ℕ) → Stands w servers r → r₁ ≡ record r { room = room } → KeepsAgreement w w'
       → Goes w w' → w'.greatest ≡ w.greatest → before ≡ seen_of w i → now ≡ seen_of w' i → MarksStep before now i r₁ r' → Moves i (cluster_of w servers r) w' servers r'
   moves_by i w w' servers r r₁ r' before now room s ready k n g was seen m =
-      let p = with_room gs w servers r r₁ room s ready in
+      let p = with_room gs wt w servers r r₁ room s ready in
       let marks : MarksStep (seen_of w i) (seen_of w' i) i r₁ r' = subst (λ (z : Seen). MarksStep z (seen_of w' i) i r₁ r') was (subst (λ (z : Seen). MarksStep before z i r₁ r') seen m) in
       record {
-        stands = stands_marked gs (halted_now w w' i) i w w' servers r₁ r' p.0 k (carries w w' servers n s.sound) g marks;
-        is = cluster_marked gs (halted_now w w' i) i w w' servers r₁ r' p.0 k marks ∙ ap (moved i w') p.1;
+        stands = stands_marked gs wt (halted_now w w' i) i w w' servers r₁ r' p.0 k (carries w w' servers n s.sound) g marks;
+        is = cluster_marked gs wt (halted_now w w' i) i w w' servers r₁ r' p.0 k marks ∙ ap (moved i w') p.1;
       }
 
   -- what a call did that found its memory

@@ -31,6 +31,7 @@ use Rattle.cluster_turns.specs.declared.cut.Cut.{Cut}
 use Rattle.cluster_turns.specs.declared.cut.Cut.TheVariants.{Before, Within}
 use Rattle.open_requests.specs.Requests.{Requests, answered_with, cluster_of as whole_of, numbered_with, used}
 use Rattle.cluster.specs.Agents.{agent_at, agents_with}
+use Rattle.cluster.specs.Watching.{Watching}
 use Rattle.cluster.specs.Standing.{Stands}
 use Rattle.cluster.specs.Syncing.{PlansInPart, PlansWhole, content_told, cut_first, noted_alone, own_done, reply_told}
 use Rattle.cluster.proofs.Handled.{Comes, numbered_cluster, numbered_stands}
@@ -65,8 +66,8 @@ asked_so agent op asked draw c e =
     agent_did (event.Ask agent a draw) c₁ ≡ answered (record { number = c₁.asked; agent = agent; asked = a; draw = draw }) (kind_told agent op g) false 0 [] (with_change agent g c₁)) in
     subst Goal (sym e) refl
 
-module _ (gs gs' : List Agent) (w : World) (servers : List Server) (r r' : Requests) (c : Cluster) (agent : ℕ) (op : AgentOp) (asked : Asked) (draw : Draw) (reply : Reply)
-    (at : Comes gs w servers r c agent asked draw) (is : asked ≡ Good (AsksAgent op)) (told_is : reply ≡ reply_told (r.asked + 1) agent op (whole_of w servers gs r))
+module _ (gs gs' : List Agent) (wt : Watching) (w : World) (servers : List Server) (r r' : Requests) (c : Cluster) (agent : ℕ) (op : AgentOp) (asked : Asked) (draw : Draw) (reply : Reply)
+    (at : Comes gs wt w servers r c agent asked draw) (is : asked ≡ Good (AsksAgent op)) (told_is : reply ≡ reply_told (r.asked + 1) agent op (whole_of w servers gs r))
     (grown : gs' ≡ agents_with agent (change agent op (agent_at gs agent)) gs)
     (given : r' ≡ used (answered_with reply.number reply.kind reply.known reply.contact reply.content (used (numbered_with agent asked draw (record r { room = 4 }))))) where
   abbrev g : Option Agent
@@ -87,7 +88,7 @@ module _ (gs gs' : List Agent) (w : World) (servers : List Server) (r r' : Reque
   abbrev q : Question
   q = record { number = c₁.asked; agent = agent; asked = asked; draw = draw }
 
-  here : Comes gs w servers r own agent asked draw
+  here : Comes gs wt w servers r own agent asked draw
   here = record { stands = at.stands; view = refl; come = subst (λ (d : Cluster). IsCome agent asked draw d.past) (sym at.view) at.come }
 
   given_is : r' ≡ used (answered_with (r.asked + 1) kind false 0 (content_told kind) r₁)
@@ -95,7 +96,7 @@ module _ (gs gs' : List Agent) (w : World) (servers : List Server) (r r' : Reque
 
   others : whole_of w servers gs' r₁ ≡ with_change agent g c₁
   others =
-      ap (λ (d : Cluster). record d { agents = gs' }) (numbered_cluster gs w servers r own agent asked draw here)
+      ap (λ (d : Cluster). record d { agents = gs' }) (numbered_cluster gs wt w servers r own agent asked draw here)
       ∙ ap (λ (l : List Agent). record c₁ { agents = l }) grown ∙ sym (changed agent g c₁)
 
   did : whole_of w servers gs' r' ≡ agent_did (event.Ask agent asked draw) c₁
@@ -111,10 +112,10 @@ module _ (gs gs' : List Agent) (w : World) (servers : List Server) (r r' : Reque
   pub answer_done : whole_of w servers gs' r' ≡ agent_did (event.Ask agent asked draw) (numbered agent asked draw c)
   answer_done = did ∙ ap (λ (d : Cluster). agent_did (event.Ask agent asked draw) (numbered agent asked draw d)) at.view
 
-  pub answered_stands : Stands w servers r'
+  pub answered_stands : Stands wt w servers r'
   answered_stands =
-      let a = answer_stands gs w servers r₁ (r.asked + 1) kind false 0 (content_told kind) (numbered_stands gs w servers r own agent asked draw here) in
-      subst (Stands w servers) (sym given_is) (record { reached = a.reached; some = a.some; count = a.count; sound = a.sound; joined = a.joined; proposed = a.proposed; ascends = a.ascends; held = a.held })
+      let a = answer_stands gs wt w servers r₁ (r.asked + 1) kind false 0 (content_told kind) (numbered_stands gs wt w servers r own agent asked draw here) in
+      subst (Stands wt w servers) (sym given_is) (record { reached = a.reached; some = a.some; count = a.count; watching = a.watching; sound = a.sound; joined = a.joined; proposed = a.proposed; ascends = a.ascends; held = a.held })
 
 -- A reply stands before a sync's out.
 swapped : (b : Bool) (out s o : Out) (outs back : List Out) → put_out s (cond b (out ∷ o ∷ outs) (o ∷ back)) ≡ cond b (put_out s (out ∷ o ∷ outs)) (put_out s (o ∷ back))

@@ -8,6 +8,8 @@ use Rattle.cluster_rules.specs.Cluster.{Server, no_server, node_of, server_of}
 use Rattle.cluster_rules.specs.Sound.{ServerIsSound}
 use Rattle.open_requests.specs.Requests as own
 use Rattle.cluster_servers.proofs.Beginning.{as_many_start}
+use Rattle.read_watch.specs.Watch.{no_sleeper}
+use Rattle.cluster.specs.Watching.{Watching, nothing_watched}
 use Rattle.cluster.specs.Beginning.{MayBegin}
 use Rattle.cluster.specs.Standing.{Stands}
 
@@ -28,12 +30,13 @@ idle_server : (count i : ℕ) → server_of (replicate count no_server) i ≡ no
 idle_server count zero = refl
 idle_server count (suc at) = idle_item count at
 
-pub begun_stands : (stores : List Store) (count : ℕ) (w : World) (servers : List Server) → MayBegin stores → Begins stores w → 0 < count → length stores ≡ count → servers ≡ replicate count no_server → Stands w servers own.empty
-begun_stands stores count w servers may begins some size idle =
+pub begun_stands : (watch : Watching) (stores : List Store) (count : ℕ) (w : World) (servers : List Server) → MayBegin stores → Begins stores w → 0 < count → length stores ≡ count → servers ≡ replicate count no_server → watch ≡ nothing_watched count → Stands watch w servers own.empty
+begun_stands watch stores count w servers may begins some size idle is =
     record {
       reached = reached stores w may begins;
       some = omega (arith, some, ap length idle, replicated count no_server);
       count = ap length idle ∙ replicated count no_server ∙ sym size ∙ sym (as_many_start (length stores) 1 stores w.nodes begins.nodes);
+      watching = (ap (λ (x : Watching). length x.watch.servers) is ∙ replicated count no_sleeper ∙ sym (ap length idle ∙ replicated count no_server), omega (arith, ap (λ (x : Watching). x.seen) is));
       sound = λ i. subst (λ (x : Server). ServerIsSound w.agreed (node_of w i).commit x) (sym (ap (λ (ss : List Server). server_of ss i) idle ∙ idle_server count i)) (record { front = refl; within = omega arith; clocks = refl });
       joined = sym (ap length begins.agreed);
       proposed = omega (arith, begins.greatest);

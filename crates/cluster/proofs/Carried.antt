@@ -17,7 +17,8 @@ use Rattle.cluster_rules.proofs.Boundary.{Rises, acts_rise}
 use Rattle.cluster_rules.proofs.Grows.{GoesTo, goes_by, goes_nowhere, write_map}
 use Rattle.cluster_rules.proofs.Moved.{arms_rise, drops_rise, ticks_rise}
 use Rattle.cluster_rules.proofs.Tools.{at_item, each_map}
-use Rattle.cluster.specs.Standing.{HasPlace, IsAwaited, IsHeld, IsLookedFor}
+use Rattle.cluster.specs.Watching.{Watching}
+use Rattle.cluster.specs.Standing.{HasPlace, IsAwaited, IsHeld, IsWatched}
 
 -- The world went on, and no server's commit fell.
 pub record Goes (w w' : World) : Type 0 where
@@ -71,31 +72,31 @@ sound_with w servers i x sound is = λ j. at_item (λ (y : Server). ServerIsSoun
 awaited_later : (w w' : World) → GoesTo w w' → (n : ℕ) (q : Question) (s : Stand) → IsAwaited w n q s → IsAwaited w' n q s
 awaited_later w w' g n q (AtPlace index term) x = (x.0, x.1, write_map q.asked (HasPlace w index term q) (HasPlace w' index term q) (λ c p v r. p v (g.on v r)) x.2)
 awaited_later w w' g n q (InRound round deadline) x = tt
-awaited_later w w' g n q (ForIndex deadline seen) x = tt
+awaited_later w w' g n q (ForIndex deadline looked) x = tt
 awaited_later w w' g n q (Ended event) x = tt
 
-held_later : (w w' : World) (servers : List Server) (n m : ℕ) → GoesTo w w' → n ≤ m → (h : Pending) → IsHeld w servers n h → IsHeld w' servers m h
-held_later w w' servers n m g l h x = record {
+held_later : (wt : Watching) (w w' : World) (servers : List Server) (n m : ℕ) → GoesTo w w' → n ≤ m → (h : Pending) → IsHeld wt w servers n h → IsHeld wt w' servers m h
+held_later wt w w' servers n m g l h x = record {
   numbered = let k = x.numbered in omega arith;
   taken = x.taken;
   awaited = awaited_later w w' g (length (server_of servers h.server).applied) h.question h.stand x.awaited;
-  looked = x.looked;
+  watched = x.watched;
 }
 
-pub all_later : (w w' : World) (servers : List Server) (n m : ℕ) (held : List Pending) → GoesTo w w' → n ≤ m → Each (IsHeld w servers n) held → Each (IsHeld w' servers m) held
-all_later w w' servers n m held g l all = each_map (IsHeld w servers n) (IsHeld w' servers m) (λ h x. held_later w w' servers n m g l h x) held all
+pub all_later : (wt : Watching) (w w' : World) (servers : List Server) (n m : ℕ) (held : List Pending) → GoesTo w w' → n ≤ m → Each (IsHeld wt w servers n) held → Each (IsHeld wt w' servers m) held
+all_later wt w w' servers n m held g l all = each_map (IsHeld wt w servers n) (IsHeld wt w' servers m) (λ h x. held_later wt w w' servers n m g l h x) held all
 
 -- more were asked
-pub all_more : (w : World) (servers : List Server) (n m : ℕ) (held : List Pending) → n ≤ m → Each (IsHeld w servers n) held → Each (IsHeld w servers m) held
-all_more w servers n m held l all = all_later w w servers n m held (goes_nowhere w) l all
+pub all_more : (wt : Watching) (w : World) (servers : List Server) (n m : ℕ) (held : List Pending) → n ≤ m → Each (IsHeld wt w servers n) held → Each (IsHeld wt w servers m) held
+all_more wt w servers n m held l all = all_later wt w w servers n m held (goes_nowhere w) l all
 
 -- its server has applied the same
-pub held_same : (w : World) (servers servers' : List Server) (n : ℕ) (h : Pending) → (server_of servers' h.server).applied ≡ (server_of servers h.server).applied → IsHeld w servers n h → IsHeld w servers' n h
-held_same w servers servers' n h e x = record {
+pub held_same : (wt : Watching) (w : World) (servers servers' : List Server) (n : ℕ) (h : Pending) → (server_of servers' h.server).applied ≡ (server_of servers h.server).applied → IsHeld wt w servers n h → IsHeld wt w servers' n h
+held_same wt w servers servers' n h e x = record {
   numbered = x.numbered;
   taken = x.taken;
   awaited = subst (λ (l : Log). IsAwaited w (length l) h.question h.stand) (sym e) x.awaited;
-  looked = subst (λ (l : Log). IsLookedFor l h.question.asked h.stand) (sym e) x.looked;
+  watched = subst (λ (l : Log). IsWatched wt l h) (sym e) x.watched;
 }
 
 -- of a server that has another time in office
@@ -109,7 +110,7 @@ same_applied servers i o j =
     at_item (λ (x : Server). x.applied ≡ (server_of servers j).applied) no_server servers i (record (server_of servers i) { office = o }) j
     (λ e. ap (λ k. (server_of servers k).applied) (sym e)) refl
 
-pub all_officed : (w : World) (servers : List Server) (i : ℕ) (o : Office) (n : ℕ) (held : List Pending) → Each (IsHeld w servers n) held → Each (IsHeld w (set_server servers i (record (server_of servers i) { office = o })) n) held
-all_officed w servers i o n held all =
+pub all_officed : (wt : Watching) (w : World) (servers : List Server) (i : ℕ) (o : Office) (n : ℕ) (held : List Pending) → Each (IsHeld wt w servers n) held → Each (IsHeld wt w (set_server servers i (record (server_of servers i) { office = o })) n) held
+all_officed wt w servers i o n held all =
     let others = set_server servers i (record (server_of servers i) { office = o }) in
-    each_map (IsHeld w servers n) (IsHeld w others n) (λ h x. held_same w servers others n h (same_applied servers i o h.server) x) held all
+    each_map (IsHeld wt w servers n) (IsHeld wt w others n) (λ h x. held_same wt w servers others n h (same_applied servers i o h.server) x) held all

@@ -1,11 +1,15 @@
 -- What is due first is due.
-use Rattle.std.proofs.Common.{◌≡◌, inl, inr, ℕ, ◌<◌, List, [], ◌∷◌, ◌++◌, length, map, Option, Some, None, Result, Ok, Err, refl, sym, ap, ◌∙◌, subst, arith}
-use Rattle.std.specs.Prelude.{OnOk}
+use Rattle.std.proofs.Common.{◌≡◌, inl, inr, ℕ, ◌<◌, Bool, true, false, cond, List, [], ◌∷◌, ◌++◌, length, map, Option, Some, None, Result, Ok, Err, refl, sym, ap, ◌∙◌, subst, arith}
+use Rattle.std.specs.Prelude.{OnOk, ◌==◌, ◌&&◌, ◌||◌, is_some, nat_le, nat_lt, not}
 use Rattle.cat_model.specs.declared.reply.Kind.{Kind}
-use Rattle.std.specs.List.{AllByRecursion as Each, find}
+use Rattle.cat_model.specs.declared.reply.Kind.TheVariants.{At, Refused}
+use Rattle.cat_model.specs.declared.reply.Refusal.TheVariants as refusal
+use Rattle.cat_model.specs.Indexes.{index_of}
+use Rattle.cat_model.specs.Log.{commands_of}
+use Rattle.std.specs.List.{AllByRecursion as Each}
 use Rattle.raft_model.specs.World.{World}
-use Rattle.cluster_rules.specs.Cluster.{Pending, Cluster, ForIndex, Server, Stand, applied_of, contact_of, knows, node_of, server_of}
-use Rattle.cluster_rules.specs.Due.{Work, Replies, Holds, Closes, Applies, answered, applies, did, due, early_work, first_work, late_work, next_work, or_work, with_held, IsDue, early, next_one, late}
+use Rattle.cluster_rules.specs.Cluster.{AtPlace, Cluster, Ended, ForIndex, InRound, Pending, Server, Stand, applied_of, clock_of, contact_of, knows, node_of, server_of}
+use Rattle.cluster_rules.specs.Due.{Work, Replies, Holds, Closes, Applies, answered, applies, asks_read, did, early_stand, early_work, first_work, is_ended, landed, waiting, with_held, IsDue, early, next_one, late}
 use Rattle.cluster_rules.specs.Replies.{Question, shown}
 use Rattle.cluster_rules.specs.Sound.{Ascends, IsAmong}
 use Rattle.cluster_rules.proofs.Cases.{Leaves, due_cases}
@@ -18,43 +22,87 @@ use Rattle.open_requests.proofs.Lifting.{restands_by}
 use Rattle.cluster.specs.declared.work.Work as own
 use Rattle.cluster.specs.declared.work.Work.TheVariants.{Answer, Hold, Close, Apply}
 use Rattle.cluster.specs.Looking.{is_early}
-use Rattle.cluster.specs.Standing.{IsHeld, IsLookedFor, IsNotThere, Stands}
-use Rattle.cluster.specs.Working.{IsWork, closed}
+use Rattle.cluster.specs.Standing as standing
+use Rattle.cluster.specs.Standing.{IsWatched}
+use Rattle.cluster.proofs.Finding.{early_is}
+use Rattle.cluster.proofs.Watched.{rests_as}
+use Rattle.cluster_rules.proofs.Steps.{or_left, or_right}
+use Rattle.cat_model.specs.declared.request.Asked.{Asked}
+use Rattle.cat_model.specs.declared.request.Asked.TheVariants.{Good, Bad}
+use Rattle.cat_model.specs.declared.request.Request.TheVariants.{Read, Execute, Write, Renew, Agent as AsksAgent}
+use Rattle.raft_model.specs.declared.message.Round.{Round}
+use Rattle.cluster.specs.Working.{DidDue, IsWork, closed}
 use Rattle.agent_rules.specs.Agents.{Agent}
+use Rattle.cluster.specs.Watching.{MayBeDue, Watching}
 
-module _ (gs : List Agent) where
+module _ (gs : List Agent) (wt : Watching) where
   -- the cluster of these parts, with these agents
   abbrev cluster_of : World → List Server → Requests → Cluster
   cluster_of w servers r = whole_of w servers gs r
 
-  some_is : {A : Type 0} (x y : A) → Some x ≡ Some y → x ≡ y
-  some_is x y e = cc e
+  abbrev Stands : World → List Server → Requests → Type 0
+  Stands w servers r = standing.Stands wt w servers r
 
-  -- the first work of a list is one of its requests'
-  record IsFirst (f : Pending → Option Work) (hs : List Pending) (w : Work) : Type 0 where
-    before : List Pending
-    after : List Pending
-    held : Pending
-    there : hs ≡ before ++ held ∷ after
-    gives : f held ≡ Some w
+  abbrev IsHeld : World → List Server → ℕ → Pending → Type 0
+  IsHeld w servers asked h = standing.IsHeld wt w servers asked h
 
-  first_from : (f : Pending → Option Work) (h : Pending) (hs : List Pending) (w : Work) → (first_work f hs ≡ Some w → IsFirst f hs w) → (x : Option Work) → f h ≡ x → or_work x (first_work f hs) ≡ Some w → IsFirst f (h ∷ hs) w
-  first_from f h hs w rest None is e = let r = rest e in record { before = h ∷ r.before; after = r.after; held = r.held; there = ap (λ l. h ∷ l) r.there; gives = r.gives }
-  first_from f h hs w rest (Some v) is e = record { before = []; after = hs; held = h; there = refl; gives = is ∙ e }
+  -- A position is applied only where no held request has something due before.
+  applies_not : Option Work → Bool
+  applies_not None = true
+  applies_not (Some (Replies q kind)) = true
+  applies_not (Some (Holds h)) = true
+  applies_not (Some (Closes number event)) = true
+  applies_not (Some Applies) = false
 
-  first_is : (f : Pending → Option Work) (hs : List Pending) (w : Work) → first_work f hs ≡ Some w → IsFirst f hs w
-  first_is f [] w e = absurd (cc e)
-  first_is f (h ∷ hs) w e = first_from f h hs w (λ d. first_is f hs w d) (f h) refl e
+  either_not : (b : Bool) (x y : Option Work) → applies_not x ≡ true → applies_not y ≡ true → applies_not (cond b x y) ≡ true
+  either_not true x y p q = p
+  either_not false x y p q = q
 
-  pub due_is : (i : ℕ) (c : Cluster) (w : Work) → due i c ≡ Some w → IsDue i c w
-  due_is i c w e = go (first_work (early_work c i) c.held) refl e where
-    last : (x : Option Work) → next_work c i ≡ x → first_work (early_work c i) c.held ≡ None → or_work x (first_work (late_work c i) c.held) ≡ Some w → IsDue i c w
-    last None is none e = let r = first_is (late_work c i) c.held w e in late none is r.before r.after r.held r.there r.gives
-    last (Some v) is none e = next_one none (is ∙ e)
+  read_not : (c : Cluster) (i : ℕ) (h : Pending) (others deadline : ℕ) (looked : Bool) (asked : Asked) → applies_not (asks_read h others (clock_of c.world i) (applied_of c i) deadline looked asked) ≡ true
+  unfolding applies_not
+  read_not c i h others deadline looked (Good (Read query mode least wait raw)) =
+      let index = index_of query (commands_of (applied_of c i)) in
+      let clock = clock_of c.world i in
+      let answers : Option Work = Some (Replies h.question (At mode (length (applied_of c i)) index clock deadline)) in
+      let refuses : Option Work = Some (Replies h.question (Refused (refusal.TooMany others))) in
+      let holds : Option Work = Some (Holds (record h { stand = ForIndex deadline true })) in
+      either_not (nat_lt least index || nat_le deadline clock) answers (cond looked None (cond (nat_le 4096 others) refuses holds)) refl
+      (either_not looked None (cond (nat_le 4096 others) refuses holds) refl (either_not (nat_le 4096 others) refuses holds refl refl))
+  read_not c i h others deadline looked (Good (Execute name limit mode)) = refl
+  read_not c i h others deadline looked (Good (Write command)) = refl
+  read_not c i h others deadline looked (Good (Renew id)) = refl
+  read_not c i h others deadline looked (Good (AsksAgent op)) = refl
+  read_not c i h others deadline looked (Bad why) = refl
 
-    go : (x : Option Work) → first_work (early_work c i) c.held ≡ x → or_work x (or_work (next_work c i) (first_work (late_work c i) c.held)) ≡ Some w → IsDue i c w
-    go None is e = last (next_work c i) refl is e
-    go (Some v) is e = let r = first_is (early_work c i) c.held w (is ∙ e) in early r.before r.after r.held r.there r.gives
+  stand_not : (c : Cluster) (i : ℕ) (h : Pending) (s : Stand) → applies_not (early_stand c i h s) ≡ true
+  unfolding applies_not
+  stand_not c i h (Ended event) = refl
+  stand_not c i h (AtPlace index term) = either_not (nat_le index (length (applied_of c i))) (Some (Replies h.question (landed index term (applied_of c i)))) None refl refl
+  stand_not c i h (InRound round deadline) = either_not (nat_lt round.term (node_of c.world i).term) (Some (Replies h.question (Refused (refusal.Lost round.term (node_of c.world i).term)))) None refl refl
+  stand_not c i h (ForIndex deadline looked) = read_not c i h (waiting i c.held) deadline looked h.question.asked
+
+  early_not : (c : Cluster) (i : ℕ) (h : Pending) → applies_not (early_work c i h) ≡ true
+  unfolding applies_not
+  early_not c i h =
+      let halts : Option Work = Some (Replies h.question (Refused (refusal.Halted i))) in
+      let down = (node_of c.world i).halted && not (is_ended h.stand) in
+      either_not (h.server == i) (cond down halts (early_stand c i h h.stand)) None (either_not down halts (early_stand c i h h.stand) refl (stand_not c i h h.stand)) refl
+
+  no_early : (c : Cluster) (i : ℕ) (h : Pending) → early_work c i h ≡ Some Applies → ⊥
+  unfolding applies_not
+  no_early c i h e = cc (ap applies_not e, early_not c i h)
+
+  applies_alone : (c : Cluster) (i : ℕ) → IsDue i c Applies → first_work (early_work c i) c.held ≡ None
+  applies_alone c i (early before after h there e) = absurd (no_early c i h e)
+  applies_alone c i (next_one none e) = none
+  applies_alone c i (late none next before after h there e) = none
+
+  none_test : (c : Cluster) (i : ℕ) (held : List Pending) → first_work (early_work c i) held ≡ None → Each (λ (h : Pending). is_early c i h ≡ false) held
+  none_test c i [] e = tt
+  none_test c i (h ∷ held) e = (early_is gs wt c i h ∙ ap is_some (or_left (early_work c i h) (first_work (early_work c i) held) e), none_test c i held (or_right (early_work c i h) (first_work (early_work c i) held) e))
+
+  pub none_before : (c : Cluster) (i : ℕ) → IsDue i c Applies → Each (λ (h : Pending). is_early c i h ≡ false) c.held
+  none_before c i d = none_test c i c.held (applies_alone c i d)
 
   -- only the next position is applied
   abbrev AppliesNext : Cluster → ℕ → Work → Type 0
@@ -69,7 +117,7 @@ module _ (gs : List Agent) where
     rises = λ _ _ _ _. tt;
     answers = λ _ _ _ _ _ _ _ _ _ _. tt;
     refuses = λ _ _ _ _ _ _ _ _ _ _ _. tt;
-    sees = λ _ _ _ _ _ _ _ _ _ _ _. tt;
+    sees = λ _ _ _ _ _ _ _ _ _. tt;
     runs = λ _ _ _ _ _ _ _. tt;
     turns = λ _ _ _ _ _ _. tt;
   }
@@ -78,33 +126,21 @@ module _ (gs : List Agent) where
   all_held [] = tt
   all_held (h ∷ hs) = (tt, all_held hs)
 
-  applies_next : (c : Cluster) (i : ℕ) → due i c ≡ Some Applies → length (applied_of c i) < (node_of c.world i).commit
-  applies_next c i e = due_cases c i (AppliesNext c i) (λ h. Unit {0}) (all_held c.held) (λ h _ _. anything c i h) (λ l. l) Applies (due_is i c Applies e)
+  pub applies_next : (c : Cluster) (i : ℕ) → IsDue i c Applies → length (applied_of c i) < (node_of c.world i).commit
+  applies_next c i d = due_cases c i (AppliesNext c i) (λ h. Unit {0}) (all_held c.held) (λ h _ _. anything c i h) (λ l. l) Applies d
 
-  -- the work that was found is what is due
+  -- the work that was found is due
   abbrev Found : Cluster → ℕ → own.Work → Type 0
-  Found c i work = (w : Work) × (due i c ≡ Some w) × IsWork c i work w
+  Found c i work = (w : Work) × IsDue i c w × IsWork c i work w
 
-  apply_is : (c : Cluster) (i : ℕ) (w : Work) → IsWork c i Apply w → w ≡ Applies
-  apply_is c i Applies f = refl
-  apply_is c i (Replies q kind) f = absurd f
-  apply_is c i (Holds h) f = absurd f
-  apply_is c i (Closes number event) f = absurd f
+  apply_by : (c : Cluster) (i : ℕ) (w : Work) → IsWork c i Apply w → IsDue i c w → IsDue i c Applies
+  apply_by c i Applies f d = d
+  apply_by c i (Replies q kind) f d = absurd f
+  apply_by c i (Holds h) f d = absurd f
+  apply_by c i (Closes number event) f d = absurd f
 
-  apply_none : (c : Cluster) (i : ℕ) (w : Work) → IsWork c i Apply w → find (is_early c i) c.held ≡ None
-  apply_none c i Applies f = f
-  apply_none c i (Replies q kind) f = absurd f
-  apply_none c i (Holds h) f = absurd f
-  apply_none c i (Closes number event) f = absurd f
-
-  -- where a position is to be applied, more is committed, and nothing is due before
-  pub next_due : (c : Cluster) (i : ℕ) (work : own.Work) → Found c i work → work ≡ Apply → length (applied_of c i) < (node_of c.world i).commit
-  next_due c i work found is =
-      let a = apply_is c i found.0 (subst (λ x. IsWork c i x found.0) is found.2) in
-      applies_next c i (found.1 ∙ ap Some a)
-
-  pub none_due : (c : Cluster) (i : ℕ) (work : own.Work) → Found c i work → work ≡ Apply → find (is_early c i) c.held ≡ None
-  none_due c i work found is = apply_none c i found.0 (subst (λ x. IsWork c i x found.0) is found.2)
+  pub apply_due : (c : Cluster) (i : ℕ) (work : own.Work) → Found c i work → work ≡ Apply → IsDue i c Applies
+  apply_due c i work found is = apply_by c i found.0 (subst (λ x. IsWork c i x found.0) is found.2) found.1
 
   -- A request that is held on is one that was held, with another stand.
   record HoldsOn (c : Cluster) (h : Pending) : Type 0 where
@@ -120,13 +156,30 @@ module _ (gs : List Agent) where
   abbrev IsHeldThere : Cluster → Pending → Type 0
   IsHeldThere c h = IsAmong h c.held × IsHeld c.world c.servers c.asked h
 
-  held_for : (c : Cluster) (h : Pending) (deadline : ℕ) (seen : Option ℕ) → IsHeldThere c h → IsLookedFor (server_of c.servers h.server).applied h.question.asked (ForIndex deadline seen) → HoldsOn c (record h { stand = ForIndex deadline seen })
-  held_for c h deadline seen x l = record {
+  -- of a request that waits for nothing that can sleep, something may be due
+  awake_by : (c : Cluster) (h : Pending) → ((deadline : ℕ) → h.stand ≡ ForIndex deadline true → ⊥) → IsWatched wt (server_of c.servers h.server).applied h → MayBeDue h.question.number wt
+  awake_by c h never (inl awake) = awake
+  awake_by c h never (inr rests) = let r = rests_as wt (server_of c.servers h.server).applied h.server h.question.number h.question.asked h.stand rests in absurd (never r.deadline r.stand_is)
+
+  held_for : (c : Cluster) (h : Pending) (deadline : ℕ) (looked : Bool) → IsHeldThere c h → ((until : ℕ) → h.stand ≡ ForIndex until true → ⊥) → HoldsOn c (record h { stand = ForIndex deadline looked })
+  held_for c h deadline looked x never = record {
     from = h;
     among = x.0;
     is = refl;
-    held = record { numbered = x.1.numbered; taken = x.1.taken; awaited = tt; looked = l };
+    held = record { numbered = x.1.numbered; taken = x.1.taken; awaited = tt; watched = inl (awake_by c h never x.1.watched) };
   }
+
+  is_looked : Stand → Bool
+  is_looked (ForIndex deadline looked) = looked
+  is_looked other = false
+
+  new_not : (s : Stand) (deadline : ℕ) → s ≡ ForIndex deadline false → (until : ℕ) → s ≡ ForIndex until true → ⊥
+  unfolding is_looked
+  new_not s deadline st until e = cc (ap is_looked st, ap is_looked e)
+
+  round_not : (s : Stand) (round : Round) (deadline : ℕ) → s ≡ InRound round deadline → (until : ℕ) → s ≡ ForIndex until true → ⊥
+  unfolding is_looked
+  round_not s round deadline st until e = cc (ap is_looked st, ap is_looked e)
 
   leaves_right : (c : Cluster) (i : ℕ) (h : Pending) → IsHeldThere c h → h.server ≡ i → Leaves c i (HoldsRight c) h
   leaves_right c i h x here = record {
@@ -136,21 +189,19 @@ module _ (gs : List Agent) where
     rises = λ _ _ _ _. tt;
     answers = λ _ _ _ _ _ _ _ _ _ _. tt;
     refuses = λ _ _ _ _ _ _ _ _ _ _ _. tt;
-    sees = λ deadline seen query mode least wait raw st ask low was. held_for c h deadline (Some (length (applied_of c i))) x
-        (subst (λ k. IsLookedFor (applied_of c k) h.question.asked (ForIndex deadline (Some (length (applied_of c i))))) (sym here)
-        (omega arith, λ _. subst (IsNotThere (applied_of c i)) (sym ask) low));
+    sees = λ deadline query mode least wait raw st ask low. held_for c h deadline true x (new_not h.stand deadline st);
     runs = λ _ _ _ _ _ _ _. tt;
-    turns = λ round deadline st up confirmed reached. held_for c h deadline None x tt;
+    turns = λ round deadline st up confirmed reached. held_for c h deadline false x (round_not h.stand round deadline st);
   }
 
   all_there : (c : Cluster) (held : List Pending) → ((h : Pending) → IsAmong h held → IsAmong h c.held) → Each (IsHeld c.world c.servers c.asked) held → Each (IsHeldThere c) held
   all_there c [] among all = tt
   all_there c (h ∷ held) among all = ((among h (inl refl), all.0), all_there c held (λ g a. among g (inr a)) all.1)
 
-  holds_on : (c : Cluster) (i : ℕ) (h : Pending) → Each (IsHeld c.world c.servers c.asked) c.held → due i c ≡ Some (Holds h) → HoldsOn c h
-  holds_on c i h all e = due_cases c i (HoldsRight c) (IsHeldThere c) (all_there c c.held (λ _ a. a) all) (leaves_right c i) (λ _. tt) (Holds h) (due_is i c (Holds h) e)
+  holds_on : (c : Cluster) (i : ℕ) (h : Pending) → Each (IsHeld c.world c.servers c.asked) c.held → IsDue i c (Holds h) → HoldsOn c h
+  holds_on c i h all d = due_cases c i (HoldsRight c) (IsHeldThere c) (all_there c c.held (λ _ a. a) all) (leaves_right c i) (λ _. tt) (Holds h) d
 
-  module _ (w : World) (servers : List Server) (r : Requests) (s : Stands w servers r) (i : ℕ) (h : Pending) (due_now : due i (cluster_of w servers r) ≡ Some (Holds h)) (number : ℕ) (stand : Stand) (n : number ≡ h.question.number) (same : stand ≡ h.stand) where
+  module _ (w : World) (servers : List Server) (r : Requests) (s : Stands w servers r) (i : ℕ) (h : Pending) (due_now : IsDue i (cluster_of w servers r) (Holds h)) (number : ℕ) (stand : Stand) (n : number ≡ h.question.number) (same : stand ≡ h.stand) where
     on : HoldsOn (cluster_of w servers r) h
     on = holds_on (cluster_of w servers r) i h s.held due_now
 
@@ -165,6 +216,7 @@ module _ (gs : List Agent) where
       reached = s.reached;
       some = s.some;
       count = s.count;
+      watching = s.watching;
       sound = s.sound;
       joined = s.joined;
       proposed = s.proposed;
@@ -173,20 +225,16 @@ module _ (gs : List Agent) where
     }
 
   pub restand_stands : (w : World) (servers : List Server) (r new : Requests) (c : Cluster) (number : ℕ) (stand : Stand) → Stands w servers r → cluster_of w servers r ≡ c
-      → (i : ℕ) (h : Pending) → due i c ≡ Some (Holds h) → number ≡ h.question.number → stand ≡ h.stand → new ≡ record r { held = map (restood number stand) r.held } → Stands w servers new
+      → (i : ℕ) (h : Pending) → IsDue i c (Holds h) → number ≡ h.question.number → stand ≡ h.stand → new ≡ record r { held = map (restood number stand) r.held } → Stands w servers new
   restand_stands w servers r new c number stand s view i h e n same is =
-      subst (Stands w servers) (sym is) (restood_stands w servers r s i h (subst (λ (d : Cluster). due i d ≡ Some (Holds h)) (sym view) e) number stand n same)
+      subst (Stands w servers) (sym is) (restood_stands w servers r s i h (subst (λ (d : Cluster). IsDue i d (Holds h)) (sym view) e) number stand n same)
 
   pub restand_is : (w : World) (servers : List Server) (r new : Requests) (c : Cluster) (number : ℕ) (stand : Stand) → Stands w servers r → cluster_of w servers r ≡ c → new ≡ record r { held = map (restood number stand) r.held }
-      → (i : ℕ) (h : Pending) → due i c ≡ Some (Holds h) → number ≡ h.question.number → stand ≡ h.stand → cluster_of w servers new ≡ record c { held = with_held h c.held }
+      → (i : ℕ) (h : Pending) → IsDue i c (Holds h) → number ≡ h.question.number → stand ≡ h.stand → cluster_of w servers new ≡ record c { held = with_held h c.held }
   restand_is w servers r new c number stand s view is i h e n same =
       ap (cluster_of w servers) is
-      ∙ ap (λ (l : List Pending). cluster_of w servers (record r { held = l })) (restood_is w servers r s i h (subst (λ (d : Cluster). due i d ≡ Some (Holds h)) (sym view) e) number stand n same)
+      ∙ ap (λ (l : List Pending). cluster_of w servers (record r { held = l })) (restood_is w servers r s i h (subst (λ (d : Cluster). IsDue i d (Holds h)) (sym view) e) number stand n same)
       ∙ ap (λ (d : Cluster). record d { held = with_held h d.held }) view
-
-  -- whatever is due then is what was found
-  same_due : (c : Cluster) (i : ℕ) (work : own.Work) (found : Found c i work) (w : Work) → due i c ≡ Some w → IsWork c i work w
-  same_due c i work found w e = subst (λ x. IsWork c i work x) (some_is found.0 w (sym found.1 ∙ e)) found.2
 
   -- what each of them did
   abbrev AnswerDone : Cluster → Cluster → ℕ → ℕ → Kind → Content → Type 0
@@ -202,8 +250,8 @@ module _ (gs : List Agent) where
   answer_of c new i number kind content done (Closes n event) f = absurd f
   answer_of c new i number kind content done Applies f = absurd f
 
-  hold_of : (c new : Cluster) (i number : ℕ) (stand : own_stand.Stand) → ((h : Pending) → due i c ≡ Some (Holds h) → number ≡ h.question.number → stand_of stand ≡ h.stand → new ≡ record c { held = with_held h c.held })
-      → (w : Work) → due i c ≡ Some w → IsWork c i (Hold number stand) w → new ≡ did i w c
+  hold_of : (c new : Cluster) (i number : ℕ) (stand : own_stand.Stand) → ((h : Pending) → IsDue i c (Holds h) → number ≡ h.question.number → stand_of stand ≡ h.stand → new ≡ record c { held = with_held h c.held })
+      → (w : Work) → IsDue i c w → IsWork c i (Hold number stand) w → new ≡ did i w c
   unfolding did
   hold_of c new i number stand done (Holds h) e f = done h e f.0 f.1
   hold_of c new i number stand done (Replies q k) e f = absurd f
@@ -224,34 +272,34 @@ module _ (gs : List Agent) where
   apply_of c new i done (Holds h) f = absurd f
   apply_of c new i done (Closes n m) f = absurd f
 
-  does : (c new : Cluster) (i : ℕ) (work known : own.Work) → Found c i work → work ≡ known → ((w : Work) → IsWork c i known w → new ≡ did i w c) → (w : Work) → due i c ≡ Some w → new ≡ did i w c
-  does c new i work known found is done w e = done w (subst (λ x. IsWork c i x w) is (same_due c i work found w e))
+  does : (c new : Cluster) (i : ℕ) (work known : own.Work) → Found c i work → work ≡ known → ((w : Work) → IsDue i c w → IsWork c i known w → new ≡ did i w c) → DidDue i c new
+  does c new i work known found is done = (found.0, found.1, done found.0 found.1 (subst (λ x. IsWork c i x found.0) is found.2))
 
   pub answer_done : {A B : Type 0} (c new : Cluster) (i : ℕ) (work : own.Work) (number : ℕ) (kind : Kind) (content : Content) (result : Result A B) → Found c i work → work ≡ Answer number kind content
-      → OnOk result (AnswerDone c new i number kind content) → OnOk result ((w : Work) → due i c ≡ Some w → new ≡ did i w c)
+      → OnOk result (AnswerDone c new i number kind content) → OnOk result (DidDue i c new)
   answer_done c new i work number kind content (Err b) found is done = tt
-  answer_done c new i work number kind content (Ok a) found is done = does c new i work (Answer number kind content) found is (answer_of c new i number kind content done)
+  answer_done c new i work number kind content (Ok a) found is done = does c new i work (Answer number kind content) found is (λ w _. answer_of c new i number kind content done w)
 
   -- the work that is to hold a request on is due
-  hold_by : (c : Cluster) (i number : ℕ) (stand : own_stand.Stand) (w : Work) → due i c ≡ Some w → IsWork c i (Hold number stand) w → (k : ℕ) × (h : Pending) × (due k c ≡ Some (Holds h)) × (number ≡ h.question.number) × (stand_of stand ≡ h.stand)
+  hold_by : (c : Cluster) (i number : ℕ) (stand : own_stand.Stand) (w : Work) → IsDue i c w → IsWork c i (Hold number stand) w → (k : ℕ) × (h : Pending) × IsDue k c (Holds h) × (number ≡ h.question.number) × (stand_of stand ≡ h.stand)
   hold_by c i number stand (Holds h) e f = (i, h, e, f.0, f.1)
   hold_by c i number stand (Replies q k) e f = absurd f
   hold_by c i number stand (Closes n m) e f = absurd f
   hold_by c i number stand Applies e f = absurd f
 
-  pub hold_due : (c : Cluster) (i : ℕ) (work : own.Work) (number : ℕ) (stand : own_stand.Stand) → Found c i work → work ≡ Hold number stand → (k : ℕ) × (h : Pending) × (due k c ≡ Some (Holds h)) × (number ≡ h.question.number) × (stand_of stand ≡ h.stand)
+  pub hold_due : (c : Cluster) (i : ℕ) (work : own.Work) (number : ℕ) (stand : own_stand.Stand) → Found c i work → work ≡ Hold number stand → (k : ℕ) × (h : Pending) × IsDue k c (Holds h) × (number ≡ h.question.number) × (stand_of stand ≡ h.stand)
   hold_due c i work number stand found is = hold_by c i number stand found.0 found.1 (subst (λ x. IsWork c i x found.0) is found.2)
 
   pub hold_done : (c new : Cluster) (i : ℕ) (work : own.Work) (number : ℕ) (stand : own_stand.Stand) → Found c i work → work ≡ Hold number stand
-      → ((k : ℕ) (h : Pending) → due k c ≡ Some (Holds h) → number ≡ h.question.number → stand_of stand ≡ h.stand → new ≡ record c { held = with_held h c.held }) → (w : Work) → due i c ≡ Some w → new ≡ did i w c
-  hold_done c new i work number stand found is done w e = hold_of c new i number stand (done i) w e (subst (λ x. IsWork c i x w) is (same_due c i work found w e))
+      → ((k : ℕ) (h : Pending) → IsDue k c (Holds h) → number ≡ h.question.number → stand_of stand ≡ h.stand → new ≡ record c { held = with_held h c.held }) → DidDue i c new
+  hold_done c new i work number stand found is done = does c new i work (Hold number stand) found is (hold_of c new i number stand (done i))
 
   pub close_done : {A B : Type 0} (c new : Cluster) (i : ℕ) (work : own.Work) (number event : ℕ) (result : Result A B) → Found c i work → work ≡ Close number event
-      → OnOk result (new ≡ closed number event c) → OnOk result ((w : Work) → due i c ≡ Some w → new ≡ did i w c)
+      → OnOk result (new ≡ closed number event c) → OnOk result (DidDue i c new)
   close_done c new i work number event (Err b) found is done = tt
-  close_done c new i work number event (Ok a) found is done = does c new i work (Close number event) found is (close_of c new i number event done)
+  close_done c new i work number event (Ok a) found is done = does c new i work (Close number event) found is (λ w _. close_of c new i number event done w)
 
   pub apply_done : {A B : Type 0} (c new : Cluster) (i : ℕ) (work : own.Work) (result : Result A B) → Found c i work → work ≡ Apply
-      → OnOk result (new ≡ applies i c) → OnOk result ((w : Work) → due i c ≡ Some w → new ≡ did i w c)
+      → OnOk result (new ≡ applies i c) → OnOk result (DidDue i c new)
   apply_done c new i work (Err b) found is done = tt
-  apply_done c new i work (Ok a) found is done = does c new i work Apply found is (apply_of c new i done)
+  apply_done c new i work (Ok a) found is done = does c new i work Apply found is (λ w _. apply_of c new i done w)

@@ -1,10 +1,12 @@
 -- What is due at a server.
-use Rattle.std.proofs.Common.{◌≡◌, ◌≢◌, ℕ, ◌≤◌, ◌==◌, ◌&&◌, ◌||◌, nat_le, nat_lt, not, Bool, true, false, cond, if◌then◌else◌, length, take, List, [], ◌∷◌, Option, None, Some, Result, Ok, Err, is_some, refl, sym, ap, ◌∙◌, subst, arith}
+use Rattle.std.proofs.Common.{◌≡◌, ◌≢◌, ◌⊎◌, inl, inr, ℕ, zero, suc, ◌+◌, ◌<◌, ◌≤◌, ◌==◌, ◌&&◌, ◌||◌, nat_le, nat_lt, not, Bool, true, false, cond, if◌then◌else◌, length, take, List, [], ◌∷◌, Option, None, Some, Result, Ok, Err, is_some, refl, sym, ap, ◌∙◌, subst, arith}
 use Rattle.std.proofs.lemmas.Bool.Decides.{nat_tests}
-use Rattle.std.specs.Prelude.{IfOk}
+use Rattle.std.specs.Prelude.{Contains, IfNone, IfOk, IfSome, OnErr, slice_index_or}
 use Rattle.std.specs.List.{AllByRecursion as Each, find}
 use Rattle.cat_model.specs.declared.command.Entry.{Entry}
+use Rattle.cat_model.specs.declared.query.Chan.{Chan}
 use Rattle.cat_model.specs.declared.query.Query.{Query}
+use Rattle.cat_model.specs.Channels.{chans}
 use Rattle.cat_model.specs.declared.request.Mode.{Mode}
 use Rattle.cat_model.specs.declared.request.Asked.{Asked}
 use Rattle.cat_model.specs.declared.request.Asked.TheVariants.{Good, Bad}
@@ -16,29 +18,41 @@ use Rattle.cat_model.specs.Indexes.{index_of}
 use Rattle.cat_model.specs.Log.{commands_of}
 use Rattle.cat_model.specs.Machine.{catalog_at}
 use Rattle.cat_model.specs.Queries.{answer}
-use Rattle.raft_model.proofs.Tests.{eq_tells, le_tells}
+use Rattle.raft_model.proofs.Tests.{at_bool, eq_tells, le_tells}
 use Rattle.raft_model.specs.declared.message.Round.{Round}
 use Rattle.raft_model.specs.World.{World}
 use Rattle.request_rules.specs.Taken.{IsTakenAsked}
-use Rattle.cluster_rules.proofs.Tools.{both}
+use Rattle.cluster_rules.proofs.Tools.{both, get_default}
 use Rattle.cluster_rules.specs.Replies.{Question, Runs, id_in, shown, shown_read, shown_seen}
-use Rattle.cluster_rules.specs.Cluster.{Cluster, Pending, Server, Stand, AtPlace, InRound, ForIndex, Ended, applied_of, clock_of, node_of}
+use Rattle.cluster_rules.specs.Cluster.{Cluster, Pending, Server, Stand, AtPlace, InRound, ForIndex, Ended, applied_of, clock_of, node_of, server_of}
 use Rattle.cluster_rules.specs.Due as rules
-use Rattle.cluster_rules.specs.Due.{asks, asks_read, due, early_stand, early_work, first_work, is_ended, is_new, late_work, next_work, or_work, was_seen}
+use Rattle.cluster_rules.specs.Due.{IsDue, asks, asks_read, due, early, early_stand, early_work, first_work, is_ended, late, late_work, next_one, next_work, or_work}
+use Rattle.cluster_rules.specs.Sound.{Ascends}
+use Rattle.cluster_rules.proofs.Steps.{or_left, or_right}
 use Rattle.open_requests.specs.declared.pending.Stand as own
 use Rattle.open_requests.specs.Contents.{read_content, stand_of as own_stand}
 use Rattle.open_requests.specs.Requests.{Requests, cluster_of as whole_of}
 use Rattle.cluster.specs.declared.work.Work.{Work}
-use Rattle.cluster.specs.declared.work.Work.TheVariants.{Hold}
-use Rattle.cluster.specs.Looking.{is_early, is_late, is_look_due, is_round_over, is_stand_due, is_stand_late, waits_on}
-use Rattle.cluster.specs.Standing.{IsAwaited, IsHeld, IsLookedFor, Stands}
-use Rattle.cluster.specs.Working.{IsFound, IsWork}
+use Rattle.cluster.specs.declared.work.Work.TheVariants.{Apply, Hold}
+use Rattle.cluster.specs.Looking.{is_early, is_late, is_look_due, is_number_early, is_number_late, is_round_over, is_stand_due, is_stand_late, numbered_in, test_held, waits_on}
+use Rattle.cluster.specs.Standing as standing
+use Rattle.cluster.specs.Standing.{IsAwaited, IsWatched}
+use Rattle.cluster.specs.Working.{Finds, IsFound, IsWork}
+use Rattle.cluster.proofs.Numbered.{each_numbered, each_one, one_found}
+use Rattle.cluster.proofs.Watched.{RestsAs, rests_as}
 use Rattle.agent_rules.specs.Agents.{Agent as AgentRows}
+use Rattle.cluster.specs.Watching.{MayBeDue, Sleeps, StayAwake, Watching}
 
-module _ (gs : List AgentRows) where
+module _ (gs : List AgentRows) (wt : Watching) where
   -- the cluster of these parts, with these agents
   abbrev cluster_of : World → List Server → Requests → Cluster
   cluster_of w servers r = whole_of w servers gs r
+
+  abbrev Stands : World → List Server → Requests → Type 0
+  Stands w servers r = standing.Stands wt w servers r
+
+  abbrev IsHeld : World → List Server → ℕ → Pending → Type 0
+  IsHeld w servers asked h = standing.IsHeld wt w servers asked h
 
   clash : {A : Type 0} → true ≡ false → A
   clash e = absurd cc
@@ -61,243 +75,366 @@ module _ (gs : List AgentRows) where
       (ap (λ l. Runs (execution (catalog_at (commands_of l)) (id_in name) name limit)) (sym (taken_whole log)))
 
   -- A query that is looked for, by whether it is answered.
-  pub asks_when : (c : Cluster) (i : ℕ) (h : Pending) (others deadline : ℕ) (seen : Option ℕ) (query : Query) (mode : Mode) (least : ℕ) (b : Bool)
-      → (nat_lt least (index_of query (commands_of (applied_of c i))) || nat_le deadline (clock_of c.world i)) ≡ b
-      → asks h others (clock_of c.world i) (applied_of c i) deadline seen query mode least
-      ≡ cond b (Some (rules.Replies h.question (At mode (length (applied_of c i)) (index_of query (commands_of (applied_of c i))) (clock_of c.world i) deadline)))
-      (cond (was_seen seen (length (applied_of c i))) None (waits_on h others (applied_of c i) deadline seen))
-  asks_when c i h others deadline seen query mode least b e =
-      ap (λ (t : Bool). cond t (Some (rules.Replies h.question (At mode (length (applied_of c i)) (index_of query (commands_of (applied_of c i))) (clock_of c.world i) deadline)))
-      (cond (was_seen seen (length (applied_of c i))) None (waits_on h others (applied_of c i) deadline seen))) e
+  abbrev is_over : Cluster → ℕ → Query → ℕ → ℕ → Bool
+  is_over c i query least deadline = nat_lt least (index_of query (commands_of (applied_of c i))) || nat_le deadline (clock_of c.world i)
 
-  pub look_answers : {B : Type 0} (c : Cluster) (i : ℕ) (h : Pending) (others deadline : ℕ) (seen : Option ℕ) (query : Query) (mode : Mode) (least : ℕ) (result : Result Work B)
-      → (nat_lt least (index_of query (commands_of (applied_of c i))) || nat_le deadline (clock_of c.world i)) ≡ true
-      → IfOk result (λ work. IsWork c i work (rules.Replies h.question (At mode (length (applied_of c i)) (index_of query (commands_of (applied_of c i))) (clock_of c.world i) deadline)))
-      → IfOk result (λ work. IsFound c i (asks h others (clock_of c.world i) (applied_of c i) deadline seen query mode least) (Some work))
-  look_answers c i h others deadline seen query mode least (Ok work) e w = subst (λ (o : Option rules.Work). IsFound c i o (Some work)) (sym (asks_when c i h others deadline seen query mode least true e)) w
-  look_answers c i h others deadline seen query mode least (Err why) e w = tt
+  abbrev answers_now : Cluster → ℕ → Pending → Query → Mode → ℕ → rules.Work
+  answers_now c i h query mode deadline = rules.Replies h.question (At mode (length (applied_of c i)) (index_of query (commands_of (applied_of c i))) (clock_of c.world i) deadline)
+
+  pub asks_when : (c : Cluster) (i : ℕ) (h : Pending) (others deadline : ℕ) (looked : Bool) (query : Query) (mode : Mode) (least : ℕ) (b : Bool) → is_over c i query least deadline ≡ b
+      → asks h others (clock_of c.world i) (applied_of c i) deadline looked query mode least ≡ cond b (Some (answers_now c i h query mode deadline)) (cond looked None (waits_on h others deadline))
+  asks_when c i h others deadline looked query mode least b e = ap (λ (t : Bool). cond t (Some (answers_now c i h query mode deadline)) (cond looked None (waits_on h others deadline))) e
+
+  pub look_answers : {B : Type 0} (c : Cluster) (i : ℕ) (h : Pending) (others deadline : ℕ) (looked : Bool) (query : Query) (mode : Mode) (least : ℕ) (result : Result Work B) → is_over c i query least deadline ≡ true
+      → IfOk result (λ work. IsWork c i work (answers_now c i h query mode deadline))
+      → IfOk result (λ work. IsFound c i (asks h others (clock_of c.world i) (applied_of c i) deadline looked query mode least) (Some work))
+  look_answers c i h others deadline looked query mode least (Ok work) e w = subst (λ (o : Option rules.Work). IsFound c i o (Some work)) (sym (asks_when c i h others deadline looked query mode least true e)) w
+  look_answers c i h others deadline looked query mode least (Err why) e w = tt
 
   waits_by : (c : Cluster) (i : ℕ) (was : Bool) (rest : Option rules.Work) (work : Work) → is_some (cond was None rest) ≡ true → IsFound c i rest (Some work) → IsFound c i (cond was None rest) (Some work)
   waits_by c i true rest work d w = clash (sym d)
   waits_by c i false rest work d w = w
 
-  pub look_waits : {B : Type 0} (c : Cluster) (i : ℕ) (h : Pending) (others deadline : ℕ) (seen : Option ℕ) (query : Query) (mode : Mode) (least : ℕ) (result : Result Work B)
-      → (nat_lt least (index_of query (commands_of (applied_of c i))) || nat_le deadline (clock_of c.world i)) ≡ false
-      → is_some (asks h others (clock_of c.world i) (applied_of c i) deadline seen query mode least) ≡ true
-      → IfOk result (λ work. IsFound c i (waits_on h others (applied_of c i) deadline seen) (Some work))
-      → IfOk result (λ work. IsFound c i (asks h others (clock_of c.world i) (applied_of c i) deadline seen query mode least) (Some work))
-  look_waits c i h others deadline seen query mode least (Ok work) e d w =
-      let is = asks_when c i h others deadline seen query mode least false e in
+  pub look_waits : {B : Type 0} (c : Cluster) (i : ℕ) (h : Pending) (others deadline : ℕ) (looked : Bool) (query : Query) (mode : Mode) (least : ℕ) (result : Result Work B) → is_over c i query least deadline ≡ false
+      → is_some (asks h others (clock_of c.world i) (applied_of c i) deadline looked query mode least) ≡ true
+      → IfOk result (λ work. IsFound c i (waits_on h others deadline) (Some work))
+      → IfOk result (λ work. IsFound c i (asks h others (clock_of c.world i) (applied_of c i) deadline looked query mode least) (Some work))
+  look_waits c i h others deadline looked query mode least (Ok work) e d w =
+      let is = asks_when c i h others deadline looked query mode least false e in
       subst (λ (o : Option rules.Work). IsFound c i o (Some work)) (sym is)
-      (waits_by c i (was_seen seen (length (applied_of c i))) (waits_on h others (applied_of c i) deadline seen) work (subst (λ (o : Option rules.Work). is_some o ≡ true) is d) w)
-  look_waits c i h others deadline seen query mode least (Err why) e d w = tt
+      (waits_by c i looked (waits_on h others deadline) work (subst (λ (o : Option rules.Work). is_some o ≡ true) is d) w)
+  look_waits c i h others deadline looked query mode least (Err why) e d w = tt
 
   -- Which held requests have something due.
-  -- Where it was seen at just what is applied, its index is not above the one given.
-  asks_some : (above over was full : Bool) (x y z : rules.Work) → (was ≡ true → above ≡ false) → (over || not was) ≡ is_some (cond (above || over) (Some x) (cond was None (cond full (Some y) (Some z))))
-  asks_some true true was full x y z f = refl
-  asks_some true false true full x y z f = clash (f refl)
-  asks_some true false false full x y z f = refl
-  asks_some false true was full x y z f = refl
-  asks_some false false true full x y z f = refl
-  asks_some false false false true x y z f = refl
-  asks_some false false false false x y z f = refl
+  asks_some : (above over looked full : Bool) (x y z : rules.Work) → (not looked || (over || above)) ≡ is_some (cond (above || over) (Some x) (cond looked None (cond full (Some y) (Some z))))
+  asks_some true true true full x y z = refl
+  asks_some true true false full x y z = refl
+  asks_some true false true full x y z = refl
+  asks_some true false false full x y z = refl
+  asks_some false true true full x y z = refl
+  asks_some false true false full x y z = refl
+  asks_some false false true full x y z = refl
+  asks_some false false false true x y z = refl
+  asks_some false false false false x y z = refl
+
+  read_due : (c : Cluster) (i : ℕ) (h : Pending) (others deadline : ℕ) (looked : Bool) (asked : Asked)
+      → is_look_due c i deadline looked asked ≡ is_some (asks_read h others (clock_of c.world i) (applied_of c i) deadline looked asked)
+  read_due c i h others deadline looked (Good (Read query mode least wait raw)) =
+      asks_some (nat_lt least (index_of query (commands_of (applied_of c i)))) (nat_le deadline (clock_of c.world i)) looked (nat_le 4096 others)
+      (answers_now c i h query mode deadline)
+      (rules.Replies h.question (Refused (refusal.TooMany others)))
+      (rules.Holds (record h { stand = ForIndex deadline true }))
+  read_due c i h others deadline looked (Good (Execute name limit mode)) = refl
+  read_due c i h others deadline looked (Good (Write command)) = refl
+  read_due c i h others deadline looked (Good (Renew id)) = refl
+  read_due c i h others deadline looked (Good (Agent op)) = refl
+  read_due c i h others deadline looked (Bad why) = refl
 
   not_above : (least index : ℕ) → index ≤ least → nat_lt least index ≡ false
   not_above least index l = grind (arith, nat_tests)
 
-  not_there : (applied : List Entry) (deadline : ℕ) (seen : Option ℕ) (query : Query) (mode : Mode) (least wait : ℕ) (raw : Bool) → IsLookedFor applied (Good (Read query mode least wait raw)) (ForIndex deadline seen)
-      → was_seen seen (length applied) ≡ true → nat_lt least (index_of query (commands_of applied)) ≡ false
-  not_there applied deadline None query mode least wait raw l e = clash (sym e)
-  not_there applied deadline (Some n) query mode least wait raw l e = not_above least (index_of query (commands_of applied)) (l.1 (eq_tells n (length applied) e))
-
-  read_due : (c : Cluster) (i : ℕ) (h : Pending) (others deadline : ℕ) (seen : Option ℕ) (asked : Asked) → IsTakenAsked asked → IsLookedFor (applied_of c i) asked (ForIndex deadline seen)
-      → is_look_due c i deadline seen asked ≡ is_some (asks_read h others (clock_of c.world i) (applied_of c i) deadline seen asked)
-  read_due c i h others deadline seen (Good (Read query mode least wait raw)) t l =
-      asks_some (nat_lt least (index_of query (commands_of (applied_of c i)))) (nat_le deadline (clock_of c.world i)) (was_seen seen (length (applied_of c i))) (is_new seen && nat_le 4096 others)
-      (rules.Replies h.question (At mode (length (applied_of c i)) (index_of query (commands_of (applied_of c i))) (clock_of c.world i) deadline))
-      (rules.Replies h.question (Refused (refusal.TooMany others)))
-      (rules.Holds (record h { stand = ForIndex deadline (Some (length (applied_of c i))) }))
-      (not_there (applied_of c i) deadline seen query mode least wait raw l)
-  read_due c i h others deadline seen (Good (Execute name limit mode)) t l = refl
-  read_due c i h others deadline seen (Good (Write command)) t l = refl
-  read_due c i h others deadline seen (Good (Renew id)) t l = refl
-  read_due c i h others deadline seen (Good (Agent op)) t l = refl
-  read_due c i h others deadline seen (Bad why) t l = refl
+  not_reached : (deadline clock : ℕ) → clock < deadline → nat_le deadline clock ≡ false
+  not_reached deadline clock l = grind (arith, nat_tests)
 
   is_some_if : {A : Type 0} (b : Bool) (x : A) → b ≡ is_some (if b then Some x else None)
   is_some_if true x = refl
   is_some_if false x = refl
 
-  stand_due : (c : Cluster) (i : ℕ) (h : Pending) (s : Stand) → IsTakenAsked h.question.asked → IsLookedFor (applied_of c i) h.question.asked s → is_stand_due c i h.question.asked s ≡ is_some (early_stand c i h s)
-  stand_due c i h (AtPlace index term) t l = is_some_if (nat_le index (length (applied_of c i))) (rules.Replies h.question (rules.landed index term (applied_of c i)))
-  stand_due c i h (InRound round deadline) t l = is_some_if (nat_lt round.term (node_of c.world i).term) (rules.Replies h.question (Refused (refusal.Lost round.term (node_of c.world i).term)))
-  stand_due c i h (ForIndex deadline seen) t l = read_due c i h (rules.waiting i c.held) deadline seen h.question.asked t l
-  stand_due c i h (Ended event) t l = refl
+  stand_due : (c : Cluster) (i : ℕ) (h : Pending) (s : Stand) → is_stand_due c i h.question.asked s ≡ is_some (early_stand c i h s)
+  stand_due c i h (AtPlace index term) = is_some_if (nat_le index (length (applied_of c i))) (rules.Replies h.question (rules.landed index term (applied_of c i)))
+  stand_due c i h (InRound round deadline) = is_some_if (nat_lt round.term (node_of c.world i).term) (rules.Replies h.question (Refused (refusal.Lost round.term (node_of c.world i).term)))
+  stand_due c i h (ForIndex deadline looked) = read_due c i h (rules.waiting i c.held) deadline looked h.question.asked
+  stand_due c i h (Ended event) = refl
 
-  early_by : (c : Cluster) (i : ℕ) (h : Pending) (s : Stand) (here halted : Bool) → (here ≡ true → is_stand_due c i h.question.asked s ≡ is_some (early_stand c i h s))
+  early_by : (c : Cluster) (i : ℕ) (h : Pending) (s : Stand) (here halted : Bool) → is_stand_due c i h.question.asked s ≡ is_some (early_stand c i h s)
       → (here && (halted || is_stand_due c i h.question.asked s)) ≡ is_some (if here then (if halted && not (is_ended s) then Some (rules.Replies h.question (Refused (refusal.Halted i))) else early_stand c i h s) else None)
   early_by c i h s false halted e = refl
-  early_by c i h s true false e = e refl
+  early_by c i h s true false e = e
   early_by c i h (AtPlace index term) true true e = refl
   early_by c i h (InRound round deadline) true true e = refl
-  early_by c i h (ForIndex deadline seen) true true e = refl
+  early_by c i h (ForIndex deadline looked) true true e = refl
   early_by c i h (Ended event) true true e = refl
 
-  looked_here : (c : Cluster) (i n : ℕ) (h : Pending) → IsHeld c.world c.servers n h → (h.server == i) ≡ true → IsLookedFor (applied_of c i) h.question.asked h.stand
-  looked_here c i n h held e = subst (λ k. IsLookedFor (applied_of c k) h.question.asked h.stand) (eq_tells h.server i e) held.looked
+  pub early_is : (c : Cluster) (i : ℕ) (h : Pending) → is_early c i h ≡ is_some (early_work c i h)
+  early_is c i h = early_by c i h h.stand (h.server == i) (node_of c.world i).halted (stand_due c i h h.stand)
 
-  pub early_is : (c : Cluster) (i n : ℕ) (h : Pending) → IsHeld c.world c.servers n h → is_early c i h ≡ is_some (early_work c i h)
-  early_is c i n h held = early_by c i h h.stand (h.server == i) (node_of c.world i).halted (λ e. stand_due c i h h.stand held.taken (looked_here c i n h held e))
+  -- what is found passes
+  no_work : (w : Option rules.Work) → is_some w ≡ false → w ≡ None
+  no_work None e = refl
+  no_work (Some w) e = clash e
 
-  -- The first of them has the first work.
-  abbrev pub first_of : (Pending → Option rules.Work) → Option Pending → Option rules.Work
-  first_of f None = None
-  first_of f (Some h) = f h
+  pub some_of : (w : Option rules.Work) → is_some w ≡ true → (v : rules.Work) × (w ≡ Some v)
+  some_of None e = clash (sym e)
+  some_of (Some v) e = (v, refl)
 
-  first_by : (f : Pending → Option rules.Work) (b : Bool) (h : Pending) (later : Option Pending) (works : Option rules.Work) → b ≡ is_some (f h) → works ≡ first_of f later
-      → or_work (f h) works ≡ first_of f (cond b (Some h) later)
-  first_by f b h later works e same = by (f h) refl b e
-    where
-      by : (w : Option rules.Work) → f h ≡ w → (b : Bool) → b ≡ is_some (f h) → or_work (f h) works ≡ first_of f (cond b (Some h) later)
-      by None g true e = clash (subst (λ w. true ≡ is_some w) g e)
-      by None g false e = ap (λ w. or_work w works) g ∙ same
-      by (Some w) g true e = ap (λ v. or_work v works) g ∙ sym g
-      by (Some w) g false e = clash (sym (subst (λ w. false ≡ is_some w) g e))
+  -- where none passes, none has a work
+  none_works : (f : Pending → Option rules.Work) (test : Pending → Bool) → ((h : Pending) → test h ≡ is_some (f h)) → (held : List Pending) → Each (λ (h : Pending). test h ≡ false) held → first_work f held ≡ None
+  none_works f test same [] none = refl
+  none_works f test same (h ∷ held) none = ap (λ w. or_work w (first_work f held)) (no_work (f h) (sym (same h) ∙ none.0)) ∙ none_works f test same held none.1
 
-  first_found : (f : Pending → Option rules.Work) (test : Pending → Bool) (P : Pending → Type 0) → ((h : Pending) → P h → test h ≡ is_some (f h)) → (held : List Pending) → Each P held → first_work f held ≡ first_of f (find test held)
-  first_found f test P same [] each = refl
-  first_found f test P same (h ∷ held) each = first_by f (test h) h (find test held) (first_work f held) (same h each.0) (first_found f test P same held each.1)
-
-  pub first_is : (c : Cluster) (i n : ℕ) (held : List Pending) → Each (IsHeld c.world c.servers n) held → first_work (early_work c i) held ≡ first_of (early_work c i) (find (is_early c i) held)
-  first_is c i n held each = first_found (early_work c i) (is_early c i) (IsHeld c.world c.servers n) (early_is c i n) held each
-
-  -- what is found is held, and passes
-  pub record IsPassing (test : Pending → Bool) (P : Pending → Type 0) (h : Pending) : Type 0 where
-    pub passes : test h ≡ true
-    pub held : P h
-
-  found_by : (test : Pending → Bool) (P : Pending → Type 0) (b : Bool) (x h : Pending) (later : Option Pending) → test x ≡ b → P x → (later ≡ Some h → IsPassing test P h) → cond b (Some x) later ≡ Some h → IsPassing test P h
-  found_by test P true x h later e held go found = let same : x ≡ h = cc in subst (λ (y : Pending). IsPassing test P y) same (record { passes = e; held = held })
-  found_by test P false x h later e held go found = go found
-
-  pub found_held : (test : Pending → Bool) (P : Pending → Type 0) (held : List Pending) (h : Pending) → Each P held → find test held ≡ Some h → IsPassing test P h
-  found_held test P [] h each found = absurd cc
-  found_held test P (x ∷ held) h each found = found_by test P (test x) x h (find test held) refl each.0 (λ e. found_held test P held h each.1 e) found
+  pub none_early : (c : Cluster) (i : ℕ) → Each (λ (h : Pending). is_early c i h ≡ false) c.held → first_work (early_work c i) c.held ≡ None
+  none_early c i none = none_works (early_work c i) (is_early c i) (early_is c i) c.held none
 
   -- what is found to be due at a server is held there
   here_first : (a b : Bool) → (a && b) ≡ true → a ≡ true
   here_first true b e = refl
   here_first false b e = absurd cc
 
-  pub awaited_here : (c : Cluster) (i n : ℕ) (h : Pending) → IsPassing (is_early c i) (IsHeld c.world c.servers n) h → IsAwaited c.world (length (applied_of c i)) h.question h.stand
-  awaited_here c i n h found =
-      let here : h.server ≡ i = eq_tells h.server i (here_first (h.server == i) ((node_of c.world i).halted || is_stand_due c i h.question.asked h.stand) found.passes) in
-      subst (λ k. IsAwaited c.world (length (applied_of c k)) h.question h.stand) here found.held.awaited
+  pub awaited_here : (c : Cluster) (i n : ℕ) (h : Pending) → is_early c i h ≡ true → IsHeld c.world c.servers n h → IsAwaited c.world (length (applied_of c i)) h.question h.stand
+  awaited_here c i n h passes held =
+      let here : h.server ≡ i = eq_tells h.server i (here_first (h.server == i) ((node_of c.world i).halted || is_stand_due c i h.question.asked h.stand) passes) in
+      subst (λ k. IsAwaited c.world (length (applied_of c k)) h.question h.stand) here held.awaited
 
   -- a position that is due is applied
   pub reached_by : (c : Cluster) (i : ℕ) (h : Pending) (index term : ℕ) → h.stand ≡ AtPlace index term → is_some (early_stand c i h h.stand) ≡ true → index ≤ length (applied_of c i)
-  reached_by c i h index term is early =
-      let due : is_some (early_stand c i h (AtPlace index term)) ≡ true = subst (λ s. is_some (early_stand c i h s) ≡ true) is early in
+  reached_by c i h index term is passes =
+      let due : is_some (early_stand c i h (AtPlace index term)) ≡ true = subst (λ s. is_some (early_stand c i h s) ≡ true) is passes in
       le_tells index (length (applied_of c i)) (is_some_if (nat_le index (length (applied_of c i))) (rules.Replies h.question (rules.landed index term (applied_of c i))) ∙ due)
 
   -- Which held requests have a round that is over.
   late_by : (c : Cluster) (i : ℕ) (h : Pending) (s : Stand) (here : Bool) → (here && is_stand_late c i s) ≡ is_some (if here then rules.late_stand c i h s else None)
   late_by c i h s false = refl
   late_by c i h (AtPlace index term) true = refl
-  late_by c i h (InRound round deadline) true = is_some_if (is_round_over c i round) (rules.Holds (record h { stand = ForIndex deadline None }))
-  late_by c i h (ForIndex deadline seen) true = refl
+  late_by c i h (InRound round deadline) true = is_some_if (is_round_over c i round) (rules.Holds (record h { stand = ForIndex deadline false }))
+  late_by c i h (ForIndex deadline looked) true = refl
   late_by c i h (Ended event) true = refl
 
   late_is : (c : Cluster) (i : ℕ) (h : Pending) → is_late c i h ≡ is_some (late_work c i h)
   late_is c i h = late_by c i h h.stand (h.server == i)
 
-  each_pending : (held : List Pending) → Each (λ (h : Pending). Unit {0}) held
-  each_pending [] = tt
-  each_pending (h ∷ held) = (tt, each_pending held)
-
-  first_late_is : (c : Cluster) (i : ℕ) (held : List Pending) → first_work (late_work c i) held ≡ first_of (late_work c i) (find (is_late c i) held)
-  first_late_is c i held = first_found (late_work c i) (is_late c i) (λ (h : Pending). Unit {0}) (λ h _. late_is c i h) held (each_pending held)
+  pub none_late : (c : Cluster) (i : ℕ) → Each (λ (h : Pending). is_late c i h ≡ false) c.held → first_work (late_work c i) c.held ≡ None
+  none_late c i none = none_works (late_work c i) (is_late c i) (late_is c i) c.held none
 
   -- it is looked for from now on
-  round_over : (c : Cluster) (i : ℕ) (h : Pending) (round : Round) (deadline : ℕ) (stand : own.Stand) (here : Bool) → (here && is_round_over c i round) ≡ true → own_stand stand ≡ ForIndex deadline None
+  round_over : (c : Cluster) (i : ℕ) (h : Pending) (round : Round) (deadline : ℕ) (stand : own.Stand) (here : Bool) → (here && is_round_over c i round) ≡ true → own_stand stand ≡ ForIndex deadline false
       → IsFound c i (if here then rules.late_stand c i h (InRound round deadline) else None) (Some (Hold h.question.number stand))
   round_over c i h round deadline stand false e same = clash (sym e)
   round_over c i h round deadline stand true e same =
-      subst (λ (o : Option rules.Work). IsFound c i o (Some (Hold h.question.number stand))) (sym (ap (λ (b : Bool). cond b (Some (rules.Holds (record h { stand = ForIndex deadline None }))) None) e)) (refl, same)
+      subst (λ (o : Option rules.Work). IsFound c i o (Some (Hold h.question.number stand))) (sym (ap (λ (b : Bool). cond b (Some (rules.Holds (record h { stand = ForIndex deadline false }))) None) e)) (refl, same)
 
-  pub late_round : (c : Cluster) (i : ℕ) (h : Pending) (round : Round) (deadline number : ℕ) (stand : own.Stand) → h.stand ≡ InRound round deadline → number ≡ h.question.number → own_stand stand ≡ ForIndex deadline None → is_late c i h ≡ true
+  pub late_round : (c : Cluster) (i : ℕ) (h : Pending) (round : Round) (deadline number : ℕ) (stand : own.Stand) → h.stand ≡ InRound round deadline → number ≡ h.question.number → own_stand stand ≡ ForIndex deadline false → is_late c i h ≡ true
       → IsFound c i (late_work c i h) (Some (Hold number stand))
   late_round c i h round deadline number stand is n same e =
       subst (λ k. IsFound c i (late_work c i h) (Some (Hold k stand))) (sym n)
       (subst (λ (s : Stand). IsFound c i (if h.server == i then rules.late_stand c i h s else None) (Some (Hold h.question.number stand))) (sym is)
       (round_over c i h round deadline stand (h.server == i) (subst (λ (s : Stand). (h.server == i && is_stand_late c i s) ≡ true) is e) same))
 
-  pub none_late : (c : Cluster) (i : ℕ) (h : Pending) → is_stand_late c i h.stand ≡ false → is_late c i h ≡ true → IsFound c i (late_work c i h) None
-  none_late c i h never e = clash (sym (both (h.server == i) (is_stand_late c i h.stand) e).1 ∙ never)
+  pub not_late : (c : Cluster) (i : ℕ) (h : Pending) → is_stand_late c i h.stand ≡ false → is_late c i h ≡ true → IsFound c i (late_work c i h) None
+  not_late c i h never e = clash (sym (both (h.server == i) (is_stand_late c i h.stand) e).1 ∙ never)
 
-  -- of the held requests
-  pub late_found : (c : Cluster) (i : ℕ) (h : Pending) (work : Option Work) → find (is_late c i) c.held ≡ Some h → (is_late c i h ≡ true → IsFound c i (late_work c i h) work) → IsFound c i (first_work (late_work c i) c.held) work
-  late_found c i h work found is =
-      subst (λ (o : Option rules.Work). IsFound c i o work) (sym (first_late_is c i c.held ∙ ap (first_of (late_work c i)) found))
-      (is (found_held (is_late c i) (λ (g : Pending). Unit {0}) c.held h (each_pending c.held) found).passes)
+  -- What is found by its number.
+  pub passes : (test : Pending → Bool) (number : ℕ) (held : List Pending) (h : Pending) → numbered_in number held ≡ Some h → test_held test (numbered_in number held) ≡ true → test h ≡ true
+  passes test number held h e t = sym (ap (test_held test) e) ∙ t
 
-  pub late_none : (c : Cluster) (i : ℕ) → find (is_late c i) c.held ≡ None → IsFound c i (first_work (late_work c i) c.held) None
-  late_none c i none = subst (λ (o : Option rules.Work). IsFound c i o None) (sym (first_late_is c i c.held ∙ ap (first_of (late_work c i)) none)) tt
+  pub none_there : {A : Type 0} (test : Pending → Bool) (number : ℕ) (held : List Pending) → numbered_in number held ≡ None → test_held test (numbered_in number held) ≡ true → A
+  none_there test number held e t = clash (sym t ∙ ap (test_held test) e)
 
-  -- the next position, or what is late
-  pub next_first : (c : Cluster) (i : ℕ) (late : Option rules.Work) (work : Work) (next : Option rules.Work) → IsFound c i next (Some work) → IsFound c i (or_work next late) (Some work)
-  next_first c i late work None is = absurd is
-  next_first c i late work (Some w) is = is
+  found_by : (c : Cluster) (i : ℕ) (work : Work) (w : Option rules.Work) (v : rules.Work) → w ≡ Some v → IsFound c i w (Some work) → IsWork c i work v
+  found_by c i work w v e f = subst (λ (o : Option rules.Work). IsFound c i o (Some work)) e f
 
-  pub late_next : (c : Cluster) (i : ℕ) (late : Option rules.Work) (work : Option Work) (next : Option rules.Work) → IsFound c i next None → IsFound c i late work → IsFound c i (or_work next late) work
-  late_next c i late work None is l = l
-  late_next c i late work (Some w) is l = absurd is
+  pub early_finds : (c : Cluster) (i number : ℕ) (h : Pending) (work : Work) → numbered_in number c.held ≡ Some h → is_number_early c i number ≡ true → IsFound c i (early_work c i h) (Some work) → Finds c i (Some work)
+  early_finds c i number h work e t f =
+      let is = passes (is_early c i) number c.held h e t in
+      let w = some_of (early_work c i h) (sym (early_is c i h) ∙ is) in
+      let o = one_found (λ (g : Pending). g.question.number == number) c.held h e in
+      (w.0, early o.before o.after h o.there w.1, found_by c i work (early_work c i h) w.0 w.1 f)
 
-  abbrev later_work : Cluster → ℕ → Option rules.Work
-  later_work c i = or_work (next_work c i) (first_work (late_work c i) c.held)
+  first_none : (f : Pending → Option rules.Work) (hs : List Pending) → first_work f hs ≡ None → Each (λ h. f h ≡ None) hs
+  first_none f [] e = tt
+  first_none f (h ∷ hs) e = (or_left (f h) (first_work f hs) e, first_none f hs (or_right (f h) (first_work f hs) e))
 
-  due_now : (c : Cluster) (i n : ℕ) → Each (IsHeld c.world c.servers n) c.held → due i c ≡ or_work (first_of (early_work c i) (find (is_early c i) c.held)) (later_work c i)
-  due_now c i n each = ap (λ w. or_work w (later_work c i)) (first_is c i n c.held each)
+  pub early_behind : (c : Cluster) (i number : ℕ) (h : Pending) → numbered_in number c.held ≡ Some h → is_number_early c i number ≡ true → due i c ≢ None
+  early_behind c i number h e t none =
+      let is = passes (is_early c i) number c.held h e t in
+      let o = one_found (λ (g : Pending). g.question.number == number) c.held h e in
+      let nothing : early_work c i h ≡ None = each_one (λ (g : Pending). early_work c i g ≡ None) (λ (g : Pending). g.question.number == number) c.held h o (first_none (early_work c i) c.held (or_left (first_work (early_work c i) c.held) _ none)) in
+      clash (sym is ∙ early_is c i h ∙ ap is_some nothing)
 
-  -- nothing is early: the next position, or a confirmed round
-  pub later_found : (c : Cluster) (i n : ℕ) (work : Option Work) → Each (IsHeld c.world c.servers n) c.held → find (is_early c i) c.held ≡ None → IsFound c i (or_work (next_work c i) (first_work (late_work c i) c.held)) work → IsFound c i (due i c) work
-  later_found c i n work each none found =
-      subst (λ w. IsFound c i w work) (sym (due_now c i n each ∙ ap (λ h. or_work (first_of (early_work c i) h) (later_work c i)) none)) found
+  pub early_finds_call : {B : Type 0} (c : Cluster) (i number : ℕ) (h : Pending) (result : Result Work B) → numbered_in number c.held ≡ Some h → is_number_early c i number ≡ true → IfOk result (λ work. IsFound c i (early_work c i h) (Some work)) → IfOk result (λ work. Finds c i (Some work))
+  early_finds_call c i number h (Ok work) e t f = early_finds c i number h work e t f
+  early_finds_call c i number h (Err why) e t f = tt
 
-  some_of : (w : Option rules.Work) → is_some w ≡ true → (v : rules.Work) × (w ≡ Some v)
-  some_of None e = clash (sym e)
-  some_of (Some v) e = (v, refl)
+  pub early_behind_call : {A B : Type 0} (c : Cluster) (i number : ℕ) (h : Pending) (result : Result A B) → numbered_in number c.held ≡ Some h → is_number_early c i number ≡ true → OnErr result (due i c ≢ None)
+  early_behind_call c i number h (Ok work) e t = tt
+  early_behind_call c i number h (Err why) e t = early_behind c i number h e t
 
-  pub some_early : (c : Cluster) (i n : ℕ) (h : Pending) → Each (IsHeld c.world c.servers n) c.held → find (is_early c i) c.held ≡ Some h → is_some (early_work c i h) ≡ true
-  some_early c i n h each found = let p = found_held (is_early c i) (IsHeld c.world c.servers n) c.held h each found in sym (early_is c i n h p.held) ∙ p.passes
+  -- the next position
+  pub next_finds : (c : Cluster) (i : ℕ) → Each (λ (h : Pending). is_early c i h ≡ false) c.held → nat_lt (length (applied_of c i)) (node_of c.world i).commit ≡ true → Finds c i (Some Apply)
+  next_finds c i none more = (rules.Applies, next_one (none_early c i none) (ap (λ b. cond b (Some rules.Applies) None) more), tt)
 
-  -- the first early work is due
-  due_early : (c : Cluster) (i n : ℕ) (h : Pending) → Each (IsHeld c.world c.servers n) c.held → find (is_early c i) c.held ≡ Some h → due i c ≡ early_work c i h
-  due_early c i n h each found =
-      let v = some_of (early_work c i h) (some_early c i n h each found) in
-      due_now c i n each
-      ∙ ap (λ g. or_work (first_of (early_work c i) g) (later_work c i)) found
-      ∙ ap (λ w. or_work w (later_work c i)) v.1
-      ∙ sym v.1
+  pub none_next : (c : Cluster) (i : ℕ) → nat_lt (length (applied_of c i)) (node_of c.world i).commit ≡ false → next_work c i ≡ None
+  none_next c i e = ap (λ b. cond b (Some rules.Applies) None) e
 
-  pub early_found : (c : Cluster) (i n : ℕ) (h : Pending) (work : Option Work) → Each (IsHeld c.world c.servers n) c.held → find (is_early c i) c.held ≡ Some h → IsFound c i (early_work c i h) work → IsFound c i (due i c) work
-  early_found c i n h work each found is = subst (λ w. IsFound c i w work) (sym (due_early c i n h each found)) is
+  -- a confirmed round
+  pub late_finds : (c : Cluster) (i number : ℕ) (h : Pending) (work : Work) → Each (λ (g : Pending). is_early c i g ≡ false) c.held → next_work c i ≡ None → numbered_in number c.held ≡ Some h → IsFound c i (late_work c i h) (Some work) → Finds c i (Some work)
+  late_finds c i number h work none applied e f = by (late_work c i h) refl f
+    where
+      by : (w : Option rules.Work) → late_work c i h ≡ w → IsFound c i w (Some work) → Finds c i (Some work)
+      by None is f = absurd f
+      by (Some w) is f = let o = one_found (λ (g : Pending). g.question.number == number) c.held h e in (w, late (none_early c i none) applied o.before o.after h o.there is, f)
 
-  pub early_behind : (c : Cluster) (i n : ℕ) (h : Pending) → Each (IsHeld c.world c.servers n) c.held → find (is_early c i) c.held ≡ Some h → due i c ≢ None
-  early_behind c i n h each found none =
-      clash (sym (subst (λ w. is_some w ≡ true) (sym (due_early c i n h each found) ∙ none) (some_early c i n h each found)))
+  pub late_found : (c : Cluster) (i number : ℕ) (h : Pending) (found : Option Work) → Each (λ (g : Pending). is_early c i g ≡ false) c.held → next_work c i ≡ None → numbered_in number c.held ≡ Some h → is_number_late c i number ≡ true → (is_late c i h ≡ true → IsFound c i (late_work c i h) found) → Finds c i found
+  late_found c i number h (Some work) none applied e t f = late_finds c i number h work none applied e (f (passes (is_late c i) number c.held h e t))
+  late_found c i number h None none applied e t f =
+      let is = passes (is_late c i) number c.held h e t in
+      let w = some_of (late_work c i h) (sym (late_is c i h) ∙ is) in
+      absurd (subst (λ (o : Option rules.Work). IsFound c i o None) w.1 (f is))
+
+  -- nothing is due
+  pub none_due : (c : Cluster) (i : ℕ) → Each (λ (h : Pending). is_early c i h ≡ false) c.held → next_work c i ≡ None → Each (λ (h : Pending). is_late c i h ≡ false) c.held → due i c ≡ None
+  none_due c i first next last = ap (λ w. or_work w (or_work (next_work c i) (first_work (late_work c i) c.held))) (none_early c i first) ∙ ap (λ w. or_work w (first_work (late_work c i) c.held)) next ∙ none_late c i last
+
+  -- What is not among those that are awake sleeps, and nothing is due of it.
+  awake_by : (test : ℕ → Bool) (n : ℕ) (numbers : List ℕ) (d : ℕ) (b : Bool) → test n ≡ b → cond b (Some n) (find test numbers) ≡ None → (find test numbers ≡ None → (k : ℕ) → k < length numbers → test (slice_index_or numbers k d) ≡ false)
+      → (k : ℕ) → k < length (n ∷ numbers) → test (slice_index_or (n ∷ numbers) k d) ≡ false
+  awake_by test n numbers d true e none go k l = absurd (cc none)
+  awake_by test n numbers d false e none go zero l = e
+  awake_by test n numbers d false e none go (suc k) l = go none k (omega (arith, l))
+
+  awake_none : (test : ℕ → Bool) (numbers : List ℕ) (d : ℕ) → find test numbers ≡ None → (k : ℕ) → k < length numbers → test (slice_index_or numbers k d) ≡ false
+  awake_none test [] d none k l = absurd (omega (arith, l))
+  awake_none test (n ∷ numbers) d none k l = awake_by test n numbers d (test n) refl none (λ e. awake_none test numbers d e) k l
+
+  below_next : (k at : ℕ) → k < at + 1 → (k == at) ≡ false → k < at
+  below_next k at l e = grind (arith, nat_tests)
+
+  -- none of these numbers passes
+  abbrev pub NonePasses : (ℕ → Bool) → List ℕ → Type 0
+  NonePasses test numbers = (n : ℕ) → Contains numbers n → test n ≡ false
+
+  -- none before this place does, which is past the last one
+  pub none_passes : (test : ℕ → Bool) (numbers : List ℕ) (at : ℕ) → length numbers ≤ at → ((k : ℕ) → k < at → (d : ℕ) → test (slice_index_or numbers k d) ≡ false) → NonePasses test numbers
+  none_passes test numbers at past before n (k, l, is) = ap test (sym is) ∙ before k (omega (arith, past, l)) n
+
+  -- one place more
+  pub none_more : (test : ℕ → Bool) (numbers : List ℕ) (at n : ℕ) → n ≡ slice_index_or numbers at n → at < length numbers → test n ≡ false → ((k : ℕ) → k < at → (d : ℕ) → test (slice_index_or numbers k d) ≡ false) → (k : ℕ) → k < at + 1 → (d : ℕ) → test (slice_index_or numbers k d) ≡ false
+  none_more test numbers at n is l fails before k m d = at_bool (λ b. (k == at) ≡ b → test (slice_index_or numbers k d) ≡ false) (k == at)
+      (λ _ e. ap (λ j. test (slice_index_or numbers j d)) (eq_tells k at e) ∙ ap test (get_default numbers at d n l ∙ sym is) ∙ fails)
+      (λ _ e. before k (below_next k at m e) d) refl
+
+  pub awake_passes_not : (test : ℕ → Bool) (numbers : List ℕ) (n : ℕ) → find test numbers ≡ None → Contains numbers n → test n ≡ false
+  awake_passes_not test numbers n none (k, l, is) = ap test (sym is) ∙ awake_none test numbers n none k l
+
+  tests_not : (test : Pending → Bool) (number : ℕ) (held : List Pending) (h : Pending) → numbered_in number held ≡ Some h → test_held test (numbered_in number held) ≡ false → test h ≡ false
+  tests_not test number held h e t = sym (ap (test_held test) e) ∙ t
+
+  -- of a held request that rests, nothing is due at its server while that runs and its time is not over
+  resting : (c : Cluster) (i : ℕ) (h : Pending) (watch : Watching) (clock : ℕ) → clock ≡ clock_of c.world i → (node_of c.world i).halted ≡ false → (r : RestsAs watch (server_of c.servers h.server).applied h.server h.question.number h.question.asked h.stand) → (h.server ≡ i → clock < r.deadline) → is_early c i h ≡ false
+  resting c i h watch clock at up r later = by (h.server == i) refl
+    where
+      over : h.server ≡ i → is_look_due c i r.deadline true (Good (Read r.query r.mode r.least r.wait r.raw)) ≡ false
+      over here =
+          let low : index_of r.query (commands_of (applied_of c i)) ≤ r.least = subst (λ k. index_of r.query (commands_of (applied_of c k)) ≤ r.least) here r.low in
+          let ahead : nat_le r.deadline (clock_of c.world i) ≡ false = not_reached r.deadline (clock_of c.world i) (let l = later here in omega (arith, l, at)) in
+          ap (λ b. b || nat_lt r.least (index_of r.query (commands_of (applied_of c i)))) ahead ∙ not_above r.least (index_of r.query (commands_of (applied_of c i))) low
+
+      by : (b : Bool) → (h.server == i) ≡ b → (b && ((node_of c.world i).halted || is_stand_due c i h.question.asked h.stand)) ≡ false
+      by false e = refl
+      by true e =
+          ap (λ b. b || is_stand_due c i h.question.asked h.stand) up
+          ∙ ap (λ (s : Stand). is_stand_due c i h.question.asked s) r.stand_is
+          ∙ ap (λ (a : Asked). is_look_due c i r.deadline true a) r.asked_is
+          ∙ over (eq_tells h.server i e)
+
+  -- a time of server i that lies ahead of its clock
+  abbrev Later : (clock i server until : ℕ) → Type 0
+  Later clock i server until = server ≡ i → clock < until
+
+  one_early : (c : Cluster) (i n : ℕ) (h : Pending) (new : Watching) (clock : ℕ) → clock ≡ clock_of c.world i → (node_of c.world i).halted ≡ false → IsHeld c.world c.servers n h → h.question.number ≤ n → numbered_in h.question.number c.held ≡ Some h
+      → (MayBeDue h.question.number wt → MayBeDue h.question.number new) → ((on : List Chan) (until : ℕ) → Sleeps h.server h.question.number on until wt → MayBeDue h.question.number new ⊎ (Sleeps h.server h.question.number on until new × Later clock i h.server until))
+      → (MayBeDue h.question.number new → Contains new.watch.awake h.question.number) → NonePasses (is_number_early c i) new.watch.awake → is_early c i h ≡ false
+  one_early c i n h new clock at up held numbered mine on slept covers none = by held.watched
+    where
+      awake : MayBeDue h.question.number new → is_early c i h ≡ false
+      awake a = tests_not (is_early c i) h.question.number c.held h mine (none h.question.number (covers a))
+
+      asleep : (r : RestsAs wt (server_of c.servers h.server).applied h.server h.question.number h.question.asked h.stand)
+          → MayBeDue h.question.number new ⊎ (Sleeps h.server h.question.number (chans r.query (catalog_at (commands_of (server_of c.servers h.server).applied))) r.deadline new × Later clock i h.server r.deadline) → is_early c i h ≡ false
+      asleep r (inl a) = awake a
+      asleep r (inr (s, later)) = resting c i h wt clock at up r later
+
+      by : IsWatched wt (server_of c.servers h.server).applied h → is_early c i h ≡ false
+      by (inl a) = awake (on a)
+      by (inr rests) =
+          let r = rests_as wt (server_of c.servers h.server).applied h.server h.question.number h.question.asked h.stand rests in
+          asleep r (slept (chans r.query (catalog_at (commands_of (server_of c.servers h.server).applied))) r.deadline r.sleeps)
+
+  -- where none of those that are awake is early, no held request is
+  pub awake_early : (c : Cluster) (i n : ℕ) (new : Watching) (clock : ℕ) → clock ≡ clock_of c.world i → Each (IsHeld c.world c.servers n) c.held → Ascends c.held → (node_of c.world i).halted ≡ false → StayAwake wt new
+      → ((server number : ℕ) (on : List Chan) (until : ℕ) → Sleeps server number on until wt → MayBeDue number new ⊎ (Sleeps server number on until new × Later clock i server until))
+      → ((number : ℕ) → number ≤ n → MayBeDue number new → Contains new.watch.awake number) → NonePasses (is_number_early c i) new.watch.awake → Each (λ (h : Pending). is_early c i h ≡ false) c.held
+  awake_early c i n new clock at each ascends up on slept covers none = go c.held each (each_numbered c.held ascends)
+    where
+      go : (held : List Pending) → Each (IsHeld c.world c.servers n) held → Each (λ (h : Pending). numbered_in h.question.number c.held ≡ Some h) held → Each (λ (h : Pending). is_early c i h ≡ false) held
+      go [] each mine = tt
+      go (h ∷ held) each mine = (
+        one_early c i n h new clock at up each.0 each.0.numbered mine.0 (on h.question.number) (slept h.server h.question.number) (covers h.question.number each.0.numbered) none,
+        go held each.1 mine.1,
+      )
+
+  -- a request that sleeps waits for no round
+  resting_late : (c : Cluster) (i : ℕ) (h : Pending) → RestsAs wt (server_of c.servers h.server).applied h.server h.question.number h.question.asked h.stand → is_late c i h ≡ false
+  resting_late c i h r = by (h.server == i)
+    where
+      by : (b : Bool) → (b && is_stand_late c i h.stand) ≡ false
+      by false = refl
+      by true = ap (is_stand_late c i) r.stand_is
+
+  one_late : (c : Cluster) (i n : ℕ) (h : Pending) → IsHeld c.world c.servers n h → numbered_in h.question.number c.held ≡ Some h → (MayBeDue h.question.number wt → Contains wt.watch.awake h.question.number) → find (is_number_late c i) wt.watch.awake ≡ None → is_late c i h ≡ false
+  one_late c i n h held mine covers none = by held.watched
+    where
+      by : IsWatched wt (server_of c.servers h.server).applied h → is_late c i h ≡ false
+      by (inl a) = tests_not (is_late c i) h.question.number c.held h mine (awake_passes_not (is_number_late c i) wt.watch.awake h.question.number none (covers a))
+      by (inr rests) = resting_late c i h (rests_as wt (server_of c.servers h.server).applied h.server h.question.number h.question.asked h.stand rests)
+
+  pub awake_late : (c : Cluster) (i n : ℕ) → Each (IsHeld c.world c.servers n) c.held → Ascends c.held → ((number : ℕ) → number ≤ n → MayBeDue number wt → Contains wt.watch.awake number) → find (is_number_late c i) wt.watch.awake ≡ None → Each (λ (h : Pending). is_late c i h ≡ false) c.held
+  awake_late c i n each ascends covers none = go c.held each (each_numbered c.held ascends)
+    where
+      go : (held : List Pending) → Each (IsHeld c.world c.servers n) held → Each (λ (h : Pending). numbered_in h.question.number c.held ≡ Some h) held → Each (λ (h : Pending). is_late c i h ≡ false) held
+      go [] each mine = tt
+      go (h ∷ held) each mine = (one_late c i n h each.0 mine.0 (covers h.question.number each.0.numbered) none, go held each.1 mine.1)
+
+  -- the first that passes has its own number
+  pub first_number : (test : Pending → Bool) (held : List Pending) (h : Pending) → Ascends held → find test held ≡ Some h → test_held test (numbered_in h.question.number held) ≡ true
+  first_number test held h ascends e =
+      let o = one_found test held h e in
+      ap (test_held test) (each_one (λ (g : Pending). numbered_in g.question.number held ≡ Some g) test held h o (each_numbered held ascends)) ∙ o.passes
+
+  number_by : (test : ℕ → Bool) (b : Bool) (n m : ℕ) (numbers : List ℕ) → test n ≡ b → cond b (Some n) (find test numbers) ≡ Some m → (find test numbers ≡ Some m → test m ≡ true) → test m ≡ true
+  number_by test true n m numbers e f go = let same : n ≡ m = cc f in subst (λ k. test k ≡ true) same e
+  number_by test false n m numbers e f go = go f
+
+  pub number_passes : (test : ℕ → Bool) (numbers : List ℕ) (n : ℕ) → find test numbers ≡ Some n → test n ≡ true
+  number_passes test [] n e = absurd (cc e)
+  number_passes test (m ∷ numbers) n e = number_by test (test m) m n numbers refl e (λ f. number_passes test numbers n f)
+
+  pub pending_in : (w : World) (servers : List Server) (r : Requests) (c : Cluster) (number : ℕ) (found known : Option Pending) → cluster_of w servers r ≡ c → found ≡ numbered_in number r.held → found ≡ known → numbered_in number c.held ≡ known
+  pending_in w servers r c number found known view is k = ap (λ (d : Cluster). numbered_in number d.held) (sym view) ∙ sym is ∙ k
+
+  pub first_in : (test : Pending → Bool) (w : World) (servers : List Server) (r : Requests) (c : Cluster) (held : List Pending) (found known : Option Pending) → cluster_of w servers r ≡ c → held ≡ r.held → found ≡ find test held → found ≡ known → find test c.held ≡ known
+  first_in test w servers r c held found known view same is k = ap (λ (d : Cluster). find test d.held) (sym view) ∙ ap (find test) (sym same) ∙ sym is ∙ k
+
+  pub some_awake : (test : ℕ → Bool) (numbers : List ℕ) (found : Option ℕ) → found ≡ find test numbers → IfSome found (λ number. test number ≡ true)
+  some_awake test numbers None e = tt
+  some_awake test numbers (Some n) e = number_passes test numbers n (sym e)
 
   -- what is known of the held requests of a cluster
   pub held_each : (w : World) (servers : List Server) (r : Requests) (c : Cluster) → Stands w servers r → cluster_of w servers r ≡ c → Each (IsHeld c.world c.servers c.asked) c.held
   held_each w servers r c stands view = subst (λ (d : Cluster). Each (IsHeld d.world d.servers d.asked) d.held) view stands.held
 
-  pub found_in : (w : World) (servers : List Server) (r : Requests) (c : Cluster) (i : ℕ) (held : List Pending) (found known : Option Pending) → cluster_of w servers r ≡ c → held ≡ r.held
-      → found ≡ find (is_early c i) held → found ≡ known → find (is_early c i) c.held ≡ known
-  found_in w servers r c i held found known view same is k =
-      ap (find (is_early c i)) (ap (λ (d : Cluster). d.held) (sym view) ∙ sym same) ∙ sym is ∙ k
+  pub ascends_in : (w : World) (servers : List Server) (r : Requests) (c : Cluster) → Stands w servers r → cluster_of w servers r ≡ c → Ascends c.held
+  ascends_in w servers r c stands view = subst (λ (d : Cluster). Ascends d.held) view stands.ascends
 
-  pub late_in : (w : World) (servers : List Server) (r : Requests) (c : Cluster) (i : ℕ) (held : List Pending) (found known : Option Pending) → cluster_of w servers r ≡ c → held ≡ r.held
-      → found ≡ find (is_late c i) held → found ≡ known → find (is_late c i) c.held ≡ known
-  late_in w servers r c i held found known view same is k =
-      ap (find (is_late c i)) (ap (λ (d : Cluster). d.held) (sym view) ∙ sym same) ∙ sym is ∙ k
+  pub early_none : (w : World) (servers : List Server) (r : Requests) (c : Cluster) (i : ℕ) (new : Watching) (clock asked : ℕ) → Stands w servers r → cluster_of w servers r ≡ c → clock ≡ clock_of w i → asked ≡ r.asked → (node_of c.world i).halted ≡ false → StayAwake wt new
+      → ((server number : ℕ) (on : List Chan) (until : ℕ) → Sleeps server number on until wt → MayBeDue number new ⊎ (Sleeps server number on until new × Later clock i server until))
+      → ((number : ℕ) → number ≤ asked → MayBeDue number new → Contains new.watch.awake number) → NonePasses (is_number_early c i) new.watch.awake → Each (λ (h : Pending). is_early c i h ≡ false) c.held
+  early_none w servers r c i new clock asked stands view at all up on slept covers none =
+      awake_early c i c.asked new clock (at ∙ ap (λ (d : Cluster). clock_of d.world i) view) (held_each w servers r c stands view) (ascends_in w servers r c stands view) up on slept
+      (λ number l. covers number (let k = ap (λ (d : Cluster). d.asked) view in omega (arith, l, k, all))) none
+
+  pub late_none : (w : World) (servers : List Server) (r : Requests) (c : Cluster) (i asked : ℕ) (numbers : List ℕ) (found : Option ℕ) → Stands w servers r → cluster_of w servers r ≡ c → asked ≡ r.asked
+      → ((number : ℕ) → number ≤ asked → MayBeDue number wt → Contains wt.watch.awake number) → numbers ≡ wt.watch.awake → found ≡ find (is_number_late c i) numbers → IfNone found (Each (λ (h : Pending). is_late c i h ≡ false) c.held)
+  late_none w servers r c i asked numbers (Some n) stands view all covers same e = tt
+  late_none w servers r c i asked numbers None stands view all covers same e =
+      awake_late c i c.asked (held_each w servers r c stands view) (ascends_in w servers r c stands view) (λ number l. covers number (let k = ap (λ (d : Cluster). d.asked) view in omega (arith, l, k, all)))
+      (ap (find (is_number_late c i)) (sym same) ∙ sym e)

@@ -1,5 +1,5 @@
 -- A request that was just noted is handled: it takes its number, and is refused or held.
-use Rattle.std.proofs.Common.{◌≡◌, ◌≢◌, inr, ℕ, suc, ◌+◌, ◌<◌, ◌≤◌, ◌||◌, true, false, length, take, List, [], ◌∷◌, ◌++◌, Option, Some, None, refl, sym, ap, ◌∙◌, subst, arith}
+use Rattle.std.proofs.Common.{◌≡◌, ◌≢◌, inl, inr, ℕ, suc, ◌+◌, ◌<◌, ◌≤◌, ◌||◌, true, false, length, take, List, [], ◌∷◌, ◌++◌, Option, Some, None, refl, sym, ap, ◌∙◌, subst, arith}
 use Rattle.std.specs.List.{AllByRecursion as Each}
 use Rattle.cat_model.specs.declared.request.Asked.{Asked}
 use Rattle.cat_model.specs.declared.request.Draw.{Draw}
@@ -30,7 +30,8 @@ use Rattle.cluster_rules.proofs.Tools.{each_append, each_map, neither, one_of}
 use Rattle.cluster_turns.specs.Turns.{HandlesNewest, IsCome, newest, numbered}
 use Rattle.open_requests.specs.Notes.{IsMadeLast, past_of}
 use Rattle.open_requests.specs.Requests.{Requests, answered_with, cluster_of as whole_of, holding_with, numbered_with, used}
-use Rattle.cluster.specs.Standing.{IsAwaited, IsHeld, IsLookedFor, Stands}
+use Rattle.cluster.specs.Standing as standing
+use Rattle.cluster.specs.Standing.{IsAwaited}
 use Rattle.office_rules.specs.Offices.{Office, renew_in}
 use Rattle.cluster_servers.specs.Servers.{Servers, officed}
 use Rattle.cluster.proofs.Acts.{stands_officed}
@@ -39,11 +40,18 @@ use Rattle.cluster.proofs.Kept.{answer_stands}
 use Rattle.cluster.proofs.Notes.{come_made, joined_placed, numbers_by}
 use Rattle.cluster.proofs.Taken.{delayed_as_asked}
 use Rattle.agent_rules.specs.Agents.{Agent}
+use Rattle.cluster.specs.Watching.{Watching}
 
-module _ (gs : List Agent) where
+module _ (gs : List Agent) (wt : Watching) where
   -- the cluster of these parts, with these agents
   abbrev cluster_of : World → List Server → Requests → Cluster
   cluster_of w servers r = whole_of w servers gs r
+
+  abbrev Stands : World → List Server → Requests → Type 0
+  Stands w servers r = standing.Stands wt w servers r
+
+  abbrev IsHeld : World → List Server → ℕ → Pending → Type 0
+  IsHeld w servers asked h = standing.IsHeld wt w servers asked h
 
   -- what a request that came last is handled on
   pub record Comes (w : World) (servers : List Server) (r : Requests) (c : Cluster) (agent : ℕ) (asked : Asked) (draw : Draw) : Type 0 where
@@ -56,25 +64,26 @@ module _ (gs : List Agent) where
     come_here = subst (λ (d : Cluster). IsCome agent asked draw d.past) (sym at.view) at.come
 
     pub made_last : (p : Requests) → p ≡ record r { room = 4 } → IsMadeLast p.notes
-    made_last p e = subst (λ (q : Requests). IsMadeLast q.notes) (sym e) (come_made gs agent asked draw w.agreed r.notes come_here)
+    made_last p e = subst (λ (q : Requests). IsMadeLast q.notes) (sym e) (come_made gs wt agent asked draw w.agreed r.notes come_here)
 
     -- the requests once it has its number
     numbered_now : Requests
     numbered_now = used (numbered_with agent asked draw (record r { room = 4 }))
 
     pub numbered_cluster : cluster_of w servers (used (numbered_with agent asked draw (record r { room = 4 }))) ≡ numbered agent asked draw c
-    numbered_cluster = numbers_by gs w servers r agent asked draw come_here ∙ ap (numbered agent asked draw) at.view
+    numbered_cluster = numbers_by gs wt w servers r agent asked draw come_here ∙ ap (numbered agent asked draw) at.view
 
     pub numbered_stands : Stands w servers (used (numbered_with agent asked draw (record r { room = 4 })))
     numbered_stands = record {
       reached = at.stands.reached;
       some = at.stands.some;
       count = at.stands.count;
+      watching = (at.stands.watching.0, omega (arith, at.stands.watching.1));
       sound = at.stands.sound;
-      joined = joined_placed gs (mark.Asked (r.asked + 1) agent asked draw) r.notes ∙ at.stands.joined;
+      joined = joined_placed gs wt (mark.Asked (r.asked + 1) agent asked draw) r.notes ∙ at.stands.joined;
       proposed = omega (arith, at.stands.proposed);
       ascends = at.stands.ascends;
-      held = all_more w servers r.asked (r.asked + 1) r.held (omega arith) at.stands.held;
+      held = all_more wt w servers r.asked (r.asked + 1) r.held (omega arith) at.stands.held;
     }
 
     -- its number in the rules
@@ -93,8 +102,8 @@ module _ (gs : List Agent) where
 
   pub refusal_stands : (w : World) (servers : List Server) (r new : Requests) (number : ℕ) (why : Refusal) → Stands w servers r → new ≡ used (answered_with number (Refused why) false 0 (Says why) r) → Stands w servers new
   refusal_stands w servers r new number why s e =
-      let a = answer_stands gs w servers r number (Refused why) false 0 (Says why) s in
-      subst (Stands w servers) (sym e) (record { reached = a.reached; some = a.some; count = a.count; sound = a.sound; joined = a.joined; proposed = a.proposed; ascends = a.ascends; held = a.held })
+      let a = answer_stands gs wt w servers r number (Refused why) false 0 (Says why) s in
+      subst (Stands w servers) (sym e) (record { reached = a.reached; some = a.some; count = a.count; watching = a.watching; sound = a.sound; joined = a.joined; proposed = a.proposed; ascends = a.ascends; held = a.held })
 
   pub unready_handles : (w : World) (servers : List Server) (r r' : Requests) (c : Cluster) (i agent : ℕ) (asked : Asked) (draw : Draw) (number term applied : ℕ) → Comes w servers r c agent asked draw → (is_stale_read asked || is_ready c i) ≡ false
       → number ≡ r.asked + 1 → term ≡ (node_of c.world i).term → applied ≡ last_term (applied_of c i)
@@ -117,18 +126,19 @@ module _ (gs : List Agent) where
 
   -- a request that is held behind all others
   pub hold_stands : (w : World) (servers : List Server) (r new : Requests) (q : Question) (i : ℕ) (stand : Stand) (start : Start) → Stands w servers r → Each (λ (h : Pending). h.question.number < q.number) r.held → q.number ≤ r.asked → IsTakenAsked q.asked
-      → IsAwaited w (length (server_of servers i).applied) q stand → IsLookedFor (server_of servers i).applied q.asked stand → new ≡ used (holding_with q i stand start r) → Stands w servers new
-  hold_stands w servers r new q i stand start s below given taken awaited looked e =
+      → IsAwaited w (length (server_of servers i).applied) q stand → wt.seen < q.number → new ≡ used (holding_with q i stand start r) → Stands w servers new
+  hold_stands w servers r new q i stand start s below given taken awaited fresh e =
       let h : Pending = record { question = q; server = i; stand = stand } in
       subst (Stands w servers) (sym e) (record {
         reached = s.reached;
         some = s.some;
         count = s.count;
+        watching = s.watching;
         sound = s.sound;
         joined = s.joined;
         proposed = s.proposed;
         ascends = ascends_last r.held h s.ascends below;
-        held = each_append (IsHeld w servers r.asked) r.held (h ∷ []) s.held (record { numbered = given; taken = taken; awaited = awaited; looked = looked }, tt);
+        held = each_append (IsHeld w servers r.asked) r.held (h ∷ []) s.held (record { numbered = given; taken = taken; awaited = awaited; watched = inl (inl fresh) }, tt);
       })
 
   pub holds_as : (w : World) (servers : List Server) (r new : Requests) (q : Question) (i : ℕ) (stand : Stand) (start : Start) (c : Cluster) → cluster_of w servers r ≡ c → new ≡ used (holding_with q i stand start r) → cluster_of w servers new ≡ holding q i stand start c
@@ -141,19 +151,19 @@ module _ (gs : List Agent) where
   -- a read that needs no round is held, to be looked for at once
   pub read_handles : (w : World) (servers : List Server) (r r' : Requests) (c : Cluster) (i agent : ℕ) (asked : Asked) (draw : Draw) (mode : Mode) (wait number deadline applied : ℕ) →
       Comes w servers r c agent asked draw → IsTakenAsked asked → look_of asked ≡ Some (mode, wait) → mode ≢ Consistent → (is_stale_read asked || is_ready c i) ≡ true → number ≡ r.asked + 1 → deadline ≡ clock_of c.world i + wait_of wait → applied ≡ length (applied_of c i)
-      → r' ≡ used (holding_with (record { number = number; agent = agent; asked = asked; draw = draw }) i (ForIndex deadline None) (Looked number i applied) (used (numbered_with agent asked draw (record r { room = 4 }))))
+      → r' ≡ used (holding_with (record { number = number; agent = agent; asked = asked; draw = draw }) i (ForIndex deadline false) (Looked number i applied) (used (numbered_with agent asked draw (record r { room = 4 }))))
       → HandlesNewest i agent asked draw c (cluster_of w servers r') × Stands w servers r'
   read_handles w servers r r' c i agent asked draw mode wait number deadline applied at taken look other go n d l e =
       let c₁ = numbered agent asked draw c in
       let r₂ = used (numbered_with agent asked draw (record r { room = 4 })) in
       let q : Question = record { number = number; agent = agent; asked = asked; draw = draw } in
       let same : q ≡ newest agent asked draw c₁ = ap (λ k. record { number = k; agent = agent; asked = asked; draw = draw }) (n ∙ sym (number_is w servers r c agent asked draw at)) in
-      let done = holds_as w servers r₂ r' q i (ForIndex deadline None) (Looked number i applied) c₁ (numbered_cluster w servers r c agent asked draw at) e in (
+      let done = holds_as w servers r₂ r' q i (ForIndex deadline false) (Looked number i applied) c₁ (numbered_cluster w servers r c agent asked draw at) e in (
         reads mode wait look other (one_of (is_stale_read asked) (is_ready c i) go)
-            (done ∙ ap (λ (p : Question). holding p i (ForIndex deadline None) (Looked p.number i applied) c₁) same
-            ∙ ap (λ k. holding (newest agent asked draw c₁) i (ForIndex k None) (Looked (newest agent asked draw c₁).number i applied) c₁) d
-            ∙ ap (λ k. holding (newest agent asked draw c₁) i (ForIndex (clock_of c.world i + wait_of wait) None) (Looked (newest agent asked draw c₁).number i k) c₁) l),
-        hold_stands w servers r₂ r' q i (ForIndex deadline None) (Looked number i applied) (numbered_stands w servers r c agent asked draw at) (below_next w servers r number at.stands n) (omega (arith, n)) taken tt tt e,
+            (done ∙ ap (λ (p : Question). holding p i (ForIndex deadline false) (Looked p.number i applied) c₁) same
+            ∙ ap (λ k. holding (newest agent asked draw c₁) i (ForIndex k false) (Looked (newest agent asked draw c₁).number i applied) c₁) d
+            ∙ ap (λ k. holding (newest agent asked draw c₁) i (ForIndex (clock_of c.world i + wait_of wait) false) (Looked (newest agent asked draw c₁).number i k) c₁) l),
+        hold_stands w servers r₂ r' q i (ForIndex deadline false) (Looked number i applied) (numbered_stands w servers r c agent asked draw at) (below_next w servers r number at.stands n) (omega (arith, n)) taken tt (omega (arith, n, at.stands.watching.1)) e,
       )
 
   -- A request that is answered at once, by what its server has applied.
@@ -165,8 +175,8 @@ module _ (gs : List Agent) where
 
   answer_leaves : (w : World) (servers : List Server) (r new : Requests) (number : ℕ) (kind : Kind) (content : Content) → Stands w servers r → new ≡ used (answered_with number kind false 0 content r) → Stands w servers new
   answer_leaves w servers r new number kind content s e =
-      let a = answer_stands gs w servers r number kind false 0 content s in
-      subst (Stands w servers) (sym e) (record { reached = a.reached; some = a.some; count = a.count; sound = a.sound; joined = a.joined; proposed = a.proposed; ascends = a.ascends; held = a.held })
+      let a = answer_stands gs wt w servers r number kind false 0 content s in
+      subst (Stands w servers) (sym e) (record { reached = a.reached; some = a.some; count = a.count; watching = a.watching; sound = a.sound; joined = a.joined; proposed = a.proposed; ascends = a.ascends; held = a.held })
 
   -- what a write shows that a lock delay refuses
   delay_shown : (q : Question) (c : Cluster) (i : ℕ) (command : Command) (key : List ℕ) (until now : ℕ) (log : Log) → q.asked ≡ Good (Write command) → delayed_at c i command ≡ Some key → Defers command key ≡ shown q (Delayed key until now) log
@@ -263,7 +273,7 @@ module _ (gs : List Agent) where
       stands = answer_leaves s.world new r₃ r' number (Seen Default applied) (Renews row) started e
         where
           officed_stands : Stands s.world new r₂
-          officed_stands = stands_officed gs i office s.world s.servers r₂ (numbered_stands s.world s.servers r own agent asked draw here)
+          officed_stands = stands_officed gs wt i office s.world s.servers r₂ (numbered_stands s.world s.servers r own agent asked draw here)
 
           started : Stands s.world new r₃
-          started = record { reached = officed_stands.reached; some = officed_stands.some; count = officed_stands.count; sound = officed_stands.sound; joined = officed_stands.joined; proposed = officed_stands.proposed; ascends = officed_stands.ascends; held = officed_stands.held }
+          started = record { reached = officed_stands.reached; some = officed_stands.some; count = officed_stands.count; watching = officed_stands.watching; sound = officed_stands.sound; joined = officed_stands.joined; proposed = officed_stands.proposed; ascends = officed_stands.ascends; held = officed_stands.held }

@@ -26,5 +26,9 @@ pub mod Taken
 pub mod Clocks
 pub mod Turns
 pub mod Notes
+pub mod Numbered
+pub mod Watched
+pub mod Awake
+pub mod Slept
 pub mod AgentParts
 pub mod Syncs

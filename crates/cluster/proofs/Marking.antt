@@ -1,5 +1,6 @@
 -- A step of a server that is marked is one of the rules' cluster, and leaves the parts as they have to be.
 use Rattle.std.proofs.Common.{◌≡◌, ℕ, ◌+◌, ◌-◌, ◌≤◌, Bool, true, false, List, ◌++◌, length, drop, sym, ◌∙◌, ap, subst, arith, length-drop}
+use Rattle.std.specs.Prelude.{IfErr, OnOk, Result, Ok, Err}
 use Rattle.std.proofs.lemmas.List.{length-take, take-append-drop}
 use Rattle.raft_model.specs.World.{World, IsReached}
 use Rattle.raft_world.specs.Steps.{KeepsAgreement}
@@ -11,14 +12,18 @@ use Rattle.open_requests.specs.declared.note.Note.TheVariants.{Joined}
 use Rattle.open_requests.specs.Notes.{joined_in}
 use Rattle.open_requests.specs.Requests.{Requests, cluster_of as whole_of, halted_with, with_note}
 use Rattle.cluster.specs.Moving.{IsMarked}
-use Rattle.cluster.specs.Standing.{Stands}
+use Rattle.cluster.specs.Standing as standing
 use Rattle.cluster.proofs.Carried.{Carries, Goes, all_later, carries, goes_here}
 use Rattle.agent_rules.specs.Agents.{Agent}
+use Rattle.cluster.specs.Watching.{Watching}
 
-module _ (gs : List Agent) where
+module _ (gs : List Agent) (wt : Watching) where
   -- the cluster of these parts, with these agents
   abbrev cluster_of : World → List Server → Requests → Cluster
   cluster_of w servers r = whole_of w servers gs r
+
+  abbrev Stands : World → List Server → Requests → Type 0
+  Stands w servers r = standing.Stands wt w servers r
 
   -- the agreed log does not get shorter
   pub no_shorter : (w w' : World) → IsReached w → KeepsAgreement w w' → length w.agreed ≤ length w'.agreed
@@ -31,11 +36,12 @@ module _ (gs : List Agent) where
     reached = reached;
     some = s.some;
     count = s.count ∙ sym goes.count;
+    watching = s.watching;
     sound = goes.sound;
     joined = joined;
     proposed = greatest;
     ascends = s.ascends;
-    held = all_later w w' servers r.asked r.asked r.held goes.on (omega arith) s.held;
+    held = all_later wt w w' servers r.asked r.asked r.held goes.on (omega arith) s.held;
   }
 
   -- the same requests in a world that went on, of which no more is agreed
@@ -71,3 +77,8 @@ module _ (gs : List Agent) where
       ap (cluster_of w' servers) m
       ∙ ap (λ n. cluster_of w' servers (with_note (Joined n) (halted_with failed i r))) count
       ∙ moves_by failed i w w' servers gs r more s.joined longer
+
+  -- room was taken, or there was no memory
+  pub prepared_stands : {A B : Type 0} (Why : B → Type 0) (w : World) (servers : List Server) (r new : Requests) (room : ℕ) (result : Result A B) → OnOk result (new ≡ record r { room = room }) → IfErr result (λ why. Why why × (new ≡ r)) → Stands w servers r → Stands w servers new
+  prepared_stands Why w servers r new room (Ok a) ok err s = (with_room w servers r new room s ok).0
+  prepared_stands Why w servers r new room (Err b) ok err s = subst (Stands w servers) (sym err.1) s

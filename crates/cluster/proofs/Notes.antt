@@ -17,13 +17,17 @@ use Rattle.open_requests.specs.declared.note.Note.TheVariants.{Marked, Joined}
 use Rattle.open_requests.specs.Notes.{IsJustMade, IsMadeLast, before_made, in_place as note_in_place, joined_in, past_of}
 use Rattle.open_requests.specs.Requests.{Requests, cluster_of as whole_of, forgotten, numbered_with}
 use Rattle.cluster_turns.specs.Turns.{IsCome, in_place, numbered}
-use Rattle.cluster.specs.Standing.{Stands}
+use Rattle.cluster.specs.Standing as standing
 use Rattle.agent_rules.specs.Agents.{Agent}
+use Rattle.cluster.specs.Watching.{Watching}
 
-module _ (gs : List Agent) where
+module _ (gs : List Agent) (wt : Watching) where
   -- the cluster of these parts, with these agents
   abbrev cluster_of : World → List Server → Requests → Cluster
   cluster_of w servers r = whole_of w servers gs r
+
+  abbrev Stands : World → List Server → Requests → Type 0
+  Stands w servers r = standing.Stands wt w servers r
 
   -- Entries that joined stand last in the marks, so none did where another mark stands there.
   is_entry_first : List Mark → Bool
@@ -77,7 +81,7 @@ module _ (gs : List Agent) where
   pub forgotten_stands : (w : World) (servers : List Server) (r : Requests) (made : Event) (c : Cluster) → Stands w servers r → cluster_of w servers r ≡ noted made c → Stands w servers (forgotten r)
   forgotten_stands w servers r made c s e =
       let kept = (made_last w.agreed r.notes made c.past (omega (arith, s.joined)) (noted_past w servers r made c e)).1 in
-      record { reached = s.reached; some = s.some; count = s.count; sound = s.sound; joined = kept ∙ s.joined; proposed = s.proposed; ascends = s.ascends; held = s.held }
+      record { reached = s.reached; some = s.some; count = s.count; watching = s.watching; sound = s.sound; joined = kept ∙ s.joined; proposed = s.proposed; ascends = s.ascends; held = s.held }
 
   -- The request that was noted last takes its number.
   come_head : (agent : ℕ) (asked : Asked) (draw : Draw) (past : List Mark) → IsCome agent asked draw past → is_entry_first past ≡ false

@@ -5,13 +5,17 @@ use Rattle.raft_world.specs.Steps.{IsNumber}
 use Rattle.cluster_rules.specs.Cluster.{Cluster, Server}
 use Rattle.cluster_rules.specs.Reached.{IsServerNumber}
 use Rattle.open_requests.specs.Requests.{Requests, cluster_of as whole_of}
-use Rattle.cluster.specs.Standing.{Stands}
+use Rattle.cluster.specs.Standing as standing
 use Rattle.agent_rules.specs.Agents.{Agent}
+use Rattle.cluster.specs.Watching.{Watching}
 
-module _ (gs : List Agent) where
+module _ (gs : List Agent) (wt : Watching) where
   -- the cluster of these parts, with these agents
   abbrev cluster_of : World → List Server → Requests → Cluster
   cluster_of w servers r = whole_of w servers gs r
+
+  abbrev Stands : World → List Server → Requests → Type 0
+  Stands w servers r = standing.Stands wt w servers r
 
   -- a server of the cluster is one of its world
   pub is_number : (w : World) (servers : List Server) (r : Requests) (c : Cluster) (s : ℕ) → Stands w servers r → cluster_of w servers r ≡ c → IsServerNumber c s → IsNumber s w

@@ -12,15 +12,19 @@ use Rattle.open_requests.specs.Requests.{Requests, cluster_of as whole_of}
 use Rattle.open_requests.specs.Taking as own
 use Rattle.open_requests.specs.declared.collected.Collected.{Collected}
 use Rattle.open_requests.specs.declared.collected.Collected.TheVariants as collected
-use Rattle.cluster.specs.Standing.{Stands}
+use Rattle.cluster.specs.Standing as standing
 use Rattle.cluster_interface.specs.Interface.{TakesFirst}
 use Rattle.cluster_interface.specs.Taking.{Collects, Takes}
 use Rattle.agent_rules.specs.Agents.{Agent}
+use Rattle.cluster.specs.Watching.{Watching}
 
-module _ (gs : List Agent) where
+module _ (gs : List Agent) (wt : Watching) where
   -- the cluster of these parts, with these agents
   abbrev cluster_of : World → List Server → Requests → Cluster
   cluster_of w servers r = whole_of w servers gs r
+
+  abbrev Stands : World → List Server → Requests → Type 0
+  Stands w servers r = standing.Stands wt w servers r
 
   noted_taken : (log : Log) (number : Option ℕ) (notes : List Note) → past_of log (taken_note number notes) ≡ taken number (past_of log notes)
   noted_taken log None notes = refl
@@ -70,7 +74,7 @@ module _ (gs : List Agent) where
   taken_stands : (w : World) (servers : List Server) (old new : Requests) (out : Out) → own.Takes out old new → Stands w servers old → Stands w servers new
   taken_stands w servers old new out t s =
       subst (λ (r : Requests). Stands w servers r) (sym t.is)
-      record { reached = s.reached; some = s.some; count = s.count; sound = s.sound; joined = joined_taken (number_of out) old.notes ∙ s.joined; proposed = s.proposed; ascends = s.ascends; held = s.held }
+      record { reached = s.reached; some = s.some; count = s.count; watching = s.watching; sound = s.sound; joined = joined_taken (number_of out) old.notes ∙ s.joined; proposed = s.proposed; ascends = s.ascends; held = s.held }
 
   same_stands : (w : World) (servers : List Server) (old new : Requests) → new ≡ old → Stands w servers old → Stands w servers new
   same_stands w servers old new same s = subst (λ (r : Requests). Stands w servers r) (sym same) s

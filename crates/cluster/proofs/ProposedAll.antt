@@ -22,10 +22,11 @@ use Rattle.open_requests.specs.Requests.{Requests, cluster_of as whole_of}
 use Rattle.cluster.specs.declared.moving.Seen.{Seen}
 use Rattle.cluster.specs.Moving.{MarksStep, seen_of}
 use Rattle.cluster.specs.Proposing.{EndsProposal, IsEntered, IsRefused, OneProposed}
-use Rattle.cluster.specs.Standing.{Stands}
+use Rattle.cluster.specs.Standing as standing
 use Rattle.cluster.proofs.Carried.{carries, proposing_goes}
 use Rattle.cluster.proofs.Marking.{cluster_marked, stands_proposed, with_room}
 use Rattle.agent_rules.specs.Agents.{Agent}
+use Rattle.cluster.specs.Watching.{Watching}
 
 -- All of these commands were entered, one after another.
 pub data AllEntered (i : ℕ) : List Command → Cluster → Cluster → Type 0 where
@@ -78,10 +79,13 @@ pub servers_kept : (i : ℕ) (command : Command) (c c' : Cluster) (entered : Boo
 servers_kept i command c c' true f = ap (λ (z : Cluster). z.servers) f.is
 servers_kept i command c c' false f = ap (λ (z : Cluster). z.servers) f.is
 
-module _ (gs : List Agent) where
+module _ (gs : List Agent) (wt : Watching) where
   -- the cluster of these parts, with these agents
   abbrev cluster_of : World → List Server → Requests → Cluster
   cluster_of w servers r = whole_of w servers gs r
+
+  abbrev Stands : World → List Server → Requests → Type 0
+  Stands w servers r = standing.Stands wt w servers r
 
   -- what comes of one proposal
   pub record Ended (i : ℕ) (command : Command) (c : Cluster) (w' : World) (servers : List Server) (r' : Requests) (result : Result Bool memory.Memory) : Type 0 where
@@ -95,20 +99,20 @@ module _ (gs : List Agent) where
     c = cluster_of w servers r
 
     at_room : Stands w servers p × (cluster_of w servers p ≡ c)
-    at_room = with_room gs w servers r p 4 s prepared
+    at_room = with_room gs wt w servers r p 4 s prepared
 
     module _ (a : NodeActs w i (Propose 0 command) w') (marks : MarksStep (seen_of w i) (seen_of w' i) i p r') where
       same_node : node_of w i ≡ a.old
       same_node = is_node w i a.old a.server
 
       moves : cluster_of w' servers r' ≡ moved i w' c
-      moves = cluster_marked gs (not (node_of w i).halted && (node_of w' i).halted) i w w' servers p r' at_room.0 keeps marks ∙ ap (moved i w') at_room.1
+      moves = cluster_marked gs wt (not (node_of w i).halted && (node_of w' i).halted) i w w' servers p r' at_room.0 keeps marks ∙ ap (moved i w') at_room.1
 
       low : w'.greatest ≤ p.asked
       low = omega (arith, acts_greatest w i (Propose 0 command) w' a, at_room.0.proposed)
 
       stands : Stands w' servers r'
-      stands = stands_proposed gs (not (node_of w i).halted && (node_of w' i).halted) i w w' servers p r' at_room.0 keeps (carries w w' servers (proposing_goes w i 0 command w' s.reached a) s.sound) low marks
+      stands = stands_proposed gs wt (not (node_of w i).halted && (node_of w' i).halted) i w w' servers p r' at_room.0 keeps (carries w w' servers (proposing_goes w i 0 command w' s.reached a) s.sound) low marks
 
       entered : (b : Bool) → b ≡ true → has_room (node_of w i) 0 command ≡ true → (node_of w' i).halted ≡ false → Ended i command c w' servers r' (Ok b)
       entered b e room up = record {

@@ -37,17 +37,22 @@ use Rattle.cluster.specs.declared.asking.Write.{Write}
 use Rattle.cluster.specs.declared.moving.Seen.{Seen}
 use Rattle.cluster.specs.Asking.{EndsWrite, IsCopied, IsTakenWrite}
 use Rattle.cluster.specs.Moving.{IsMarked, MarksStep, seen_of}
-use Rattle.cluster.specs.Standing.{HasPlace, IsAwaited, Stands}
+use Rattle.cluster.specs.Standing as standing
+use Rattle.cluster.specs.Standing.{HasPlace, IsAwaited}
 use Rattle.cluster.proofs.Carried.{carries, proposing_goes}
 use Rattle.cluster.proofs.Handled.{Comes, below_next, hold_stands, holds_as, numbered_cluster, numbered_stands, refusal_stands, refuses_as}
 use Rattle.cluster.proofs.Marking.{cluster_marked, stands_proposed, with_room}
 use Rattle.cluster.proofs.Taken.{is_counted}
 use Rattle.agent_rules.specs.Agents.{Agent}
+use Rattle.cluster.specs.Watching.{Watching}
 
-module _ (gs : List Agent) where
+module _ (gs : List Agent) (wt : Watching) where
   -- the cluster of these parts, with these agents
   abbrev cluster_of : World → List Server → Requests → Cluster
   cluster_of w servers r = whole_of w servers gs r
+
+  abbrev Stands : World → List Server → Requests → Type 0
+  Stands w servers r = standing.Stands wt w servers r
 
   -- the entry of a write that was taken, at its place
   awaits : (w w' : World) (servers : List Server) (i index term : ℕ) (q : Question) (command : Command) → q.asked ≡ Good (Writes command) → index ≡ suc (length (node_of w i).log) → term ≡ (node_of w i).term
@@ -75,7 +80,7 @@ module _ (gs : List Agent) where
 
   -- what is known of a write that is proposed
   pub record IsProposing (w : World) (servers : List Server) (r : Requests) (i : ℕ) (write : Write) (command : Command) : Type 0 where
-    pub at : Comes gs w servers r (cluster_of w servers r) write.question.agent write.asked write.question.draw
+    pub at : Comes gs wt w servers r (cluster_of w servers r) write.question.agent write.asked write.question.draw
     pub copied : IsCopied (cluster_of w servers r) i write.question.agent write.asked write.question.draw command write
     pub asked : write.asked ≡ Good (Writes command)
     pub taken : IsTakenAsked write.asked
@@ -121,18 +126,18 @@ module _ (gs : List Agent) where
       marks = subst (λ (s : Seen). MarksStep s (seen_of w' i) i r₁ mid) was (subst (λ (s : Seen). MarksStep before s i r₁ mid) seen marked)
 
       stands₁ : Stands w servers r₁
-      stands₁ = numbered_stands gs w servers r (cluster_of w servers r) write.question.agent write.asked write.question.draw is.at
+      stands₁ = numbered_stands gs wt w servers r (cluster_of w servers r) write.question.agent write.asked write.question.draw is.at
 
       moved_cluster : cluster_of w' servers mid ≡ moved i w' c₁
       moved_cluster =
-          cluster_marked gs (not (node_of w i).halted && (node_of w' i).halted) i w w' servers r₁ mid stands₁ keeps marks
-          ∙ ap (moved i w') (numbered_cluster gs w servers r (cluster_of w servers r) write.question.agent write.asked write.question.draw is.at)
+          cluster_marked gs wt (not (node_of w i).halted && (node_of w' i).halted) i w w' servers r₁ mid stands₁ keeps marks
+          ∙ ap (moved i w') (numbered_cluster gs wt w servers r (cluster_of w servers r) write.question.agent write.asked write.question.draw is.at)
 
       low : w'.greatest ≤ r₁.asked
       low = omega (arith, acts_greatest w i (Propose write.question.number enters) w' a, is.at.stands.proposed, ap (λ (x : Question). x.number) is.copied.question)
 
       moved_stands : Stands w' servers mid
-      moved_stands = stands_proposed gs (not (node_of w i).halted && (node_of w' i).halted) i w w' servers r₁ mid stands₁ keeps (carries w w' servers (proposing_goes w i write.question.number enters w' is.at.stands.reached a) is.at.stands.sound) low marks
+      moved_stands = stands_proposed gs wt (not (node_of w i).halted && (node_of w' i).halted) i w w' servers r₁ mid stands₁ keeps (carries w w' servers (proposing_goes w i write.question.number enters w' is.at.stands.reached a) is.at.stands.sound) low marks
 
       acts_now : NodeActs w i (Propose q.number (entered q command)) w'
       acts_now = subst (λ (z : Question). NodeActs w i (Propose z.number (entered z command)) w') question_is a
@@ -151,22 +156,25 @@ module _ (gs : List Agent) where
           → HandlesNewest i write.question.agent write.asked write.question.draw (cluster_of w servers r) (cluster_of w' servers r') × Stands w' servers r'
       held_so place here room up e =
           let at : place ≡ record { index = suc (length (node_of w i).log); term = (node_of w i).term } = here ∙ ap (λ (n : Node). record { index = suc (length n.log); term = n.term }) (sym same_node) in
-          let done = holds_as gs w' servers mid r' write.question i (AtPlace place.index place.term) (Proposed place.index write.entry) (moved i w' c₁) moved_cluster e in (
+          let done = holds_as gs wt w' servers mid r' write.question i (AtPlace place.index place.term) (Proposed place.index write.entry) (moved i w' c₁) moved_cluster e in (
             proposes command w' is.asked is.free (inr is.ready) (room_is true room) acts_now (ap (λ (n : Node). n.halted) (acts_server w i (Propose write.question.number enters) w' a) ∙ up)
                 (done ∙ ap (λ (x : Question). holding x i (AtPlace place.index place.term) (Proposed place.index write.entry) (moved i w' c₁)) question_is
                 ∙ ap (λ (x : Entry). holding q i (AtPlace place.index place.term) (Proposed place.index x) (moved i w' c₁)) entry_is
                 ∙ ap (λ (p : Place). holding q i (AtPlace p.index p.term) (Proposed p.index (proposal (node_of w i) q.number (entered q command))) (moved i w' c₁)) at),
-            hold_stands gs w' servers mid r' write.question i (AtPlace place.index place.term) (Proposed place.index write.entry) moved_stands below given asked_taken (waits_at place at room up) tt e,
+            hold_stands gs wt w' servers mid r' write.question i (AtPlace place.index place.term) (Proposed place.index write.entry) moved_stands below given asked_taken (waits_at place at room up) fresh e,
           )
         where
           held_same : mid.held ≡ r.held
           held_same = marked_held (not (node_of w i).halted && (node_of w' i).halted) i (length w'.agreed - length w.agreed) r₁ mid marks
 
           below : Each (λ (h : Pending). h.question.number < write.question.number) mid.held
-          below = subst (Each (λ (h : Pending). h.question.number < write.question.number)) (sym held_same) (below_next gs w servers r write.question.number is.at.stands (ap (λ (x : Question). x.number) is.copied.question))
+          below = subst (Each (λ (h : Pending). h.question.number < write.question.number)) (sym held_same) (below_next gs wt w servers r write.question.number is.at.stands (ap (λ (x : Question). x.number) is.copied.question))
 
           given : write.question.number ≤ mid.asked
           given = omega (arith, ap (λ (x : Question). x.number) is.copied.question, marked_asked (not (node_of w i).halted && (node_of w' i).halted) i (length w'.agreed - length w.agreed) r₁ mid marks)
+
+          fresh : wt.seen < write.question.number
+          fresh = omega (arith, ap (λ (x : Question). x.number) is.copied.question, is.at.stands.watching.1)
 
           same_asked : write.question.asked ≡ write.asked
           same_asked = ap (λ (x : Question). x.asked) is.copied.question
@@ -192,7 +200,7 @@ module _ (gs : List Agent) where
 
       -- it is refused
       refused_so : (why : Refusal) → r' ≡ used (answered_with write.question.number (Refused why) false 0 (Says why) mid) → (cluster_of w' servers r' ≡ refused q why (moved i w' c₁)) × Stands w' servers r'
-      refused_so why e = (refuses_as gs w' servers mid r' q why (moved i w' c₁) write.question.number (sym number_is) moved_cluster e, refusal_stands gs w' servers mid r' write.question.number why moved_stands e)
+      refused_so why e = (refuses_as gs wt w' servers mid r' q why (moved i w' c₁) write.question.number (sym number_is) moved_cluster e, refusal_stands gs wt w' servers mid r' write.question.number why moved_stands e)
 
       full_so : has_room a.old write.question.number enters ≡ false → r' ≡ used (answered_with write.question.number (Refused (refusal.LogFull write.entries write.bytes)) false 0 (Says (refusal.LogFull write.entries write.bytes)) mid)
           → HandlesNewest i write.question.agent write.asked write.question.draw (cluster_of w servers r) (cluster_of w' servers r') × Stands w' servers r'
@@ -239,7 +247,7 @@ module _ (gs : List Agent) where
     ended before now (Err fault.NotLeader) (Err u) p e was seen made ends = absurd ((made.1 (node_of w i) (leader_there w i is.leads)).1 (leading_tells w i is.leads).1)
     ended before now (Err fault.Memory) (Ok u) p e was seen made ends = absurd ends
     ended before now (Err fault.Memory) (Err u) p e was seen made ends =
-        let here = with_room gs w servers r (record r { room = 4 }) 4 is.at.stands refl in (
+        let here = with_room gs wt w servers r (record r { room = 4 }) 4 is.at.stands refl in (
           tt,
           subst (λ (v : World). cluster_of v servers r' ≡ cluster_of w servers r) (sym made.0) (ap (cluster_of w servers) ends ∙ here.1),
           subst (λ (v : World). Stands v servers r') (sym made.0) (subst (Stands w servers) (sym ends) here.0),

@@ -15,15 +15,19 @@ use Rattle.cluster_rules.specs.Step.{marked}
 use Rattle.cluster_turns.specs.Turns.{newest}
 use Rattle.open_requests.specs.declared.note.Note.TheVariants.{Marked}
 use Rattle.open_requests.specs.Requests.{Requests, answered_with, came_with, cluster_of as whole_of}
-use Rattle.cluster.specs.Standing.{Stands}
+use Rattle.cluster.specs.Standing as standing
 use Rattle.cluster.proofs.Carried.{all_more}
 use Rattle.cluster.proofs.Kept.{answer_stands, call_stands}
 use Rattle.agent_rules.specs.Agents.{Agent}
+use Rattle.cluster.specs.Watching.{Watching}
 
-module _ (gs : List Agent) where
+module _ (gs : List Agent) (wt : Watching) where
   -- the cluster of these parts, with these agents
   abbrev cluster_of : World → List Server → Requests → Cluster
   cluster_of w servers r = whole_of w servers gs r
+
+  abbrev Stands : World → List Server → Requests → Type 0
+  Stands w servers r = standing.Stands wt w servers r
 
   -- the requests with it
   abbrev pub with_refused : ℕ → Asked → Draw → Refusal → Requests → Requests
@@ -44,18 +48,19 @@ module _ (gs : List Agent) where
     reached = s.reached;
     some = s.some;
     count = s.count;
+    watching = (s.watching.0, omega (arith, s.watching.1));
     sound = s.sound;
     joined = s.joined;
     proposed = omega (arith, s.proposed);
     ascends = s.ascends;
-    held = all_more w servers r.asked (r.asked + 1) r.held (omega arith) s.held;
+    held = all_more wt w servers r.asked (r.asked + 1) r.held (omega arith) s.held;
   }
 
   pub refused_stands : {A B : Type 0} (w : World) (servers : List Server) (r new : Requests) (agent : ℕ) (asked : Asked) (draw : Draw) (why : Refusal) (result : Result A B) → Stands w servers r
       → OnOk result (new ≡ with_refused agent asked draw why r) → OnErr result (new ≡ r) → Stands w servers new
   refused_stands w servers r new agent asked draw why result s ok err =
-      call_stands gs w servers r (with_refused agent asked draw why r) new result s
-      (answer_stands gs w servers (came_with agent asked draw r) (r.asked + 1) (Refused why) false 0 (Says why) (came_stands w servers r agent asked draw s)) ok err
+      call_stands gs wt w servers r (with_refused agent asked draw why r) new result s
+      (answer_stands gs wt w servers (came_with agent asked draw r) (r.asked + 1) (Refused why) false 0 (Says why) (came_stands w servers r agent asked draw s)) ok err
 
   pub refused_done : {A B : Type 0} (w : World) (servers : List Server) (r new : Requests) (c : Cluster) (agent : ℕ) (asked : Asked) (draw : Draw) (why : Refusal) (result : Result A B) → cluster_of w servers r ≡ c
       → OnOk result (new ≡ with_refused agent asked draw why r) → OnOk result (cluster_of w servers new ≡ refused_new agent asked draw why c)

@@ -24,13 +24,18 @@ use Rattle.cluster_rules.proofs.Grows.{write_map}
 use Rattle.open_requests.specs.Contents.{write_content}
 use Rattle.cluster.specs.Looking.{IsAppliedLast, RepliesLast}
 use Rattle.open_requests.specs.Requests.{Requests, cluster_of as whole_of}
-use Rattle.cluster.specs.Standing.{HasPlace, IsAwaited, Stands}
+use Rattle.cluster.specs.Standing as standing
+use Rattle.cluster.specs.Standing.{HasPlace, IsAwaited}
 use Rattle.agent_rules.specs.Agents.{Agent as AgentRows}
+use Rattle.cluster.specs.Watching.{Watching}
 
-module _ (gs : List AgentRows) where
+module _ (gs : List AgentRows) (wt : Watching) where
   -- the cluster of these parts, with these agents
   abbrev cluster_of : World → List Server → Requests → Cluster
   cluster_of w servers r = whole_of w servers gs r
+
+  abbrev Stands : World → List Server → Requests → Type 0
+  Stands w servers r = standing.Stands wt w servers r
 
   reply_last : (log : Log) (k : ℕ) (e : Entry) → length log ≡ suc k → entry_at (suc k) log ≡ Some e → last_reply (commands_of log) ≡ Some (reply_to (commands_of (take k log)) e.command)
   reply_last log k e size there =

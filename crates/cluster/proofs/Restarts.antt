@@ -1,5 +1,5 @@
 -- A restart: the server has applied nothing, and what it holds is to be closed.
-use Rattle.std.proofs.Common.{◌≡◌, ℕ, ◌-◌, ◌<◌, ◌≤◌, Bool, true, false, cond, List, [], ◌∷◌, length, map, refl, sym, ◌∙◌, ap, subst, arith}
+use Rattle.std.proofs.Common.{◌≡◌, inl, ℕ, ◌-◌, ◌<◌, ◌≤◌, Bool, true, false, cond, List, [], ◌∷◌, length, map, refl, sym, ◌∙◌, ap, subst, arith}
 use Rattle.std.specs.Prelude.{◌==◌}
 use Rattle.std.specs.List.{AllByRecursion as Each}
 use Rattle.cat_model.specs.declared.request.Event.TheVariants as event
@@ -19,16 +19,23 @@ use Rattle.open_requests.specs.Notes.{events_noted}
 use Rattle.open_requests.specs.Requests.{Requests, cluster_of as whole_of, ended_all}
 use Rattle.cluster.specs.declared.moving.Seen.{Seen}
 use Rattle.cluster.specs.Moving.{IsMarked, seen_of}
-use Rattle.cluster.specs.Standing.{IsHeld, Stands}
+use Rattle.cluster.specs.Standing as standing
 use Rattle.cluster.proofs.Acts.{ActedWhole, whole_with}
 use Rattle.cluster.proofs.Carried.{AreSound, Carries, held_same, server_later, sound_with}
 use Rattle.cluster.proofs.Marking.{cluster_marked, stands_marked, with_room}
 use Rattle.agent_rules.specs.Agents.{Agent}
+use Rattle.cluster.specs.Watching.{Watching, MayBeDue}
 
-module _ (gs : List Agent) where
+module _ (gs : List Agent) (wt : Watching) where
   -- the cluster of these parts, with these agents
   abbrev cluster_of : World → List Server → Requests → Cluster
   cluster_of w servers r = whole_of w servers gs r
+
+  abbrev Stands : World → List Server → Requests → Type 0
+  Stands w servers r = standing.Stands wt w servers r
+
+  abbrev IsHeld : World → List Server → ℕ → Pending → Type 0
+  IsHeld w servers asked h = standing.IsHeld wt w servers asked h
 
   number_kept : (i made : ℕ) (h : Pending) → (ended i made h).question.number ≡ h.question.number
   number_kept i made h = at_bool (λ b. (cond b (record h { stand = Ended made }) h).question.number ≡ h.question.number) (h.server == i) (λ _. refl) (λ _. refl)
@@ -41,14 +48,18 @@ module _ (gs : List Agent) where
   ascends_kept i made [] a = tt
   ascends_kept i made (h ∷ held) a = (above_kept i made h.question.number (ended i made h).question.number held (number_kept i made h) a.0, ascends_kept i made held a.1)
 
-  is_held : (w : World) (servers : List Server) (i made asked : ℕ) (h : Pending) → IsHeld w servers asked h → IsHeld w (set_server servers i no_server) asked (ended i made h)
-  is_held w servers i made asked h s = at_bool (λ b. IsHeld w (set_server servers i no_server) asked (cond b (record h { stand = Ended made }) h)) (h.server == i)
-      (λ _. record { numbered = s.numbered; taken = s.taken; awaited = tt; looked = tt })
-      (λ e. held_same w servers (set_server servers i no_server) asked h (ap (λ (x : Server). x.applied) (item_other no_server servers i h.server no_server (eq_tells_not h.server i e))) s)
+  -- where all that it holds may have something due
+  abbrev AreAwake : ℕ → List Pending → Type 0
+  AreAwake i held = Each (λ (h : Pending). h.server ≡ i → MayBeDue h.question.number wt) held
 
-  held_kept : (w : World) (servers : List Server) (i made asked : ℕ) (held : List Pending) → Each (IsHeld w servers asked) held → Each (IsHeld w (set_server servers i no_server) asked) (map (ended i made) held)
-  held_kept w servers i made asked [] all = tt
-  held_kept w servers i made asked (h ∷ held) all = (is_held w servers i made asked h all.0, held_kept w servers i made asked held all.1)
+  is_held : (w : World) (servers : List Server) (i made asked : ℕ) (h : Pending) → (h.server ≡ i → MayBeDue h.question.number wt) → IsHeld w servers asked h → IsHeld w (set_server servers i no_server) asked (ended i made h)
+  is_held w servers i made asked h awake s = at_bool (λ b. IsHeld w (set_server servers i no_server) asked (cond b (record h { stand = Ended made }) h)) (h.server == i)
+      (λ e. record { numbered = s.numbered; taken = s.taken; awaited = tt; watched = inl (awake (eq_tells h.server i e)) })
+      (λ e. held_same wt w servers (set_server servers i no_server) asked h (ap (λ (x : Server). x.applied) (item_other no_server servers i h.server no_server (eq_tells_not h.server i e))) s)
+
+  held_kept : (w : World) (servers : List Server) (i made asked : ℕ) (held : List Pending) → AreAwake i held → Each (IsHeld w servers asked) held → Each (IsHeld w (set_server servers i no_server) asked) (map (ended i made) held)
+  held_kept w servers i made asked [] awake all = tt
+  held_kept w servers i made asked (h ∷ held) awake all = (is_held w servers i made asked h awake.0 all.0, held_kept w servers i made asked held awake.1 all.1)
 
   nothing_sound : (agreed : Log) (commit : ℕ) → ServerIsSound agreed commit no_server
   nothing_sound agreed commit = record { front = refl; within = omega arith; clocks = refl }
@@ -58,16 +69,17 @@ module _ (gs : List Agent) where
   ended_with i made r = record r { held = map (ended i made) r.held }
 
   -- the parts of a server that begins again stand
-  stands_ended : (i made : ℕ) (w : World) (servers : List Server) (r : Requests) → Stands w servers r → Stands w (set_server servers i no_server) (ended_with i made r)
-  stands_ended i made w servers r s = record {
+  stands_ended : (i made : ℕ) (w : World) (servers : List Server) (r : Requests) → AreAwake i r.held → Stands w servers r → Stands w (set_server servers i no_server) (ended_with i made r)
+  stands_ended i made w servers r awake s = record {
     reached = s.reached;
     some = omega (arith, s.some, length_set_server servers i no_server);
     count = length_set_server servers i no_server ∙ s.count;
+    watching = (s.watching.0 ∙ sym (length_set_server servers i no_server), s.watching.1);
     sound = sound_with w servers i no_server s.sound (nothing_sound w.agreed (node_of w i).commit);
     joined = s.joined;
     proposed = s.proposed;
     ascends = ascends_kept i made r.held s.ascends;
-    held = held_kept w servers i made r.asked r.held s.held;
+    held = held_kept w servers i made r.asked r.held awake s.held;
   }
 
   ended_marked : (failed : Bool) (i made count : ℕ) (r r' : Requests) → IsMarked failed i count r r' → IsMarked failed i count (ended_with i made r) (ended_with i made r')
@@ -95,21 +107,22 @@ module _ (gs : List Agent) where
           subst (λ (x : Server). ServerIsSound w'.agreed (node_of w' j).commit x) (sym (item_other no_server servers i j no_server other))
           (server_later w w' on (node_of w j).commit (node_of w' j).commit (server_of servers j) (omega (arith, commit)) (sound j))) refl
 
-  restart_stands : (failed : Bool) (i : ℕ) (w w' : World) (servers : List Server) (r r' : Requests) → Stands w servers r → KeepsAgreement w w' → WorldStep w (world.Restarts i) w'
+  restart_stands : (failed : Bool) (i : ℕ) (w w' : World) (servers : List Server) (r r' : Requests) → AreAwake i r.held → Stands w servers r → KeepsAgreement w w' → WorldStep w (world.Restarts i) w'
       → IsMarked failed i (length w'.agreed - length w.agreed) r r' → Stands w' (set_server servers i no_server) (ended_all i r')
-  restart_stands failed i w w' servers r r' s k step m =
+  restart_stands failed i w w' servers r r' awake s k step m =
       let made = events_noted r'.notes in
-      stands_marked gs failed i w w' (set_server servers i no_server) (ended_with i made r) (ended_with i made r') (stands_ended i made w servers r s) k
+      stands_marked gs wt failed i w w' (set_server servers i no_server) (ended_with i made r) (ended_with i made r') (stands_ended i made w servers r awake s) k
       (restart_carries w w' servers i s.reached s.count s.sound step) (ap (λ (v : World). v.greatest) step.4) (ended_marked failed i made (length w'.agreed - length w.agreed) r r' m)
 
-  pub restart_acts : (i : ℕ) (w w' : World) (servers servers' : List Server) (r r₁ r₂ r' : Requests) (c : Cluster) (before now : Seen) (room : ℕ) → Stands w servers r → cluster_of w servers r ≡ c → r₁ ≡ record r { room = room } → KeepsAgreement w w'
-      → servers' ≡ set_server servers i no_server → WorldStep w (world.Restarts i) w' → before ≡ seen_of w i → now ≡ seen_of w' i → IsMarked now.halted i (now.agreed - before.agreed) r₁ r₂ → r' ≡ ended_all i r₂ → ActedWhole gs i (event.Restart i) c w' servers' r'
-  restart_acts i w w' servers servers' r r₁ r₂ r' c before now room s view ready k same step was seen m e =
-      let p = with_room gs w servers r r₁ room s ready in
+  pub restart_acts : (i : ℕ) (w w' : World) (servers servers' : List Server) (r r₁ r₂ r' : Requests) (c : Cluster) (before now : Seen) (room : ℕ) → AreAwake i r.held → Stands w servers r → cluster_of w servers r ≡ c → r₁ ≡ record r { room = room } → KeepsAgreement w w'
+      → servers' ≡ set_server servers i no_server → WorldStep w (world.Restarts i) w' → before ≡ seen_of w i → now ≡ seen_of w' i → IsMarked now.halted i (now.agreed - before.agreed) r₁ r₂ → r' ≡ ended_all i r₂ → ActedWhole gs wt i (event.Restart i) c w' servers' r'
+  restart_acts i w w' servers servers' r r₁ r₂ r' c before now room awake s view ready k same step was seen m e =
+      let p = with_room gs wt w servers r r₁ room s ready in
       let failed = (node_of w' i).halted in
       let marks : IsMarked failed i (length w'.agreed - length w.agreed) r₁ r₂ = subst (λ (z : Seen). IsMarked failed i (length w'.agreed - z.agreed) r₁ r₂) was (subst (λ (z : Seen). IsMarked z.halted i (z.agreed - before.agreed) r₁ r₂) seen m) in
-      let stands = restart_stands failed i w w' servers r₁ r₂ p.0 k step marks in
-      let moves = cluster_marked gs failed i w w' servers r₁ r₂ p.0 k marks in
+      let awake₁ : AreAwake i r₁.held = subst (λ (q : Requests). AreAwake i q.held) (sym ready) awake in
+      let stands = restart_stands failed i w w' servers r₁ r₂ awake₁ p.0 k step marks in
+      let moves = cluster_marked gs wt failed i w w' servers r₁ r₂ p.0 k marks in
       let is : cluster_of w' (set_server servers i no_server) (ended_all i r₂) ≡ begun_anew i (cluster_of w' servers r₂) = ends_by w' (set_server servers i no_server) gs r₂ i in
-      let whole : ActedWhole gs i (event.Restart i) (cluster_of w servers r₁) w' (set_server servers i no_server) (ended_all i r₂) = record { stands = stands; whole = (restarts w' refl refl step (is ∙ ap (begun_anew i) moves), tt) } in
-      subst (λ (q : Requests). ActedWhole gs i (event.Restart i) c w' servers' q) (sym e) (whole_with gs i (event.Restart i) (cluster_of w servers r₁) c w' (set_server servers i no_server) servers' (ended_all i r₂) (p.1 ∙ view) same whole)
+      let whole : ActedWhole gs wt i (event.Restart i) (cluster_of w servers r₁) w' (set_server servers i no_server) (ended_all i r₂) = record { stands = stands; whole = (restarts w' refl refl step (is ∙ ap (begun_anew i) moves), tt) } in
+      subst (λ (q : Requests). ActedWhole gs wt i (event.Restart i) c w' servers' q) (sym e) (whole_with gs wt i (event.Restart i) (cluster_of w servers r₁) c w' (set_server servers i no_server) servers' (ended_all i r₂) (p.1 ∙ view) same whole)

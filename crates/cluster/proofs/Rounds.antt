@@ -23,17 +23,21 @@ use Rattle.cluster.specs.declared.moving.Seen.{Seen}
 use Rattle.cluster.specs.declared.probing.NewRead.{NewRead}
 use Rattle.cluster.specs.Asking.{EndsProbe, IsNewRead}
 use Rattle.cluster.specs.Moving.{MarksStep, seen_of}
-use Rattle.cluster.specs.Standing.{Stands}
+use Rattle.cluster.specs.Standing as standing
 use Rattle.cluster.proofs.Carried.{carries, probing_goes}
 use Rattle.cluster.proofs.Handled.{Comes, below_next, hold_stands, holds_as, numbered_cluster, numbered_stands}
 use Rattle.cluster.proofs.Marking.{cluster_marked, stands_proposed, with_room}
 use Rattle.cluster.proofs.Proposing.{marked_asked, marked_held}
 use Rattle.agent_rules.specs.Agents.{Agent}
+use Rattle.cluster.specs.Watching.{Watching}
 
-module _ (gs : List Agent) where
+module _ (gs : List Agent) (wt : Watching) where
   -- the cluster of these parts, with these agents
   abbrev cluster_of : World → List Server → Requests → Cluster
   cluster_of w servers r = whole_of w servers gs r
+
+  abbrev Stands : World → List Server → Requests → Type 0
+  Stands w servers r = standing.Stands wt w servers r
 
   -- the next round fits
   pub rounds_fit : (w : World) (i : ℕ) → (node_of w i).round < 2 ^ 64 - 1 → (n : Node) → IsServer w i n → n.round < 2 ^ 64 - 1
@@ -41,7 +45,7 @@ module _ (gs : List Agent) where
 
   -- what is known of a read for which a round is begun
   pub record IsProbing (w : World) (servers : List Server) (r : Requests) (i : ℕ) (read : NewRead) (deadline : ℕ) : Type 0 where
-    pub at : Comes gs w servers r (cluster_of w servers r) read.question.agent read.asked read.question.draw
+    pub at : Comes gs wt w servers r (cluster_of w servers r) read.question.agent read.asked read.question.draw
     pub new : IsNewRead (cluster_of w servers r) i read deadline
     pub taken : IsTakenAsked read.asked
     pub go : (is_stale_read read.asked || is_ready (cluster_of w servers r) i) ≡ true
@@ -68,39 +72,42 @@ module _ (gs : List Agent) where
       marks = subst (λ (s : Seen). MarksStep s (seen_of w' i) i r₁ mid) was (subst (λ (s : Seen). MarksStep before s i r₁ mid) seen marked)
 
       stands₁ : Stands w servers r₁
-      stands₁ = numbered_stands gs w servers r (cluster_of w servers r) read.question.agent read.asked read.question.draw is.at
+      stands₁ = numbered_stands gs wt w servers r (cluster_of w servers r) read.question.agent read.asked read.question.draw is.at
 
       moved_cluster : cluster_of w' servers mid ≡ moved i w' c₁
       moved_cluster =
-          cluster_marked gs (not (node_of w i).halted && (node_of w' i).halted) i w w' servers r₁ mid stands₁ keeps marks
-          ∙ ap (moved i w') (numbered_cluster gs w servers r (cluster_of w servers r) read.question.agent read.asked read.question.draw is.at)
+          cluster_marked gs wt (not (node_of w i).halted && (node_of w' i).halted) i w w' servers r₁ mid stands₁ keeps marks
+          ∙ ap (moved i w') (numbered_cluster gs wt w servers r (cluster_of w servers r) read.question.agent read.asked read.question.draw is.at)
 
       low : w'.greatest ≤ r₁.asked
       low = omega (arith, acts_greatest w i Probe w' a, is.at.stands.proposed)
 
       moved_stands : Stands w' servers mid
-      moved_stands = stands_proposed gs (not (node_of w i).halted && (node_of w' i).halted) i w w' servers r₁ mid stands₁ keeps (carries w w' servers (probing_goes w i w' is.at.stands.reached a) is.at.stands.sound) low marks
+      moved_stands = stands_proposed gs wt (not (node_of w i).halted && (node_of w' i).halted) i w w' servers r₁ mid stands₁ keeps (carries w w' servers (probing_goes w i w' is.at.stands.reached a) is.at.stands.sound) low marks
 
       held_so : (round : Round) → round ≡ next_round a.old → r' ≡ used (holding_with read.question i (InRound round deadline) (Probed read.question.number i round) mid)
           → HandlesNewest i read.question.agent read.asked read.question.draw (cluster_of w servers r) (cluster_of w' servers r') × Stands w' servers r'
       held_so round begun e =
           let same : round ≡ next_round (node_of w i) = begun ∙ ap next_round (sym (is_node w i a.old a.server)) in
-          let done = holds_as gs w' servers mid r' read.question i (InRound round deadline) (Probed read.question.number i round) (moved i w' c₁) moved_cluster e in (
+          let done = holds_as gs wt w' servers mid r' read.question i (InRound round deadline) (Probed read.question.number i round) (moved i w' c₁) moved_cluster e in (
             probes is.new.wait w' is.new.look (one_of (is_stale_read read.asked) (is_ready (cluster_of w servers r) i) is.go) a
                 (done ∙ ap (λ (x : Question). holding x i (InRound round deadline) (Probed x.number i round) (moved i w' c₁)) question_is
                 ∙ ap (λ (x : Round). holding q i (InRound x deadline) (Probed q.number i x) (moved i w' c₁)) same
                 ∙ ap (λ d. holding q i (InRound (next_round (node_of w i)) d) (Probed q.number i (next_round (node_of w i))) (moved i w' c₁)) is.new.deadline_is),
-            hold_stands gs w' servers mid r' read.question i (InRound round deadline) (Probed read.question.number i round) moved_stands below given asked_taken tt tt e,
+            hold_stands gs wt w' servers mid r' read.question i (InRound round deadline) (Probed read.question.number i round) moved_stands below given asked_taken tt fresh e,
           )
         where
           held_same : mid.held ≡ r.held
-          held_same = marked_held gs (not (node_of w i).halted && (node_of w' i).halted) i (length w'.agreed - length w.agreed) r₁ mid marks
+          held_same = marked_held gs wt (not (node_of w i).halted && (node_of w' i).halted) i (length w'.agreed - length w.agreed) r₁ mid marks
 
           below : Each (λ (h : Pending). h.question.number < read.question.number) mid.held
-          below = subst (Each (λ (h : Pending). h.question.number < read.question.number)) (sym held_same) (below_next gs w servers r read.question.number is.at.stands (ap (λ (x : Question). x.number) is.new.question))
+          below = subst (Each (λ (h : Pending). h.question.number < read.question.number)) (sym held_same) (below_next gs wt w servers r read.question.number is.at.stands (ap (λ (x : Question). x.number) is.new.question))
 
           given : read.question.number ≤ mid.asked
-          given = omega (arith, ap (λ (x : Question). x.number) is.new.question, marked_asked gs (not (node_of w i).halted && (node_of w' i).halted) i (length w'.agreed - length w.agreed) r₁ mid marks)
+          given = omega (arith, ap (λ (x : Question). x.number) is.new.question, marked_asked gs wt (not (node_of w i).halted && (node_of w' i).halted) i (length w'.agreed - length w.agreed) r₁ mid marks)
+
+          fresh : wt.seen < read.question.number
+          fresh = omega (arith, ap (λ (x : Question). x.number) is.new.question, is.at.stands.watching.1)
 
           asked_taken : IsTakenAsked read.question.asked
           asked_taken = subst IsTakenAsked (sym (ap (λ (x : Question). x.asked) is.new.question)) is.taken
@@ -118,7 +125,7 @@ module _ (gs : List Agent) where
     ended before now (Ok round) (Err u) was seen begun same ends = absurd ends
     ended before now (Err why) (Ok u) was seen begun same ends = absurd ends
     ended before now (Err why) (Err u) was seen begun same ends =
-        let here = with_room gs w servers r (record r { room = 4 }) 4 is.at.stands refl in (
+        let here = with_room gs wt w servers r (record r { room = 4 }) 4 is.at.stands refl in (
           tt,
           subst (λ (v : World). cluster_of v servers r' ≡ cluster_of w servers r) (sym same) (ap (cluster_of w servers) ends ∙ here.1),
           subst (λ (v : World). Stands v servers r') (sym same) (subst (Stands w servers) (sym ends) here.0),

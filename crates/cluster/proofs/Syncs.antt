@@ -14,6 +14,7 @@ use Rattle.cluster_rules.specs.Reached.{IsAgentNumber}
 use Rattle.cluster_rules.specs.Replies.{Out, Synced}
 use Rattle.cluster_rules.specs.Requests.{moved}
 use Rattle.open_requests.specs.Requests.{Requests, cluster_of as whole_of, told_sync}
+use Rattle.cluster.specs.Watching.{Watching}
 use Rattle.cluster.specs.Agents.{agent_at}
 use Rattle.cluster.specs.Standing.{Stands}
 use Rattle.cluster.specs.Syncing.{IsPlan, PlansWhole}
@@ -29,9 +30,9 @@ pub counted : (gs : List Agent) (w : World) (servers : List Server) (r new : Req
     → whole_of w servers gs new ≡ synced agent (Some n) c
 counted gs w servers r new agent n c e is = ap (whole_of w servers gs) is ∙ ap (λ (d : Cluster). synced agent (Some n) (record d { fresh = c.fresh })) e
 
-pub fresh_stands : (w : World) (servers : List Server) (r new : Requests) (outs : List Out) → Stands w servers r → new ≡ record r { fresh = outs } → Stands w servers new
-fresh_stands w servers r new outs s e =
-    subst (Stands w servers) (sym e) (record { reached = s.reached; some = s.some; count = s.count; sound = s.sound; joined = s.joined; proposed = s.proposed; ascends = s.ascends; held = s.held })
+pub fresh_stands : (wt : Watching) (w : World) (servers : List Server) (r new : Requests) (outs : List Out) → Stands wt w servers r → new ≡ record r { fresh = outs } → Stands wt w servers new
+fresh_stands wt w servers r new outs s e =
+    subst (Stands wt w servers) (sym e) (record { reached = s.reached; some = s.some; count = s.count; watching = s.watching; sound = s.sound; joined = s.joined; proposed = s.proposed; ascends = s.ascends; held = s.held })
 
 -- Proposals neither read nor change agents and outs.
 abbrev beside : List Agent → List Out → Cluster → Cluster

@@ -1,9 +1,14 @@
 -- A turn does what is due first, and leaves less to do.
-use Rattle.std.proofs.Common.{◌≡◌, ◌⊎◌, inl, inr, ℕ, ◌<◌, ◌≤◌, length, List, Option, None, Some, refl, sym, subst, arith}
+use Rattle.std.proofs.Common.{◌≡◌, ◌⊎◌, inl, inr, ℕ, ◌<◌, ◌≤◌, length, List, ◌∷◌, ◌++◌, None, refl, sym, ◌∙◌, subst, arith}
 use Rattle.raft_model.specs.Node.{Node}
 use Rattle.raft_model.specs.World.{World, IsReached, IsServer}
-use Rattle.cluster_rules.specs.Cluster.{Cluster, Server, no_node, node_of}
-use Rattle.cluster_rules.specs.Due.{IsDue, Work, did, due}
+use Rattle.cluster_rules.specs.Cluster.{Cluster, Pending, Server, no_node, node_of}
+use Rattle.cluster_rules.specs.Due.{IsDue, Work, did, due, early, early_work, first_work, late, late_work, next_one, next_work}
+use Rattle.cluster_rules.proofs.Cases.{no_work}
+use Rattle.cluster_rules.proofs.Steps.{or_left, or_right}
+use Rattle.cluster.proofs.Numbered.{each_at}
+use Rattle.cluster.proofs.Slept.{none_first}
+use Rattle.std.specs.List.{AllByRecursion as Each}
 use Rattle.cluster_rules.specs.Left.{left}
 use Rattle.cluster_rules.specs.Reached.{IsServerNumber}
 use Rattle.cluster_rules.specs.Sound.{Ascends}
@@ -11,28 +16,18 @@ use Rattle.cluster_rules.proofs.Boundary.{commit_within}
 use Rattle.cluster_rules.proofs.Measure.{did_less}
 use Rattle.cluster_rules.proofs.Tools.{there_or_none}
 use Rattle.open_requests.specs.Requests.{Requests, cluster_of as whole_of}
-use Rattle.cluster.specs.declared.work.Work as own
-use Rattle.cluster.specs.Standing.{Stands}
-use Rattle.cluster.specs.Working.{IsFound}
-use Rattle.cluster.proofs.Dues.{due_is}
+use Rattle.cluster.specs.Standing as standing
+use Rattle.cluster.specs.Working.{DidDue}
 use Rattle.agent_rules.specs.Agents.{Agent}
+use Rattle.cluster.specs.Watching.{Watching}
 
-module _ (gs : List Agent) where
+module _ (gs : List Agent) (wt : Watching) where
   -- the cluster of these parts, with these agents
   abbrev cluster_of : World → List Server → Requests → Cluster
   cluster_of w servers r = whole_of w servers gs r
 
-  -- what was done is due
-  abbrev Did : ℕ → Cluster → Cluster → Type 0
-  Did i c new = (w : Work) × IsDue i c w × (new ≡ did i w c)
-
-  something : (c : Cluster) (i : ℕ) (work : own.Work) (found : Option Work) → IsFound c i found (Some work) → (w : Work) × (found ≡ Some w)
-  something c i work None is = absurd is
-  something c i work (Some w) is = (w, refl)
-
-  pub turned : (c new : Cluster) (i : ℕ) (work : own.Work) (known : Option own.Work) → known ≡ Some work → IsFound c i (due i c) known → ((w : Work) → due i c ≡ Some w → new ≡ did i w c) → Did i c new
-  turned c new i work known is found done =
-      let s = something c i work (due i c) (subst (λ (k : Option own.Work). IsFound c i (due i c) k) is found) in (s.0, due_is gs i c s.0 s.1, done s.0 s.1)
+  abbrev Stands : World → List Server → Requests → Type 0
+  Stands w servers r = standing.Stands wt w servers r
 
   committed_within : (w : World) → IsReached w → (i : ℕ) → (node_of w i).commit ≤ length (node_of w i).log
   committed_within w reached i = by (there_or_none w i)
@@ -41,8 +36,18 @@ module _ (gs : List Agent) where
       by (inl none) = subst (λ (n : Node). n.commit ≤ length n.log) (sym none) (omega arith)
       by (inr there) = commit_within w reached i (node_of w i) there
 
-  pub less_left : (w : World) (servers : List Server) (r : Requests) (c new : Cluster) (i : ℕ) → Stands w servers r → cluster_of w servers r ≡ c → IsServerNumber c i → Did i c new → left i new < left i c
+  pub less_left : (w : World) (servers : List Server) (r : Requests) (c new : Cluster) (i : ℕ) → Stands w servers r → cluster_of w servers r ≡ c → IsServerNumber c i → DidDue i c new → left i new < left i c
   less_left w servers r c new i stands view number done =
       let ascends = subst (λ (d : Cluster). Ascends d.held) view stands.ascends in
       let kept = subst (λ (d : Cluster). (node_of d.world i).commit ≤ length (node_of d.world i).log) view (committed_within w stands.reached i) in
       subst (λ (d : Cluster). left i d < left i c) (sym done.2) (did_less c ascends i number.0 number.1 kept done.0 done.1)
+
+  -- what is due is something
+  pub due_some : (c : Cluster) (i : ℕ) (w : Work) → IsDue i c w → due i c ≡ None → ⊥
+  due_some c i w (early before after h there e) d =
+      let each : Each (λ (g : Pending). early_work c i g ≡ None) (before ++ h ∷ after) = subst (Each (λ (g : Pending). early_work c i g ≡ None)) there (none_first (early_work c i) c.held (or_left (first_work (early_work c i) c.held) _ d)) in
+      no_work w (sym (each_at (λ (g : Pending). early_work c i g ≡ None) before after h each) ∙ e)
+  due_some c i w (next_one none e) d = no_work w (sym (or_left (next_work c i) _ (or_right (first_work (early_work c i) c.held) _ d)) ∙ e)
+  due_some c i w (late none next before after h there e) d =
+      let each : Each (λ (g : Pending). late_work c i g ≡ None) (before ++ h ∷ after) = subst (Each (λ (g : Pending). late_work c i g ≡ None)) there (none_first (late_work c i) c.held (or_right (next_work c i) _ (or_right (first_work (early_work c i) c.held) _ d))) in
+      no_work w (sym (each_at (λ (g : Pending). late_work c i g ≡ None) before after h each) ∙ e)

@@ -10,4 +10,5 @@ pub mod Proposing
 pub mod Standing
 pub mod Syncing
 pub mod Tending
+pub mod Watching
 pub mod Working

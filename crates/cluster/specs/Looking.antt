@@ -1,11 +1,14 @@
 -- Which of the held requests has something due before the next position is applied.
-use Rattle.std.specs.Prelude.{◌≡◌, ℕ, ◌-◌, nat_le, nat_lt, ◌==◌, not, ◌&&◌, ◌||◌, if◌then◌else◌, Bool, true, false, length, take, Option, Some}
+use Rattle.std.specs.Prelude.{◌≡◌, ℕ, ◌-◌, nat_le, nat_lt, ◌==◌, not, ◌&&◌, ◌||◌, if◌then◌else◌, Bool, true, false, List, length, take, Option, None, Some}
+use Rattle.std.specs.List.{find}
 use Rattle.cat_model.specs.declared.command.Command.{Command}
+use Rattle.cat_model.specs.declared.query.Query.{Query}
 use Rattle.cat_model.specs.declared.request.Request.TheVariants.{Read, Execute}
 use Rattle.cat_model.specs.declared.request.Asked.{Asked}
 use Rattle.cat_model.specs.declared.request.Asked.TheVariants.{Good}
 use Rattle.cat_model.specs.declared.reply.Kind.TheVariants.{Refused}
 use Rattle.cat_model.specs.declared.reply.Refusal.TheVariants as refusal
+use Rattle.cat_model.specs.Indexes.{index_of}
 use Rattle.cat_model.specs.Log.{commands_of}
 use Rattle.cat_model.specs.Machine.{reply_to}
 use Rattle.raft_model.specs.declared.message.Round.{Round}
@@ -15,24 +18,24 @@ use Rattle.replica.specs.States.{last_reply}
 use Rattle.cluster_rules.specs.Lasting.{IsWrite}
 use Rattle.cluster_rules.specs.Replies.{Question, entered}
 use Rattle.cluster_rules.specs.Cluster.{Cluster, Pending, Stand, AtPlace, InRound, ForIndex, Ended, applied_of, clock_of, node_of}
-use Rattle.cluster_rules.specs.Due.{Work, Replies, Holds, is_new, was_seen}
+use Rattle.cluster_rules.specs.Due.{Work, Replies, Holds}
 
--- Its time is over, or it was not looked for yet at just so many positions as the server has applied.
-abbrev pub is_read_due : Cluster → ℕ → ℕ → Option ℕ → Bool
-is_read_due c i deadline seen = nat_le deadline (clock_of c.world i) || not (was_seen seen (length (applied_of c i)))
+-- It was not looked for yet, or its time is over, or its index is above the one given.
+abbrev pub is_read_due : Cluster → ℕ → ℕ → Bool → Query → ℕ → Bool
+is_read_due c i deadline looked query least = not looked || (nat_le deadline (clock_of c.world i) || nat_lt least (index_of query (commands_of (applied_of c i))))
 
 -- What waits for an index is a read, or an execution, which waits for nothing.
-abbrev pub is_look_due : Cluster → ℕ → ℕ → Option ℕ → Asked → Bool
-is_look_due c i deadline seen (Good (Read query mode least wait raw)) = is_read_due c i deadline seen
-is_look_due c i deadline seen (Good (Execute name limit mode)) = true
-is_look_due c i deadline seen other = false
+abbrev pub is_look_due : Cluster → ℕ → ℕ → Bool → Asked → Bool
+is_look_due c i deadline looked (Good (Read query mode least wait raw)) = is_read_due c i deadline looked query least
+is_look_due c i deadline looked (Good (Execute name limit mode)) = true
+is_look_due c i deadline looked other = false
 
 -- By what it waits for.
 abbrev pub is_stand_due : Cluster → ℕ → Asked → Stand → Bool
 is_stand_due c i asked (Ended event) = true
 is_stand_due c i asked (AtPlace index term) = nat_le index (length (applied_of c i))
 is_stand_due c i asked (InRound round deadline) = nat_lt round.term (node_of c.world i).term
-is_stand_due c i asked (ForIndex deadline seen) = is_look_due c i deadline seen asked
+is_stand_due c i asked (ForIndex deadline looked) = is_look_due c i deadline looked asked
 
 -- A halted server lets go of all that it holds.
 abbrev pub is_early : Cluster → ℕ → Pending → Bool
@@ -51,11 +54,25 @@ is_stand_late c i other = false
 abbrev pub is_late : Cluster → ℕ → Pending → Bool
 is_late c i h = h.server == i && is_stand_late c i h.stand
 
--- A query whose index is not above the one given is held on, or is refused where it is new and 4,096 wait already.
-abbrev pub waits_on : Pending → ℕ → Log → ℕ → Option ℕ → Option Work
-waits_on h others applied deadline seen =
-    if is_new seen && nat_le 4096 others then Some (Replies h.question (Refused (refusal.TooMany others)))
-    else Some (Holds (record h { stand = ForIndex deadline (Some (length applied)) }))
+-- of the held request with this number, if there is one
+abbrev pub test_held : (Pending → Bool) → Option Pending → Bool
+test_held test None = false
+test_held test (Some h) = test h
+
+abbrev pub numbered_in : ℕ → List Pending → Option Pending
+numbered_in number held = find (λ h. h.question.number == number) held
+
+abbrev pub is_number_early : Cluster → ℕ → ℕ → Bool
+is_number_early c i number = test_held (is_early c i) (numbered_in number c.held)
+
+abbrev pub is_number_late : Cluster → ℕ → ℕ → Bool
+is_number_late c i number = test_held (is_late c i) (numbered_in number c.held)
+
+-- A new query whose index is not above the one given waits, or is refused where 4,096 wait already.
+abbrev pub waits_on : Pending → ℕ → ℕ → Option Work
+waits_on h others deadline =
+    if nat_le 4096 others then Some (Replies h.question (Refused (refusal.TooMany others)))
+    else Some (Holds (record h { stand = ForIndex deadline true }))
 
 -- the last reply is that to this command of the request, entered at this position
 abbrev pub RepliesLast : Question → ℕ → Log → Command → Type 0

@@ -1,15 +1,18 @@
 -- What the parts of a cluster have to do with each other.
-use Rattle.std.specs.Prelude.{◌≡◌, ℕ, ◌<◌, ◌≤◌, List, length, Some}
+use Rattle.std.specs.Prelude.{◌≡◌, ◌⊎◌, ℕ, ◌<◌, ◌≤◌, true, List, length}
 use Rattle.std.specs.List.{AllByRecursion as Each}
 use Rattle.cat_model.specs.declared.command.Command.{Command}
 use Rattle.cat_model.specs.declared.request.Asked.{Asked}
 use Rattle.cat_model.specs.declared.request.Asked.TheVariants.{Good}
 use Rattle.cat_model.specs.declared.request.Request.TheVariants.{Read}
+use Rattle.cat_model.specs.Channels.{chans}
 use Rattle.cat_model.specs.Indexes.{index_of}
 use Rattle.cat_model.specs.Log.{commands_of}
+use Rattle.cat_model.specs.Machine.{catalog_at}
 use Rattle.raft_model.specs.Facts.{IsPlaced}
 use Rattle.raft_model.specs.Log.{Log}
 use Rattle.raft_model.specs.World.{World, IsReached}
+use Rattle.cluster.specs.Watching.{Watching, MayBeDue, Sleeps}
 use Rattle.request_rules.specs.Taken.{IsTakenAsked}
 use Rattle.cluster_rules.specs.Cluster.{Stand, AtPlace, ForIndex, Pending, Server, node_of, server_of}
 use Rattle.cluster_rules.specs.Lasting.{IsWrite}
@@ -28,33 +31,34 @@ abbrev pub IsAwaited : World → ℕ → Question → Stand → Type 0
 IsAwaited w applied q (AtPlace index term) = (0 < index) × (applied ≤ index) × IsWrite q.asked (HasPlace w index term q)
 IsAwaited w applied q other = Unit {0}
 
--- A read at this applied prefix: its index is not above the one given.
-abbrev pub IsNotThere : Log → Asked → Type 0
-IsNotThere applied (Good (Read query mode least wait raw)) = index_of query (commands_of applied) ≤ least
-IsNotThere applied other = Unit {0}
+-- A read sleeps at its server, on just the channels of what it reads there, and its index is not above the one given.
+abbrev pub Rests : Watching → Log → (server number : ℕ) → Asked → Stand → Type 0
+Rests watch applied server number (Good (Read query mode least wait raw)) (ForIndex deadline true) =
+    Sleeps server number (chans query (catalog_at (commands_of applied))) deadline watch × (index_of query (commands_of applied) ≤ least)
+Rests watch applied server number asked stand = ⊥
 
--- What waits for an index was looked for last after no more positions than its server has applied, and where it was
--- after just those, the index was not there.
-abbrev pub IsLookedFor : Log → Asked → Stand → Type 0
-IsLookedFor applied asked (ForIndex deadline (Some n)) = (n ≤ length applied) × (n ≡ length applied → IsNotThere applied asked)
-IsLookedFor applied asked other = Unit {0}
+-- A held request of which nothing may be due rests: nothing is due of it before its server applies what changes its answer, or its
+-- time is over.
+abbrev pub IsWatched : Watching → Log → Pending → Type 0
+IsWatched watch applied h = MayBeDue h.question.number watch ⊎ Rests watch applied h.server h.question.number h.question.asked h.stand
 
--- a held request is one of those that are taken so far, with a number that was given
-pub record IsHeld (w : World) (servers : List Server) (asked : ℕ) (h : Pending) : Type 0 where
+-- a held request is one of those that are taken so far, with a number that was given, and is watched
+pub record IsHeld (watch : Watching) (w : World) (servers : List Server) (asked : ℕ) (h : Pending) : Type 0 where
   pub numbered : h.question.number ≤ asked
   pub taken : IsTakenAsked h.question.asked
   pub awaited : IsAwaited w (length (server_of servers h.server).applied) h.question h.stand
-  pub looked : IsLookedFor (server_of servers h.server).applied h.question.asked h.stand
+  pub watched : IsWatched watch (server_of servers h.server).applied h
 
 -- The world is one of a run with as many servers, of which there is one at least, each has applied a front of the agreed
 -- log, the notes count the agreed log, no proposal has a number above those that were given, and held requests stand in
--- the order of their numbers.
-pub record Stands (w : World) (servers : List Server) (r : Requests) : Type 0 where
+-- the order of their numbers, each watched.
+pub record Stands (watch : Watching) (w : World) (servers : List Server) (r : Requests) : Type 0 where
   pub reached : IsReached w
   pub some : 0 < length servers
   pub count : length servers ≡ length w.nodes
+  pub watching : (length watch.watch.servers ≡ length servers) × (watch.seen ≤ r.asked)
   pub sound : (i : ℕ) → ServerIsSound w.agreed (node_of w i).commit (server_of servers i)
   pub joined : joined_in r.notes ≡ length w.agreed
   pub proposed : w.greatest ≤ r.asked
   pub ascends : Ascends r.held
-  pub held : Each (IsHeld w servers r.asked) r.held
+  pub held : Each (IsHeld watch w servers r.asked) r.held

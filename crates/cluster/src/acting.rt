@@ -9,6 +9,7 @@ ghost use Rattle.cluster_turns.specs.Turns.{ActsCut, ActsWhole, event_of};
 
 use crate::cluster::Cluster;
 use crate::moving::{end, mark, mark_step, seat, see};
+use crate::watching::wake_held;
 use cat_model::Memory;
 use cat_outside::Keeper;
 use cluster_turns::{Cut, Impulse};
@@ -90,11 +91,13 @@ impl<K: Keeper + Drop> Cluster<K> {
         ensures whole { OnOk result (ActsWhole server (event.Restart server) self.old self.new) }
         ensures cut { IfErr result (λ cut. ActsCut server (event.Restart server) cut self.old self.new) }
     {
+        wake_held(&mut self.watch, self.requests.held(), server);
         prepare(&mut self.requests)?;
         let before = see(&self.servers, server);
-        let Ok(()) = self.servers.restart(alloc, server) else {
-            return Err(Cut::Before);
-        };
+        match self.servers.restart(alloc, server) {
+            Ok(()) => {}
+            Err(Memory) => return Err(Cut::Before),
+        }
         let now = see(&self.servers, server);
         mark(
             &mut self.requests,

@@ -3,6 +3,7 @@
 ghost use Rattle.std.specs.Prelude.{◌≡◌, length};
 
 use crate::agents::Agents;
+use crate::watching::Watching;
 use cat_model::Entry;
 use cat_outside::Keeper;
 use cluster_servers::Servers;
@@ -16,6 +17,7 @@ pub struct Cluster<K: Keeper> {
     pub(crate) servers: Servers<K>,
     pub(crate) agents: Agents,
     pub(crate) requests: Requests,
+    pub(crate) watch: Watching,
 }
 
 impl<K: Keeper> Model for Cluster<K> {
@@ -27,7 +29,7 @@ impl<K: Keeper> Model for Cluster<K> {
 
     ghost view = { λ c. cluster_of c.servers.world c.servers.servers c.agents c.requests };
 
-    ghost invariant = { λ c. Stands c.servers.world c.servers.servers c.requests };
+    ghost invariant = { λ c. Stands c.watch c.servers.world c.servers.servers c.requests };
 }
 
 impl<K: Keeper> Cluster<K> {

@@ -244,7 +244,7 @@ impl<K: Keeper + Drop> Cluster<K> {
         self.requests.number(agent, copy, draw);
         let stand = Stand::ForIndex {
             deadline,
-            seen: None,
+            looked: false,
         };
         let start = Start::Looked {
             number,

@@ -1,14 +1,14 @@
 //! The held requests whose round is confirmed.
 
-ghost use Rattle.std.specs.Prelude.{◌≡◌, ℕ, Some, true};
-ghost use Rattle.std.specs.List.{find};
+ghost use Rattle.std.specs.Prelude.{◌≡◌, ℕ, IfNone, IfSome, None, false, true};
+ghost use Rattle.std.specs.List.{AllByRecursion as Each, find};
 ghost use Rattle.std.specs.Option.{option_copied};
 ghost use Rattle.cluster_rules.specs.Cluster as rules;
-ghost use Rattle.cluster_rules.specs.Due.{first_work, late_work};
+ghost use Rattle.cluster_rules.specs.Due.{late_work, next_work};
 ghost use Rattle.cluster_rules.specs.Reached.{IsServerNumber};
 ghost use Rattle.open_requests.specs.Contents.{stand_of};
-ghost use Rattle.cluster.specs.Looking.{is_late, is_round_over, is_stand_late};
-ghost use Rattle.cluster.specs.Working.{IsFound};
+ghost use Rattle.cluster.specs.Looking.{is_early, is_late, is_number_late, is_round_over, is_stand_late};
+ghost use Rattle.cluster.specs.Working.{Finds, IsFound};
 
 use crate::cluster::Cluster;
 use crate::work::Work;
@@ -25,7 +25,7 @@ fn past_round(held: &Pending) -> Option<Work>
             number: held.number(),
             stand: Stand::ForIndex {
                 deadline,
-                seen: None,
+                looked: false,
             },
         }),
         _ => None,
@@ -64,6 +64,17 @@ impl<K: Keeper + Drop> Cluster<K> {
         held.server() == server && self.is_stand_late(server, held.stand())
     }
 
+    // The same of the held request with this number, if there is one.
+    fn is_number_late(&self, server: u32, number: u64) -> bool
+        requires { IsServerNumber self.now server }
+        ensures { result ≡ is_number_late self.now server number }
+    {
+        match self.requests.pending(number) {
+            Some(held) => self.is_late(server, held),
+            None => false,
+        }
+    }
+
     // The first of these held requests of the server whose round is over.
     fn first_late<'a>(&self, server: u32, held: &'a [Pending]) -> Option<&'a Pending>
         requires { IsServerNumber self.now server }
@@ -72,13 +83,63 @@ impl<K: Keeper + Drop> Cluster<K> {
         held.iter().find(|h| self.is_late(server, h))
     }
 
-    /// What is due at a server that has applied all that it committed, and of which nothing is due before.
-    pub(crate) fn late_due(&self, server: u32) -> Option<Work>
+    // The number of the first of all that are held.
+    fn late_held(&self, server: u32) -> Option<u64>
         requires { IsServerNumber self.now server }
-        ensures { IsFound self.now server (first_work (late_work self.now server) self.now.held) result }
+        ensures some { IfSome result (λ number. is_number_late self.now server number ≡ true) }
+        ensures none { IfNone result (Each (λ h. is_late self.now server h ≡ false) self.now.held) }
     {
         match self.first_late(server, self.requests.held()) {
+            Some(held) => Some(held.number()),
+            None => None,
+        }
+    }
+
+    // The first of these numbers.
+    fn late_awake(&self, server: u32, numbers: &[u64]) -> Option<u64>
+        requires { IsServerNumber self.now server }
+        ensures { result ≡ find (is_number_late self.now server) numbers.now }
+    {
+        numbers
+            .iter()
+            .copied()
+            .find(|number| self.is_number_late(server, *number))
+    }
+
+    // The number of a held request of the server whose round is over. One that sleeps waits for no round.
+    fn late_number(&self, server: u32) -> Option<u64>
+        requires { IsServerNumber self.now server }
+        ensures some { IfSome result (λ number. is_number_late self.now server number ≡ true) }
+        ensures none { IfNone result (Each (λ h. is_late self.now server h ≡ false) self.now.held) }
+    {
+        if !self.watch.covers(self.requests.asked()) {
+            return self.late_held(server);
+        }
+        self.late_awake(server, self.watch.awake())
+    }
+
+    // The held request with this number is looked for from now on.
+    fn late_of(&self, server: u32, number: u64) -> Option<Work>
+        requires late { is_number_late self.now server number ≡ true }
+        requires none { Each (λ h. is_early self.now server h ≡ false) self.now.held }
+        requires applied { next_work self.now server ≡ None }
+        ensures { Finds self.now server result }
+    {
+        match self.requests.pending(number) {
             Some(held) => past_round(held),
+            None => None,
+        }
+    }
+
+    /// What is due at a server that has applied all that it committed, and of which nothing is due before.
+    pub(crate) fn late_due(&self, server: u32) -> Option<Work>
+        requires server { IsServerNumber self.now server }
+        requires none { Each (λ h. is_early self.now server h ≡ false) self.now.held }
+        requires applied { next_work self.now server ≡ None }
+        ensures { Finds self.now server result }
+    {
+        match self.late_number(server) {
+            Some(number) => self.late_of(server, number),
             None => None,
         }
     }

@@ -1,19 +1,19 @@
 //! What is due at a server.
 
-ghost use Rattle.std.specs.Prelude.{◌≡◌, ◌≢◌, ◌≤◌, ℕ, None, Some, true, IfOk, OnErr, is_some, length};
-ghost use Rattle.std.specs.List.{find};
+ghost use Rattle.std.specs.Prelude.{◌≡◌, ◌≢◌, ◌≤◌, ℕ, None, Some, false, true, IfOk, OnErr, is_some, length};
+ghost use Rattle.std.specs.List.{AllByRecursion as Each};
 ghost use Rattle.cat_model.specs.declared.reply.Kind.TheVariants as kinds;
 ghost use Rattle.cat_model.specs.declared.reply.Refusal.TheVariants as refusals;
 ghost use Rattle.request_rules.specs.Taken.{IsTakenAsked};
 ghost use Rattle.cluster_rules.specs.Cluster as rules;
 ghost use Rattle.cluster_rules.specs.Cluster.{AtPlace, applied_of};
-ghost use Rattle.cluster_rules.specs.Due.{Replies, due, early_stand, early_work, first_work, is_ended, landed, late_work, next_work, or_work};
+ghost use Rattle.cluster_rules.specs.Due.{Replies, due, early_stand, early_work, is_ended, landed};
 ghost use Rattle.cluster_rules.specs.Reached.{IsServerNumber};
 ghost use Rattle.cluster_rules.specs.Replies as replies;
 ghost use Rattle.open_requests.specs.Contents.{content_of, stand_of, write_content};
-ghost use Rattle.cluster.specs.Looking.{IsAppliedLast, is_early};
+ghost use Rattle.cluster.specs.Looking.{IsAppliedLast, is_early, is_number_early};
 ghost use Rattle.cluster.specs.Standing.{IsAwaited};
-ghost use Rattle.cluster.specs.Working.{IsFound, IsWork};
+ghost use Rattle.cluster.specs.Working.{Finds, IsFound, IsWork};
 
 use crate::cluster::Cluster;
 use crate::entering::entered;
@@ -141,8 +141,8 @@ impl<K: Keeper + Drop> Cluster<K> {
             Stand::AtPlace { index, term } => {
                 self.write_due(alloc, server, held.question(), index, term)
             }
-            Stand::ForIndex { deadline, seen } => {
-                self.read_due(alloc, server, held, deadline, seen)
+            Stand::ForIndex { deadline, looked } => {
+                self.read_due(alloc, server, held, deadline, looked)
             }
             Stand::InRound { round, .. } => {
                 let found = self.servers.node(server).term();
@@ -166,40 +166,42 @@ impl<K: Keeper + Drop> Cluster<K> {
         }
     }
 
-    // The next position, where more is committed than applied.
-    #[tactic(auto, using(crate::proofs::Numbers::is_number))]
-    fn next_due(&self, server: u32) -> Option<Work>
+    // What is due of the held request with this number.
+    fn early_of(&self, alloc: Global, server: u32, number: u64) -> Result<Work, Memory>
         requires server { IsServerNumber self.now server }
-        requires none { find (is_early self.now server) self.now.held ≡ None }
-        ensures { IsFound self.now server (next_work self.now server) result }
+        requires early { is_number_early self.now server number ≡ true }
+        ensures found { IfOk result (λ work. Finds self.now server (Some work)) }
+        ensures behind { OnErr result (due server self.now ≢ None) }
+    {
+        match self.requests.pending(number) {
+            Some(held) => self.early_due(alloc, server, held),
+            None => unreachable!(),
+        }
+    }
+
+    // The next position, where more is committed than applied, or a round that is confirmed once there is none.
+    #[tactic(auto, using(crate::proofs::Numbers::is_number))]
+    fn later_due(&self, server: u32) -> Option<Work>
+        requires server { IsServerNumber self.now server }
+        requires none { Each (λ h. is_early self.now server h ≡ false) self.now.held }
+        ensures { Finds self.now server result }
     {
         if self.servers.has_next(server) {
             Some(Work::Apply)
         } else {
-            None
+            self.late_due(server)
         }
     }
 
-    // The next position, or a round that is confirmed once there is none.
-    fn later_due(&self, server: u32) -> Option<Work>
-        requires server { IsServerNumber self.now server }
-        requires none { find (is_early self.now server) self.now.held ≡ None }
-        ensures { IsFound self.now server (or_work (next_work self.now server) (first_work (late_work self.now server) self.now.held)) result }
+    /// Something that is due at a server, if anything is. It lacks memory only where there is something.
+    pub(crate) fn find(&mut self, alloc: Global, server: u32) -> Result<Option<Work>, Memory>
+        requires { IsServerNumber self.old server }
+        ensures same { self.new ≡ self.old }
+        ensures found { IfOk result (Finds self.old server) }
+        ensures behind { OnErr result (due server self.old ≢ None) }
     {
-        match self.next_due(server) {
-            Some(work) => Some(work),
-            None => self.late_due(server),
-        }
-    }
-
-    /// What is due first at a server, if anything is. It lacks memory only where there is something.
-    pub(crate) fn find(&self, alloc: Global, server: u32) -> Result<Option<Work>, Memory>
-        requires { IsServerNumber self.now server }
-        ensures found { IfOk result (λ work. IsFound self.now server (due server self.now) work) }
-        ensures behind { OnErr result (due server self.now ≢ None) }
-    {
-        match self.first_early(server, self.requests.held()) {
-            Some(held) => match self.early_due(alloc, server, held) {
+        match self.early_number(alloc, server) {
+            Some(number) => match self.early_of(alloc, server, number) {
                 Ok(work) => Ok(Some(work)),
                 Err(Memory) => Err(Memory),
             },

@@ -36,7 +36,7 @@ const MOST_WAITING: u32 = 4096;
 fn has_looked(stand: Stand) -> bool
     ensures { result ≡ has_looked (stand_of stand) }
 {
-    matches!(stand, Stand::ForIndex { seen: Some(_), .. })
+    matches!(stand, Stand::ForIndex { looked: true, .. })
 }
 
 // It waits at the server for an index.
@@ -132,27 +132,17 @@ impl<K: Keeper> Cluster<K> {
         })
     }
 
-    // A query whose index is not above the one given waits on. A new one is refused where as many wait as may.
-    #[tactic(auto, using(crate::proofs::Numbers::is_number))]
-    fn wait_on(
-        &self,
-        server: u32,
-        held: &Pending,
-        deadline: u64,
-        seen: Option<u64>,
-    ) -> Result<Work, Memory>
-        requires { IsServerNumber self.now server }
-        ensures { IfOk result (λ work. IsFound self.now server (waits_on held.now (waiting server self.now.held) (applied_of self.now server) deadline seen) (Some work)) }
+    // A new query whose index is not above the one given waits, or is refused where as many wait as may.
+    fn wait_on(&self, server: u32, held: &Pending, deadline: u64) -> Result<Work, Memory>
+        ensures { IfOk result (λ work. IsFound self.now server (waits_on held.now (waiting server self.now.held) deadline) (Some work)) }
     {
-        if seen.is_none() {
-            let waiting = self.waiting(server)?;
-            if MOST_WAITING <= waiting {
-                return Ok(too_many(held.number(), waiting));
-            }
+        let waiting = self.waiting(server)?;
+        if MOST_WAITING <= waiting {
+            return Ok(too_many(held.number(), waiting));
         }
         let stand = Stand::ForIndex {
             deadline,
-            seen: Some(self.servers.applied(server)),
+            looked: true,
         };
         Ok(Work::Hold {
             number: held.number(),
@@ -171,35 +161,35 @@ impl<K: Keeper> Cluster<K> {
         mode: Mode,
         least: u64,
         deadline: u64,
-        seen: Option<u64>,
+        looked: bool,
     ) -> Result<Work, Memory>
         requires server { IsServerNumber self.now server }
         requires asked { (wait : ℕ) × (raw : Bool) × (held.now.question.asked ≡ Good (Read query.now mode least wait raw)) }
-        requires due { is_some (asks held.now (waiting server self.now.held) (clock_of self.now.world server) (applied_of self.now server) deadline seen query.now mode least) ≡ true }
-        ensures { IfOk result (λ work. IsFound self.now server (asks held.now (waiting server self.now.held) (clock_of self.now.world server) (applied_of self.now server) deadline seen query.now mode least) (Some work)) }
+        requires due { is_some (asks held.now (waiting server self.now.held) (clock_of self.now.world server) (applied_of self.now server) deadline looked query.now mode least) ≡ true }
+        ensures { IfOk result (λ work. IsFound self.now server (asks held.now (waiting server self.now.held) (clock_of self.now.world server) (applied_of self.now server) deadline looked query.now mode least) (Some work)) }
     {
         let (answer, index) = self.read::<Brand>(alloc, server, query, Blank::new(1))?;
         if is_answered(least, index, deadline, self.servers.clock(server)) {
             return self.answer_read(server, held.question(), mode, deadline, answer, index);
         }
         drop(answer);
-        self.wait_on(server, held, deadline, seen)
+        self.wait_on(server, held, deadline)
     }
 
-    /// What is due of a read that waits for an index: its answer, or that it waits on. Each such read is looked for
-    /// once at each position that its server applies, whatever was changed there. An execution waits for nothing.
+    /// What is due of a read that waits for an index: its answer, or that it waits from now on. An execution waits for
+    /// nothing.
     pub(crate) fn read_due(
         &self,
         alloc: Global,
         server: u32,
         held: &Pending,
         deadline: u64,
-        seen: Option<u64>,
+        looked: bool,
     ) -> Result<Work, Memory>
         requires server { IsServerNumber self.now server }
         requires taken { IsTakenAsked held.now.question.asked }
-        requires due { is_some (asks_read held.now (waiting server self.now.held) (clock_of self.now.world server) (applied_of self.now server) deadline seen held.now.question.asked) ≡ true }
-        ensures { IfOk result (λ work. IsFound self.now server (asks_read held.now (waiting server self.now.held) (clock_of self.now.world server) (applied_of self.now server) deadline seen held.now.question.asked) (Some work)) }
+        requires due { is_some (asks_read held.now (waiting server self.now.held) (clock_of self.now.world server) (applied_of self.now server) deadline looked held.now.question.asked) ≡ true }
+        ensures { IfOk result (λ work. IsFound self.now server (asks_read held.now (waiting server self.now.held) (clock_of self.now.world server) (applied_of self.now server) deadline looked held.now.question.asked) (Some work)) }
     {
         match held.question().asked() {
             Asked::Good(
@@ -209,7 +199,7 @@ impl<K: Keeper> Cluster<K> {
                     min,
                     ..
                 },
-            ) => self.look(alloc, server, held, query, *mode, *min, deadline, seen),
+            ) => self.look(alloc, server, held, query, *mode, *min, deadline, looked),
             Asked::Good(Request::Execute { name, limit, mode }) => {
                 self.execute(alloc, server, held.question(), name, *limit, *mode)
             }

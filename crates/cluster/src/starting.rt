@@ -7,9 +7,11 @@ ghost use Rattle.raft_node.specs.Steps.{stored};
 ghost use Rattle.raft_world.specs.Starting.{AreGivenBack};
 ghost use Rattle.agent_rules.specs.Agents.{new_agent};
 ghost use Rattle.cluster.specs.Beginning.{HasBegun, MayBegin};
+ghost use Rattle.cluster.specs.Watching.{nothing_watched};
 
 use crate::agents::Agents;
 use crate::cluster::Cluster;
+use crate::watching::Watching;
 use cat_model::{List, Memory};
 use cat_outside::{KeepFail, Keeper};
 use cluster_servers::Servers;
@@ -17,12 +19,14 @@ use open_requests::Requests;
 use std::alloc::Global;
 
 impl<K: Keeper + Drop> Cluster<K> {
-    // Servers begin with what these stores hold, beside these agents.
+    // Servers begin with what these stores hold, beside these agents, and nothing is watched.
     fn with_agents(
         alloc: Global,
         agents: Agents,
+        watch: Watching,
         keepers: List<K>,
     ) -> Result<Cluster<K>, (List<K>, KeepFail)>
+        requires watch { watch ≡ nothing_watched (length keepers) }
         requires some { 0 < length keepers }
         requires few { length keepers < 2 ^ 32 }
         requires limits { All (λ k. ForSome (K.held k) KeepsLimits) keepers }
@@ -35,8 +39,13 @@ impl<K: Keeper + Drop> Cluster<K> {
                 servers,
                 agents,
                 requests: Requests::new(alloc),
+                watch,
             }),
-            Err(back) => Err(back),
+            Err(back) => {
+                drop(agents);
+                drop(watch);
+                Err(back)
+            }
         }
     }
 
@@ -56,7 +65,13 @@ impl<K: Keeper + Drop> Cluster<K> {
         ensures back { IfErr result (λ why. AreGivenBack why.1 (map (λ k. stored (K.held k) (K.armed k) (K.faults k)) keepers) (map (λ k. stored (K.held k) (K.armed k) (K.faults k)) why.0)) }
     {
         match Agents::new(alloc, agents) {
-            Ok(agents) => Cluster::with_agents(alloc, agents, keepers),
+            Ok(agents) => match Watching::new(alloc, keepers.len() as u32) {
+                Ok(watch) => Cluster::with_agents(alloc, agents, watch, keepers),
+                Err(Memory) => {
+                    drop(agents);
+                    Err((keepers, KeepFail::Memory))
+                }
+            },
             Err(Memory) => Err((keepers, KeepFail::Memory)),
         }
     }

@@ -12,7 +12,7 @@ use cat_outside::Keeper;
 use std::alloc::Global;
 
 impl<K: Keeper + Drop> Cluster<K> {
-    /// Does what is due first at a server, and says whether there was something. It lacks memory only where there is.
+    /// Does something that is due at a server, and says whether there was something. It lacks memory only where there is.
     pub(crate) fn turn(&mut self, alloc: Global, server: u32) -> Result<bool, Memory>
         requires { IsServerNumber self.old server }
         ensures turned { IfOk result (λ was. Turned server was self.old self.new) }
@@ -27,7 +27,10 @@ impl<K: Keeper + Drop> Cluster<K> {
                 Ok(()) => Ok(true),
                 Err(Memory) => Err(Memory),
             },
-            Ok(None) => Ok(false),
+            Ok(None) => {
+                self.rest(alloc, server);
+                Ok(false)
+            }
             Err(Memory) => Err(Memory),
         }
     }

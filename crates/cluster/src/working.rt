@@ -1,15 +1,13 @@
 //! Doing what is due at a server.
 
-ghost use Rattle.std.specs.Prelude.{◌≡◌, ◌<◌, ℕ, None, OnErr, OnOk, Some, length};
-ghost use Rattle.std.specs.List.{find};
-ghost use Rattle.cluster_rules.specs.Cluster.{Pending, applied_of, contact_of, knows, node_of};
+ghost use Rattle.std.specs.Prelude.{◌≡◌, ℕ, OnErr, OnOk};
+ghost use Rattle.cluster_rules.specs.Cluster.{Pending, applied_of, contact_of, knows};
 ghost use Rattle.cluster_rules.specs.Due as rules;
-ghost use Rattle.cluster_rules.specs.Due.{answered, applies, did, due, with_held};
+ghost use Rattle.cluster_rules.specs.Due.{IsDue, answered, applies, with_held};
 ghost use Rattle.cluster_rules.specs.Reached.{IsServerNumber};
 ghost use Rattle.cluster_rules.specs.Replies.{Question, shown};
 ghost use Rattle.open_requests.specs.Contents.{content_of, stand_of};
-ghost use Rattle.cluster.specs.Looking.{is_early};
-ghost use Rattle.cluster.specs.Working.{IsWork, closed};
+ghost use Rattle.cluster.specs.Working.{DidDue, IsWork, closed};
 
 use crate::cluster::Cluster;
 use crate::work::Work;
@@ -34,41 +32,47 @@ impl<K: Keeper> Cluster<K> {
     {
         let known = self.knows_leader(server, &kind);
         let contact = self.last_contact(server, &kind);
-        self.requests.answer(number, kind, known, contact, content)
+        self.requests.answer(number, kind, known, contact, content)?;
+        self.watch.forget(server, number);
+        Ok(())
     }
 
     // A held request waits for something else.
     fn hold_on(&mut self, number: u64, stand: Stand)
-        requires { (i : ℕ) × (h : Pending) × (due i self.old ≡ Some (rules.Holds h)) × (number ≡ h.question.number) × (stand_of stand ≡ h.stand) }
-        ensures { (i : ℕ) (h : Pending) → due i self.old ≡ Some (rules.Holds h) → number ≡ h.question.number → stand_of stand ≡ h.stand → self.new ≡ record self.old { held = with_held h self.old.held } }
+        requires { (i : ℕ) × (h : Pending) × IsDue i self.old (rules.Holds h) × (number ≡ h.question.number) × (stand_of stand ≡ h.stand) }
+        ensures { (i : ℕ) (h : Pending) → IsDue i self.old (rules.Holds h) → number ≡ h.question.number → stand_of stand ≡ h.stand → self.new ≡ record self.old { held = with_held h self.old.held } }
     {
         self.requests.restand(number, stand);
     }
 
     // Closes a held request.
-    fn close(&mut self, number: u64, event: u64) -> Result<(), Memory>
+    fn close(&mut self, server: u32, number: u64, event: u64) -> Result<(), Memory>
+        requires { IsServerNumber self.old server }
         ensures done { OnOk result (self.new ≡ closed number event self.old) }
         ensures same { OnErr result (self.new ≡ self.old) }
     {
-        self.requests.close(number, event)
+        self.requests.close(number, event)?;
+        self.watch.forget(server, number);
+        Ok(())
     }
 
-    // Applies the next position.
+    // Applies the next position, and wakes those whose answers it may change.
     fn apply_next(&mut self, alloc: Global, server: u32) -> Result<(), Memory>
         requires server { IsServerNumber self.old server }
-        requires next { length (applied_of self.old server) < (node_of self.old.world server).commit }
-        requires none { find (is_early self.old server) self.old.held ≡ None }
+        requires next { IsDue server self.old rules.Applies }
         ensures done { OnOk result (self.new ≡ applies server self.old) }
         ensures same { OnErr result (self.new ≡ self.old) }
     {
-        self.servers.apply(alloc, server)
+        let fired = self.servers.apply(alloc, server)?;
+        self.watch.fire(alloc, server, &fired);
+        Ok(())
     }
 
-    /// Does what is due first at a server.
+    /// Does what is due at a server.
     pub(crate) fn perform(&mut self, alloc: Global, server: u32, work: Work) -> Result<(), Memory>
         requires server { IsServerNumber self.old server }
-        requires due { (w : rules.Work) × (due server self.old ≡ Some w) × IsWork self.old server work w }
-        ensures done { OnOk result ((w : rules.Work) → due server self.old ≡ Some w → self.new ≡ did server w self.old) }
+        requires due { (w : rules.Work) × IsDue server self.old w × IsWork self.old server work w }
+        ensures done { OnOk result (DidDue server self.old self.new) }
         ensures same { OnErr result (self.new ≡ self.old) }
     {
         match work {
@@ -81,7 +85,7 @@ impl<K: Keeper> Cluster<K> {
                 self.hold_on(number, stand);
                 Ok(())
             }
-            Work::Close { number, event } => self.close(number, event),
+            Work::Close { number, event } => self.close(server, number, event),
             Work::Apply => self.apply_next(alloc, server),
         }
     }

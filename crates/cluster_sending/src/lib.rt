@@ -20,6 +20,9 @@ ghost use Rattle.cat_outside.specs.contracts.mem_keeper.MemKeeper as mem_keeper;
 ghost use Rattle.cat_outside.specs.contracts.mem_keeper.MemKeeperKeeper.TheImpl.{ghosts};
 ghost use Rattle.raft_world.specs.contracts.world.World as world;
 ghost use Rattle.cluster_servers.specs.contracts.servers.Servers as servers;
+ghost use Rattle.watch_registry.specs.contracts.registry.WatchRegistry as registry;
+ghost use Rattle.timer_wheel.specs.contracts.wheel.TimerWheel as wheel;
+ghost use Rattle.read_watch.specs.contracts.watching.Watch as watch;
 ghost use Rattle.cluster.specs.contracts.cluster.Cluster as cluster;
 
 use agent_state::Agent;
@@ -34,10 +37,13 @@ use lock_delay::LockDelay;
 use open_requests::Requests;
 use query_table::QueryTable;
 use raft_world::World;
+use read_watch::Watch;
 use replica::Replica;
 use session_table::SessionTable;
 use session_ttl::Office;
 use table_index::TableIndex;
+use timer_wheel::TimerWheel;
+use watch_registry::WatchRegistry;
 
 // What may go to another thread, as clauses name it.
 fn sends<T: Send + 'static>()
@@ -132,6 +138,26 @@ fn requests_send()
     sends::<Requests>();
 }
 
+fn registries_send()
+    ensures { IsSend registry.the_row }
+{
+    sends::<WatchRegistry>();
+}
+
+fn wheels_send()
+    ensures { IsSend wheel.the_row }
+{
+    sends::<TimerWheel>();
+}
+
+fn watches_send()
+    ensures { IsSend watch.the_row }
+{
+    registries_send();
+    wheels_send();
+    sends::<Watch>();
+}
+
 fn worlds_send()
     ensures { IsSend (world.the_row mem_keeper.the_row ghosts) }
 {
@@ -153,5 +179,6 @@ pub fn clusters_send()
     servers_send();
     agents_send();
     requests_send();
+    watches_send();
     sends::<Cluster<MemKeeper>>();
 }

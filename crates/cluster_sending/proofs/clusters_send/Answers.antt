@@ -6,6 +6,8 @@ use Rattle.cat_outside.specs.contracts.mem_keeper.MemKeeper as mem_keeper
 use Rattle.cat_outside.specs.contracts.mem_keeper.MemKeeperKeeper.TheImpl.{ghosts}
 use Rattle.cluster.specs.contracts.agents.Agents as agents
 use Rattle.cluster.specs.contracts.agents.Agents.TheInside as inner
+use Rattle.cluster.specs.contracts.watching.Watching as watching
+use Rattle.cluster.specs.contracts.watching.Watching.TheInside as watched
 use Rattle.cluster.specs.contracts.cluster.Cluster as whole
 use Rattle.cluster.specs.contracts.cluster.Cluster.TheInside as inside
 use Rattle.cluster_sending.proofs.clusters_send.Goals as goal
@@ -14,5 +16,7 @@ pub sends-requires-send-T : goal.sends-requires-send-T
 sends-requires-send-T c κs =
     let b : IsSend inner.the_row = recorded_send (inner.the_field).row _ _ (inner.the_type).to_one (struct_send (declared.shape inner.the_type) (search (sendable, crosses, c.agents_send.ensures) depth 24, tt)) in
     let a : IsSend agents.the_row = view_send _ _ _ _ _ b in
-    let i : IsSend (inside.the_row mem_keeper.the_row ghosts) = recorded_send (inside.the_field mem_keeper.the_row ghosts).row _ _ (inside.the_type mem_keeper.the_row ghosts).to_one (struct_send (declared.shape (inside.the_type mem_keeper.the_row ghosts)) (c.servers_send.ensures, (a, (c.requests_send.ensures, tt)))) in
+    let v : IsSend watched.the_row = recorded_send (watched.the_field).row _ _ (watched.the_type).to_one (struct_send (declared.shape watched.the_type) (c.watches_send.ensures, (search sendable, tt))) in
+    let w : IsSend watching.the_row = view_send _ _ _ _ _ v in
+    let i : IsSend (inside.the_row mem_keeper.the_row ghosts) = recorded_send (inside.the_field mem_keeper.the_row ghosts).row _ _ (inside.the_type mem_keeper.the_row ghosts).to_one (struct_send (declared.shape (inside.the_type mem_keeper.the_row ghosts)) (c.servers_send.ensures, (a, (c.requests_send.ensures, (w, tt))))) in
     let s : IsSend (whole.the_row mem_keeper.the_row ghosts) = view_send _ _ _ _ _ i in param_send 0 _ (arg_send _ no _ s)

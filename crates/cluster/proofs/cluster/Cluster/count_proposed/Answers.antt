@@ -12,7 +12,7 @@ count_sync-requires g c = (
 
 pub invariant_of-self : goal.invariant_of-self
 invariant_of-self g c =
-    fresh_stands c.self.inside.servers.world c.self.inside.servers.servers c.self.inside.requests c.count_sync.new.self (put_out (Synced c.args.agent (Some c.args.count)) c.requires.0.fresh) c.self.invariant
+    fresh_stands c.self.inside.watch c.self.inside.servers.world c.self.inside.servers.servers c.self.inside.requests c.count_sync.new.self (put_out (Synced c.args.agent (Some c.args.count)) c.requires.0.fresh) c.self.invariant
     (c.count_sync.ensures (record c.self.inside.requests { fresh = c.requires.0.fresh })
     (told_there c.self.inside.agents c.self.inside.servers.world c.self.inside.servers.servers c.self.inside.requests c.args.agent c.requires.0 (c.self.view_is ∙ c.requires.1)))
 

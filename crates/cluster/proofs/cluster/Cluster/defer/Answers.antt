@@ -9,7 +9,7 @@ use Rattle.cluster.proofs.cluster.Cluster.defer.Goals as goal
 
 pub number-requires-clause-made : goal.number-requires-clause-made
 number-requires-clause-made g c =
-    made_last c.self.inside.agents c.self.inside.servers.world c.self.inside.servers.servers c.self.inside.requests c.args.self.now c.args.agent c.args.asked.now c.args.draw
+    made_last c.self.inside.agents c.self.inside.watch c.self.inside.servers.world c.self.inside.servers.servers c.self.inside.requests c.args.self.now c.args.agent c.args.asked.now c.args.draw
     (record { stands = c.self.invariant; view = c.self.view_is; come = c.requires.come }) c.prepare.new.self c.in_ok-prepare.ensures.ok
 
 pub invariant_of-self-2 : goal.invariant_of-self-2
@@ -21,7 +21,7 @@ invariant_of-self-2 g c =
     let until : c.in_ok-until.until ≡ until_at c.args.self.now c.args.server c.args.key.now = search rules in
     let now : c.clock-now.result ≡ clock_of c.args.self.now.world c.args.server = search rules in
     let reply : c.in-Ok.reply ≡ reply_with c.in_ok-number.number (Delayed c.args.key.now c.in_ok-until.until c.clock-now.result) false 0 (Defers c.args.command.now c.args.key.now) = search rules in
-    (delay_handles c.self.inside.agents c.self.inside.servers.world c.self.inside.servers.servers old c.give.new.self c.args.self.now c.args.server c.args.agent c.args.asked.now c.args.draw c.args.command.now c.args.key.now c.in_ok-number.number c.in_ok-until.until c.clock-now.result
+    (delay_handles c.self.inside.agents c.self.inside.watch c.self.inside.servers.world c.self.inside.servers.servers old c.give.new.self c.args.self.now c.args.server c.args.agent c.args.asked.now c.args.draw c.args.command.now c.args.key.now c.in_ok-number.number c.in_ok-until.until c.clock-now.result
     (record { stands = c.self.invariant; view = c.self.view_is; come = c.requires.come }) c.requires.asked c.requires.ready c.requires.delayed number until now
     (c.give.ensures ∙ ap (λ (x : Reply). used (answered_with x.number x.kind x.known x.contact x.content c.number.new.self)) reply
     ∙ ap (λ (p : Requests). used (answered_with c.in_ok-number.number (Delayed c.args.key.now c.in_ok-until.until c.clock-now.result) false 0 (Defers c.args.command.now c.args.key.now) p)) numbered)).1
@@ -35,7 +35,7 @@ returns-clause-ok g c =
     let until : c.in_ok-until.until ≡ until_at c.args.self.now c.args.server c.args.key.now = search rules in
     let now : c.clock-now.result ≡ clock_of c.args.self.now.world c.args.server = search rules in
     let reply : c.in-Ok.reply ≡ reply_with c.in_ok-number.number (Delayed c.args.key.now c.in_ok-until.until c.clock-now.result) false 0 (Defers c.args.command.now c.args.key.now) = search rules in
-    (delay_handles c.self.inside.agents c.self.inside.servers.world c.self.inside.servers.servers old c.give.new.self c.args.self.now c.args.server c.args.agent c.args.asked.now c.args.draw c.args.command.now c.args.key.now c.in_ok-number.number c.in_ok-until.until c.clock-now.result
+    (delay_handles c.self.inside.agents c.self.inside.watch c.self.inside.servers.world c.self.inside.servers.servers old c.give.new.self c.args.self.now c.args.server c.args.agent c.args.asked.now c.args.draw c.args.command.now c.args.key.now c.in_ok-number.number c.in_ok-until.until c.clock-now.result
     (record { stands = c.self.invariant; view = c.self.view_is; come = c.requires.come }) c.requires.asked c.requires.ready c.requires.delayed number until now
     (c.give.ensures ∙ ap (λ (x : Reply). used (answered_with x.number x.kind x.known x.contact x.content c.number.new.self)) reply
     ∙ ap (λ (p : Requests). used (answered_with c.in_ok-number.number (Delayed c.args.key.now c.in_ok-until.until c.clock-now.result) false 0 (Defers c.args.command.now c.args.key.now) p)) numbered)).0

@@ -5,3 +5,6 @@ use Rattle.cluster.proofs.cluster.Cluster.new.Goals as goal
 
 pub returns-in-Err-clause-back : goal.returns-in-Err-clause-back
 returns-in-Err-clause-back g c = none_read _ (subst (λ (n : ℕ). 0 < n) (sym (length-map c.args.keepers _)) c.requires.some)
+
+pub returns-in-Err-new-clause-back : goal.returns-in-Err-new-clause-back
+returns-in-Err-new-clause-back g c = none_read _ (subst (λ (n : ℕ). 0 < n) (sym (length-map c.args.keepers _)) c.requires.some)

@@ -12,8 +12,8 @@ pub invariant_of-self-2 : goal.invariant_of-self-2
 invariant_of-self-2 g c =
     let rows = over_rows c.args.self.now c.args.server in
     let own = server_of c.self.inside.servers.servers c.args.server in
-    subst (λ (z : Servers). Stands z.world z.servers c.self.inside.requests) (sym (c.in_ok-end.ensures.ok rows c.requires.over))
-    (stands_officed c.self.inside.agents c.args.server (ended_too rows own.office) c.self.inside.servers.world c.self.inside.servers.servers c.self.inside.requests c.self.invariant)
+    subst (λ (z : Servers). Stands c.self.inside.watch z.world z.servers c.self.inside.requests) (sym (c.in_ok-end.ensures.ok rows c.requires.over))
+    (stands_officed c.self.inside.agents c.self.inside.watch c.args.server (ended_too rows own.office) c.self.inside.servers.world c.self.inside.servers.servers c.self.inside.requests c.self.invariant)
 
 pub invariant_of-self-3 : goal.invariant_of-self-3
 invariant_of-self-3 g c =
@@ -22,8 +22,8 @@ invariant_of-self-3 g c =
     let n = c.propose_all-proposed.result.entered in
     let office = proposed_office c.self.inside.agents c.self-2.inside.agents c.args.server c.self.inside.servers c.end.new.self c.self-2.inside.servers c.self.inside.requests c.self-2.inside.requests c.args.self.now c.propose_all-proposed.new.self
     c.self.view_is c.requires.server (c.in_ok-end.ensures.ok rows c.requires.over) c.propose_all-proposed.ensures.servers c.self-2.view_is in
-    subst (λ (z : Servers). Stands z.world z.servers c.self-2.inside.requests) (sym (c.keep_first.ensures rows own c.requires.over office))
-    (stands_officed c.self-2.inside.agents c.args.server (ended_too (take n rows) own) c.self-2.inside.servers.world c.self-2.inside.servers.servers c.self-2.inside.requests c.self-2.invariant)
+    subst (λ (z : Servers). Stands c.self-2.inside.watch z.world z.servers c.self-2.inside.requests) (sym (c.keep_first.ensures rows own c.requires.over office))
+    (stands_officed c.self-2.inside.agents c.self-2.inside.watch c.args.server (ended_too (take n rows) own) c.self-2.inside.servers.world c.self-2.inside.servers.servers c.self-2.inside.requests c.self-2.invariant)
 
 pub returns-clause-told : goal.returns-clause-told
 returns-clause-told g c =

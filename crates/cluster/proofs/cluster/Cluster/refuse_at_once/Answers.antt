@@ -3,8 +3,8 @@ use Rattle.cluster.proofs.cluster.Cluster.refuse_at_once.Goals as goal
 
 pub invariant_of-self : goal.invariant_of-self
 invariant_of-self g c =
-    refused_stands c.self.inside.agents c.self.inside.servers.world c.self.inside.servers.servers c.self.inside.requests c.come_refused.new.self c.args.agent c.args.asked.now c.args.draw c.args.why.now c.come_refused.result c.self.invariant c.come_refused.ensures.ok c.come_refused.ensures.err
+    refused_stands c.self.inside.agents c.self.inside.watch c.self.inside.servers.world c.self.inside.servers.servers c.self.inside.requests c.come_refused.new.self c.args.agent c.args.asked.now c.args.draw c.args.why.now c.come_refused.result c.self.invariant c.come_refused.ensures.ok c.come_refused.ensures.err
 
 pub returns-clause-ok : goal.returns-clause-ok
 returns-clause-ok g c =
-    refused_done c.self.inside.agents c.self.inside.servers.world c.self.inside.servers.servers c.self.inside.requests c.come_refused.new.self c.args.self.now c.args.agent c.args.asked.now c.args.draw c.args.why.now c.come_refused.result c.self.view_is c.come_refused.ensures.ok
+    refused_done c.self.inside.agents c.self.inside.watch c.self.inside.servers.world c.self.inside.servers.servers c.self.inside.requests c.come_refused.new.self c.args.self.now c.args.agent c.args.asked.now c.args.draw c.args.why.now c.come_refused.result c.self.view_is c.come_refused.ensures.ok

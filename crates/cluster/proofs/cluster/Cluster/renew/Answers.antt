@@ -16,7 +16,7 @@ use Rattle.cluster.proofs.cluster.Cluster.renew.Goals as goal
 
 pub number-requires-clause-made : goal.number-requires-clause-made
 number-requires-clause-made g c =
-    made_last c.self.inside.agents c.self.inside.servers.world c.self.inside.servers.servers c.self.inside.requests c.args.self.now c.args.agent c.args.asked.now c.args.draw
+    made_last c.self.inside.agents c.self.inside.watch c.self.inside.servers.world c.self.inside.servers.servers c.self.inside.requests c.args.self.now c.args.agent c.args.asked.now c.args.draw
     (record { stands = c.self.invariant; view = c.self.view_is; come = c.requires.come }) c.prepare.new.self c.in_ok-prepare.ensures.ok
 
 pub invariant_of-self-2 : goal.invariant_of-self-2
@@ -30,7 +30,7 @@ invariant_of-self-2 g c =
     let moved_to : c.renew.new.self ≡ officed c.args.server (renew_in (session_at c.args.id (catalog_at (commands_of own.applied)).sessions) (clock_of c.self.inside.servers.world c.args.server) own.office) c.self.inside.servers = search rules in
     let row = option_copied c.session.result in
     let reply : c.in-Ok.reply ≡ reply_with c.in_ok-number.number (Seen Default c.applied-applied.result) false 0 (Renews row) = search rules in
-    (renew_handles c.self.inside.agents c.self.inside.servers c.renew.new.self old c.give.new.self c.args.self.now c.args.server c.args.agent c.args.asked.now c.args.draw c.args.id c.in_ok-number.number c.applied-applied.result row
+    (renew_handles c.self.inside.agents c.self.inside.watch c.self.inside.servers c.renew.new.self old c.give.new.self c.args.self.now c.args.server c.args.agent c.args.asked.now c.args.draw c.args.id c.in_ok-number.number c.applied-applied.result row
     (record { stands = c.self.invariant; view = c.self.view_is; come = c.requires.come }) moved_to c.requires.asked c.requires.ready number applied c.session.ensures
     (c.give.ensures ∙ ap (λ (x : Reply). used (answered_with x.number x.kind x.known x.contact x.content c.start.new.self)) reply
     ∙ ap (λ (p : Requests). used (answered_with c.in_ok-number.number (Seen Default c.applied-applied.result) false 0 (Renews row) p))
@@ -47,7 +47,7 @@ returns-clause-ok g c =
     let moved_to : c.renew.new.self ≡ officed c.args.server (renew_in (session_at c.args.id (catalog_at (commands_of own.applied)).sessions) (clock_of c.self.inside.servers.world c.args.server) own.office) c.self.inside.servers = search rules in
     let row = option_copied c.session.result in
     let reply : c.in-Ok.reply ≡ reply_with c.in_ok-number.number (Seen Default c.applied-applied.result) false 0 (Renews row) = search rules in
-    (renew_handles c.self.inside.agents c.self.inside.servers c.renew.new.self old c.give.new.self c.args.self.now c.args.server c.args.agent c.args.asked.now c.args.draw c.args.id c.in_ok-number.number c.applied-applied.result row
+    (renew_handles c.self.inside.agents c.self.inside.watch c.self.inside.servers c.renew.new.self old c.give.new.self c.args.self.now c.args.server c.args.agent c.args.asked.now c.args.draw c.args.id c.in_ok-number.number c.applied-applied.result row
     (record { stands = c.self.invariant; view = c.self.view_is; come = c.requires.come }) moved_to c.requires.asked c.requires.ready number applied c.session.ensures
     (c.give.ensures ∙ ap (λ (x : Reply). used (answered_with x.number x.kind x.known x.contact x.content c.start.new.self)) reply
     ∙ ap (λ (p : Requests). used (answered_with c.in_ok-number.number (Seen Default c.applied-applied.result) false 0 (Renews row) p))

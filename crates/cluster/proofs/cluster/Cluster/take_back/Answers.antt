@@ -10,7 +10,7 @@ take_sync_back-requires g c = (
 
 pub invariant_of-self : goal.invariant_of-self
 invariant_of-self g c =
-    fresh_stands c.self.inside.servers.world c.self.inside.servers.servers c.self.inside.requests c.take_sync_back.new.self c.requires.0.fresh c.self.invariant
+    fresh_stands c.self.inside.watch c.self.inside.servers.world c.self.inside.servers.servers c.self.inside.requests c.take_sync_back.new.self c.requires.0.fresh c.self.invariant
     (c.take_sync_back.ensures (record c.self.inside.requests { fresh = c.requires.0.fresh })
     (told_there c.self.inside.agents c.self.inside.servers.world c.self.inside.servers.servers c.self.inside.requests c.args.agent c.requires.0 (c.self.view_is ∙ c.requires.1)))
 
