@@ -17,11 +17,6 @@ use crate::requests::Requests;
 use crate::{giving, holding, noting};
 use cat_model::{Asked, Draw, Kind, Mark, Memory, Refusal};
 
-// Lets go of a reply that is not given.
-fn discard_reply(_reply: MarkedReply) {}
-
-fn discard_asked(_asked: Asked) {}
-
 impl Requests {
     // Lets go of a request for its reply and the note of the answer. There is room for them.
     fn give_with(&mut self, reply: Reply, mark: Mark)
@@ -63,7 +58,7 @@ impl Requests {
                 Ok(())
             }
             Err(Memory) => {
-                discard_reply(reply);
+                drop(reply);
                 Err(Memory)
             }
         }
@@ -89,7 +84,7 @@ impl Requests {
                 Ok(())
             }
             Err(Memory) => {
-                discard_asked(asked);
+                drop(asked);
                 self.room -= 2;
                 Err(Memory)
             }

@@ -1,7 +1,7 @@
 //! The outs of an event, and those that wait to be taken.
 
 ghost use Rattle.std.specs.Prelude.{◌≡◌, ◌+◌, ◌<◌, ◌≤◌, List, [], ◌∷◌, ◌++◌, length, vec_len, vec_capacity};
-ghost use Rattle.std.specs.List.{position, position_or_len};
+ghost use Rattle.std.specs.List.{insert, position, position_or_len};
 ghost use Rattle.std.specs.VecDeque.{deque_len, deque_capacity};
 ghost use Rattle.cluster_rules.specs.Replies.{Out as OutValue, number_of};
 ghost use Rattle.cluster_rules.specs.Due.{is_before, put_out};
@@ -39,6 +39,19 @@ fn place(fresh: &[Out], number: Option<u64>) -> usize
     }
 }
 
+// Puts an item at a place. There is room for it. This is of any type, so that its proof has no parts of one.
+fn insert_at<T: Drop>(items: &mut Vec<T>, at: usize, item: T)
+    requires place { at ≤ vec_len items.old }
+    requires room { vec_len items.old < vec_capacity items.old }
+    ensures items { items.new.items ≡ insert items.old.items at item }
+    ensures len { vec_len items.new ≡ vec_len items.old + 1 }
+    ensures capacity { vec_capacity items.old ≤ vec_capacity items.new }
+{
+    let Ok(()) = items.insert(at, item) else {
+        unreachable!()
+    };
+}
+
 /// Puts an out in its place among those of the event. There is room for it, so that it takes no memory.
 pub fn put(fresh: &mut Vec<Out>, out: Out)
     requires { vec_len fresh.old < vec_capacity fresh.old }
@@ -47,9 +60,7 @@ pub fn put(fresh: &mut Vec<Out>, out: Out)
     ensures capacity { vec_capacity fresh.old ≤ vec_capacity fresh.new }
 {
     let at = place(fresh, out.number());
-    let Ok(()) = fresh.insert(at, out) else {
-        unreachable!()
-    };
+    insert_at(fresh, at, out);
 }
 
 /// Takes back the last of the outs of an event.
@@ -60,7 +71,7 @@ pub fn take_back(fresh: &mut Vec<Out>)
     ensures len { vec_len fresh.new + 1 ≡ vec_len fresh.old }
     ensures capacity { vec_capacity fresh.old ≤ vec_capacity fresh.new }
 {
-    let _last = fresh.pop();
+    drop(fresh.pop());
 }
 
 /// Puts the outs of an event into the tray. There is room for them, so that it takes no memory.

@@ -25,19 +25,18 @@ fn push_entries(marks: &mut Vec<Mark>, entries: &mut Vec<Entry>, count: u64)
     }
 }
 
-// The marks of these notes. Notes and entries stand the last one first. There is room for the marks.
-fn expand(mut notes: Vec<Note>, mut entries: Vec<Entry>, mut marks: Vec<Mark>) -> Vec<Mark>
-    requires none { marks.items ≡ [] }
-    requires room { vec_len notes + vec_len entries ≤ vec_capacity marks }
-    ensures { result.items ≡ marks_on (reverse notes.items) (reverse entries.items) }
+// Puts the marks of these notes last. Notes and entries stand the last one first. There is room for the marks.
+fn expand(notes: &mut Vec<Note>, entries: &mut Vec<Entry>, marks: &mut Vec<Mark>)
+    requires none { marks.old.items ≡ [] }
+    requires room { vec_len notes.old + vec_len entries.old ≤ vec_capacity marks.old }
+    ensures { marks.new.items ≡ marks_on (reverse notes.old.items) (reverse entries.old.items) }
 {
     while let Some(note) = notes.pop() {
         match note {
             Note::Marked(mark) => marks.push_reserved(mark),
-            Note::Joined(count) => push_entries(&mut marks, &mut entries, count),
+            Note::Joined(count) => push_entries(marks, entries, count),
         }
     }
-    marks
 }
 
 // A copy of these entries.
@@ -47,15 +46,35 @@ fn copied(alloc: Global, entries: &[Entry]) -> Result<Vec<Entry>, Memory>
     Ok(Vec::from_clones(alloc, entries)?)
 }
 
-/// The marks that these notes stand for beside the agreed log. Both stand the first one first.
-pub fn marks_of(alloc: Global, mut notes: Vec<Note>, agreed: &[Entry]) -> Result<Vec<Mark>, Memory>
-    ensures { IfOk result (λ marks. marks.items ≡ marks_on notes.items agreed.now) }
+// No marks, with room for as many as these notes and entries stand for.
+fn no_marks(alloc: Global, notes: usize, entries: usize) -> Result<Vec<Mark>, Memory>
+    ensures { IfOk result (λ marks. (marks.items ≡ []) × (notes + entries ≤ vec_capacity marks)) }
 {
-    let mut entries = copied(alloc, agreed)?;
-    let room = notes.len().checked_add(entries.len()).ok_or(Memory)?;
-    let mut marks = Vec::new(alloc);
-    marks.reserve(room)?;
+    let room = notes.checked_add(entries).ok_or(Memory)?;
+    Ok(Vec::with_capacity(alloc, room)?)
+}
+
+// The marks of these notes and entries, which stand the first one first.
+fn marks_with(
+    alloc: Global,
+    notes: &mut Vec<Note>,
+    entries: &mut Vec<Entry>,
+) -> Result<Vec<Mark>, Memory>
+    ensures { IfOk result (λ marks. marks.items ≡ marks_on notes.old.items entries.old.items) }
+{
+    let mut marks = no_marks(alloc, notes.len(), entries.len())?;
     notes.reverse();
     entries.reverse();
-    Ok(expand(notes, entries, marks))
+    expand(notes, entries, &mut marks);
+    Ok(marks)
+}
+
+/// The marks that these notes stand for beside the agreed log. Both stand the first one first. The notes are used up.
+pub fn marks_of(alloc: Global, notes: &mut Vec<Note>, agreed: &[Entry]) -> Result<Vec<Mark>, Memory>
+    ensures { IfOk result (λ marks. marks.items ≡ marks_on notes.old.items agreed.now) }
+{
+    let mut entries = copied(alloc, agreed)?;
+    let marks = marks_with(alloc, notes, &mut entries);
+    drop(entries);
+    marks
 }

@@ -33,9 +33,6 @@ impl Model for MarkedReply {
     ghost invariant = { λ r. IsMarked r.reply r.marked };
 }
 
-// Lets go of a reply that has no mark.
-fn discard(_reply: Reply) {}
-
 impl MarkedReply {
     /// The reply that rests on this kind and shows this content.
     pub fn new(
@@ -51,7 +48,7 @@ impl MarkedReply {
         match copy_kind(reply.kind()) {
             Ok(marked) => Ok(MarkedReply { reply, marked }),
             Err(Memory) => {
-                discard(reply);
+                drop(reply);
                 Err(Memory)
             }
         }
@@ -62,8 +59,13 @@ impl MarkedReply {
         ensures { IfOk result (λ r. r ≡ reply_with number (Kind.Refused why.now) false 0 (Says why.now)) }
     {
         let kind = Kind::Refused(copy_refusal(why)?);
-        let content = Content::Says(copy_refusal(why)?);
-        MarkedReply::new(number, kind, false, 0, content)
+        match copy_refusal(why) {
+            Ok(why) => MarkedReply::new(number, kind, false, 0, Content::Says(why)),
+            Err(Memory) => {
+                drop(kind);
+                Err(Memory)
+            }
+        }
     }
 
     /// The refusal of a request for a cause that has no text, which takes no memory.

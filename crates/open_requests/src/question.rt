@@ -83,12 +83,21 @@ impl Question {
         ensures { IfOk result (λ content. content_of content ≡ read_content self.now.asked answer) }
     {
         match &self.asked {
-            Asked::Good(Request::Read { query, raw, .. }) => Ok(Content::Shows {
-                query: copy_query(query)?,
-                raw: *raw,
-                answer,
-            }),
-            _ => Ok(Content::Blank),
+            Asked::Good(Request::Read { query, raw, .. }) => match copy_query(query) {
+                Ok(query) => Ok(Content::Shows {
+                    query,
+                    raw: *raw,
+                    answer,
+                }),
+                Err(Memory) => {
+                    drop(answer);
+                    Err(Memory)
+                }
+            },
+            _ => {
+                drop(answer);
+                Ok(Content::Blank)
+            }
         }
     }
 }

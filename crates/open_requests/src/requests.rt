@@ -193,9 +193,16 @@ impl Requests {
         ensures ok { OnOk result (self.new ≡ noted event self.old) }
         ensures err { OnErr result (self.new ≡ self.old) }
     {
-        self.prepare_one()?;
-        self.add_event(event);
-        Ok(())
+        match self.prepare_one() {
+            Ok(()) => {
+                self.add_event(event);
+                Ok(())
+            }
+            Err(Memory) => {
+                drop(event);
+                Err(Memory)
+            }
+        }
     }
 
     /// Takes the mark of the event at work back, which has changed nothing. It takes no memory.
@@ -371,7 +378,20 @@ impl Requests {
     pub fn into_marks(self, alloc: Global, agreed: &[Entry]) -> Result<List<Mark>, Memory>
         ensures { IfOk result (λ marks. marks ≡ reverse (past_of agreed.now self.notes)) }
     {
-        let marks = marks_of(alloc, self.notes, agreed)?;
-        Ok(List::from(marks))
+        let Requests {
+            held,
+            starts,
+            fresh,
+            tray,
+            mut notes,
+            ..
+        } = self;
+        let marks = marks_of(alloc, &mut notes, agreed);
+        drop(held);
+        drop(starts);
+        drop(fresh);
+        drop(tray);
+        drop(notes);
+        Ok(List::from(marks?))
     }
 }

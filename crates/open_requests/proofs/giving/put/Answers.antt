@@ -6,4 +6,4 @@ use Rattle.open_requests.proofs.giving.put.Goals as goal
 pub returns-clause-items : goal.returns-clause-items
 returns-clause-items c =
     let at = rw (c.number.ensures, c.deref.ensures.value) at c.place-at.ensures.place in
-    c.in-Ok.ensures.items ∙ ap (λ k. insert c.args.fresh.now.items k c.args.out) at ∙ put_at c.args.out c.args.fresh.now.items
+    c.insert_at.ensures.items ∙ ap (λ k. insert c.args.fresh.now.items k c.args.out) at ∙ put_at c.args.out c.args.fresh.now.items
