@@ -1,16 +1,16 @@
 -- Who sleeps on at a server, when some sleep no more, and when one more begins to.
-use Rattle.std.proofs.Common.{◌≡◌, ◌≢◌, ℕ, zero, suc, ◌<◌, ◌≤◌, ◌^◌, ◌⊎◌, inl, inr, Bool, true, false, cond, not, List, [], ◌∷◌, refl, sym, ◌∙◌, ap, subst, map, filter, length, get_or, arith, Contains, Some, None, nat_le}
+use Rattle.std.proofs.Common.{◌≡◌, ◌≢◌, ℕ, zero, suc, ◌<◌, ◌≤◌, ◌^◌, ◌⊎◌, inl, inr, Bool, true, false, cond, not, List, [], ◌∷◌, refl, sym, ◌∙◌, ap, subst, map, filter, arith, Contains, Some, None, nat_le}
 use Rattle.std.specs.List.{AllByRecursion}
 use Rattle.std.specs.Ordering.{nat_cmp}
 use Rattle.std.specs.Map.{lookup, remove_entry}
 use Rattle.std.specs.BTreeMap.{is_at, insert_entry}
-use Rattle.std.proofs.lemmas.Bool.{true≢false, leb-true, leb-false}
+use Rattle.std.proofs.lemmas.Bool.{leb-true, leb-false}
 use Rattle.cat_model.specs.Reach.{is_on}
 use Rattle.cat_model.specs.declared.query.Chan.{Chan}
-use Rattle.timer_wheel.specs.Dues.{AreDue, IsDue}
-use Rattle.read_watch.specs.Watch.{Sleepers, SleepsAmong, Leave, OthersStay, AreNumbers, is_among}
+use Rattle.timer_wheel.specs.Dues.{AreDue}
+use Rattle.read_watch.specs.Watch.{Sleepers, SleepsAmong, Leave, OthersStay, AreNumbers, IsOver, is_among}
 use Rattle.read_watch.proofs.Lookups.{found_without, found_new, found_beside, found_passing, numbers_new, numbers_without, number_found}
-use Rattle.read_watch.proofs.Members.{listed, among, passing_listed}
+use Rattle.read_watch.proofs.Members.{listed, passing_listed}
 
 abbrev pub sleepers : List (ℕ × List Chan) → List (ℕ × ℕ) → Sleepers
 sleepers registry timers = record { asleep = registry; timers = timers }
@@ -65,6 +65,28 @@ over_leave clock before registry registry' timers timers' over over' e due left 
           },
           leb-false deadline clock early,
         )
+
+contains_unmap : (f : ℕ × ℕ → ℕ) (n : ℕ) (xs : List (ℕ × ℕ)) → Contains (map f xs) n → (x : ℕ × ℕ) × Contains xs x × (f x ≡ n)
+contains_unmap f n [] h = absurd (omega (arith, h.1))
+contains_unmap f n (x ∷ xs) (zero, low, e) = (x, (zero, omega arith, refl), e)
+contains_unmap f n (x ∷ xs) (suc k, low, e) = let more : (y : ℕ × ℕ) × Contains xs y × (f y ≡ n) = contains_unmap f n xs (k, omega (arith, low), e) in (more.0, (suc more.1.0, omega (arith, more.1.1), more.1.2), more.2)
+
+-- a key that is due is that of a timer whose time has come
+pub due_over : (timers : List (ℕ × ℕ)) (clock n : ℕ) (keys : List ℕ) → AreDue timers clock keys → Contains keys n → IsOver n clock timers
+due_over timers clock n keys due h =
+    let found : (d : ℕ × ℕ) × Contains due.dues d × (d.1 ≡ n) = contains_unmap (λ d. d.1) n due.dues (subst (λ l. Contains l n) due.keys_are h) in
+    let is : (lookup (is_at (nat_cmp found.0.1)) timers ≡ Some found.0.0) × (found.0.0 ≤ clock) = (due.exact found.0).0 found.1 in
+    (found.0.0, subst (λ k. lookup (is_at (nat_cmp k)) timers ≡ Some found.0.0) found.2 is.0, is.1)
+
+-- a read sleeps on its own channels until its own time
+pub as_said : (n : ℕ) (cs chans : List Chan) (d deadline : ℕ) (s : Sleepers) → SleepsAmong n chans deadline s → SleepsAmong n cs d s → (cs ≡ chans) × (d ≡ deadline)
+as_said n cs chans d deadline s a b =
+    let p : Some cs ≡ Some chans = sym b.hangs ∙ a.hangs in
+    let q : Some d ≡ Some deadline = sym b.until ∙ a.until in
+    (cc, cc)
+
+pub not_asleep : (n : ℕ) (cs : List Chan) (d : ℕ) (s : Sleepers) → lookup (is_at (nat_cmp n)) s.asleep ≡ None → SleepsAmong n cs d s → ⊥
+not_asleep n cs d s h b = let p : None ≡ Some cs = sym h ∙ b.hangs in cc
 
 -- the keys of timers that are due are numbers of requests
 pub keys_fit : (timers : List (ℕ × ℕ)) (clock : ℕ) (keys : List ℕ) → AreNumbers timers → AreDue timers clock keys → AllByRecursion (λ k. k < 2 ^ 64) keys

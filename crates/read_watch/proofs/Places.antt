@@ -13,10 +13,10 @@ module _ (us xs : List Sleepers) (at s : ℕ) (v w : Sleepers) (e : xs ≡ us) (
   within : at < length xs
   within = omega (arith, h, last, ap length e)
 
-  was : sleepers_of us s ≡ v
+  pub was : sleepers_of us s ≡ v
   was = ap (λ l. sleepers_of l s) (sym e) ∙ ap (sleepers_of xs) (sym place) ∙ get_or_default xs at no_sleeper v within ∙ sym read
 
-  is : sleepers_of (slice_set xs at w) s ≡ w
+  pub is : sleepers_of (slice_set xs at w) s ≡ w
   is = ap (sleepers_of (slice_set xs at w)) (sym place) ∙ get_or-set_same xs at w no_sleeper within
 
   others_are : (i : ℕ) → i ≢ s → sleepers_of (slice_set xs at w) i ≡ sleepers_of us i

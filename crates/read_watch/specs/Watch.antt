@@ -1,9 +1,10 @@
 -- Which requests are awake, so that something may be due of them, and which sleep.
-use Rattle.std.specs.Prelude.{◌≡◌, ℕ, zero, suc, ◌<◌, ◌≤◌, ◌^◌, ◌⊎◌, Bool, true, false, List, [], Some, Contains, length, replicate, slice_index_or, nat_eq}
+use Rattle.std.specs.Prelude.{◌≡◌, ℕ, zero, suc, ◌<◌, ◌≤◌, ◌^◌, ◌⊎◌, Bool, true, false, if◌then◌else◌, List, [], ◌∷◌, Some, Contains, length, map, filter, replicate, slice_index_or, nat_eq}
 use Rattle.std.specs.List.{AllByRecursion, list_any}
 use Rattle.std.specs.Ordering.{nat_cmp}
 use Rattle.std.specs.Map.{lookup}
 use Rattle.std.specs.BTreeMap.{is_at}
+use Rattle.cat_model.specs.Reach.{is_on}
 use Rattle.cat_model.specs.declared.query.Chan.{Chan}
 
 -- The reads that sleep at a server, ascending by number: each with the channels on which it hangs, and each with the time of the server's clock at which its wait is over.
@@ -57,6 +58,19 @@ pub record OthersStay (number : ℕ) (before after : Sleepers) : Type 0 where
 -- whether a number is one of these
 abbrev pub is_among : ℕ → List ℕ → Bool
 is_among n numbers = list_any (λ m. nat_eq m n) numbers
+
+-- the numbers without this one where it stands last
+abbrev pub without_last : ℕ → List ℕ → List ℕ
+without_last n [] = []
+without_last n (m ∷ ms) = if is_among n ms then m ∷ without_last n ms else (if nat_eq m n then ms else m ∷ ms)
+
+-- the numbers of those that hang on a channel which a fired one reaches
+abbrev pub hit_by : List Chan → List (ℕ × List Chan) → List ℕ
+hit_by fired asleep = map (λ w. w.0) (filter (λ w. is_on fired w.1) asleep)
+
+-- the number has a timer whose time has come
+abbrev pub IsOver : ℕ → ℕ → List (ℕ × ℕ) → Type 0
+IsOver n clock timers = (deadline : ℕ) × (lookup (is_at (nat_cmp n)) timers ≡ Some deadline) × (deadline ≤ clock)
 
 -- each timer's key is the number of a request, which has 64 bits
 abbrev pub AreNumbers : List (ℕ × ℕ) → Type 0

@@ -1,6 +1,7 @@
 //! The numbers of the requests that are awake.
 
-ghost use Rattle.std.specs.Prelude.{◌≡◌, ◌≢◌, ◌++◌, ◌<◌, ℕ, Contains, IfSome, length, slice_index, if◌then◌else◌};
+ghost use Rattle.std.specs.Prelude.{◌≡◌, ◌≢◌, ◌++◌, ◌+◌, ◌<◌, ℕ, false, Contains, IfSome, None, drop, filter, length, nat_eq, not, slice_index, if◌then◌else◌};
+ghost use Rattle.read_watch.specs.Watch.{is_among, without_last};
 
 /// Adds these numbers, if there is memory, and tells whether there was.
 pub fn add(awake: &mut Vec<u64>, numbers: &[u64]) -> bool
@@ -11,7 +12,9 @@ pub fn add(awake: &mut Vec<u64>, numbers: &[u64]) -> bool
 
 /// The last place of a number.
 fn last_place(awake: &[u64], number: u64) -> Option<usize>
-    ensures { IfSome result (λ at. (at < length awake.now) × (slice_index awake.now at ≡ number)) }
+    ensures there { IfSome result (λ at. (at < length awake.now) × (slice_index awake.now at ≡ number)) }
+    ensures last { IfSome result (λ at. is_among number (drop (at + 1) awake.now) ≡ false) }
+    ensures none { result ≡ None → is_among number awake.now ≡ false }
 {
     let mut at = awake.len();
     while at > 0 {
@@ -25,7 +28,8 @@ fn last_place(awake: &[u64], number: u64) -> Option<usize>
 
 /// Takes a number out, where it stands last.
 pub fn take_last(awake: &mut Vec<u64>, number: u64)
-    ensures { (n : ℕ) → n ≢ number → Contains awake.old.items n → Contains awake.new.items n }
+    ensures others { (n : ℕ) → n ≢ number → Contains awake.old.items n → Contains awake.new.items n }
+    ensures left { awake.new.items ≡ without_last number awake.old.items }
 {
     if let Some(at) = last_place(awake.as_slice(), number) {
         awake.remove(at);
@@ -36,6 +40,7 @@ pub fn take_last(awake: &mut Vec<u64>, number: u64)
 pub fn take_all(awake: &mut Vec<u64>, number: u64)
     ensures others { (n : ℕ) → n ≢ number → Contains awake.old.items n → Contains awake.new.items n }
     ensures gone { Contains awake.new.items number → ⊥ }
+    ensures left { awake.new.items ≡ filter (λ n. not (nat_eq n number)) awake.old.items }
 {
     awake.retain(|n| *n != number);
 }

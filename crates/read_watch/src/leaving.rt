@@ -1,6 +1,6 @@
 //! Reads that sleep no more leave the registry and the wheel.
 
-ghost use Rattle.std.specs.Prelude.{◌≡◌, ◌<◌, ◌^◌, ℕ, false, filter, not, nat_le, IfOk, OnErr, OnOk};
+ghost use Rattle.std.specs.Prelude.{◌≡◌, ◌<◌, ◌^◌, ℕ, true, false, None, filter, not, nat_le, IfOk, OnErr, OnOk};
 ghost use Rattle.std.specs.List.{AllByRecursion};
 ghost use Rattle.std.specs.Ordering.{nat_cmp};
 ghost use Rattle.std.specs.Map.{lookup};
@@ -25,7 +25,8 @@ pub fn cancel_each(timers: &mut TimerWheel, numbers: &[u64])
 
 /// Takes these numbers out of the registry.
 pub fn remove_each(registry: &mut WatchRegistry, numbers: &[u64])
-    ensures { (n : ℕ) → is_among n numbers.now ≡ false → lookup (is_at (nat_cmp n)) registry.new ≡ lookup (is_at (nat_cmp n)) registry.old }
+    ensures others { (n : ℕ) → is_among n numbers.now ≡ false → lookup (is_at (nat_cmp n)) registry.new ≡ lookup (is_at (nat_cmp n)) registry.old }
+    ensures gone { (n : ℕ) → is_among n numbers.now ≡ true → lookup (is_at (nat_cmp n)) registry.new ≡ None }
 {
     for number in numbers {
         registry.remove(*number);

@@ -1,10 +1,11 @@
 //! The reads that sleep at one server.
 
-ghost use Rattle.std.specs.Prelude.{◌≡◌, ◌<◌, ◌≤◌, ℕ, true, false, None, length, IfOk};
+ghost use Rattle.std.specs.Prelude.{◌≡◌, ◌<◌, ◌≤◌, ℕ, true, false, None, filter, length, nat_le, not, IfOk, OnErr, OnOk};
 ghost use Rattle.std.specs.Ordering.{nat_cmp};
 ghost use Rattle.std.specs.Map.{lookup};
 ghost use Rattle.std.specs.BTreeMap.{is_at};
 ghost use Rattle.cat_model.specs.Reach.{is_on};
+ghost use Rattle.timer_wheel.specs.Dues.{AreDue};
 
 use crate::entering::enter;
 use crate::leaving::{cancel_each, remove_each, take_due};
@@ -32,7 +33,7 @@ impl Model for SleepingReads {
 }
 
 impl SleepingReads {
-    ghost use Rattle.read_watch.specs.Watch.{SleepsAmong, Leave, OthersStay, no_sleeper};
+    ghost use Rattle.read_watch.specs.Watch.{SleepsAmong, Leave, OthersStay, hit_by, is_among, no_sleeper};
 
     /// Nobody sleeps.
     pub fn new(alloc: Global) -> Result<SleepingReads, Memory>
@@ -59,6 +60,7 @@ impl SleepingReads {
     pub fn rest(&mut self, alloc: Global, number: u64, chans: &List<Chan>, deadline: u64) -> bool
         requires two { length chans.now ≤ 2 }
         ensures sleeps { result ≡ true → SleepsAmong number chans.now deadline self.new }
+        ensures gone { result ≡ false → lookup (is_at (nat_cmp number)) self.new.asleep ≡ None }
         ensures others { OthersStay number self.old self.new }
     {
         self.forget(number);
@@ -74,7 +76,10 @@ impl SleepingReads {
 
     /// Those on any channel that a fired one reaches sleep no more, and are given.
     pub fn take_fired(&mut self, alloc: Global, fired: &List<Chan>) -> Result<List<u64>, Memory>
-        ensures { IfOk result (λ l. Leave (λ chans _. is_on fired.now chans ≡ false) l self.old self.new) }
+        ensures leave { IfOk result (λ l. Leave (λ chans _. is_on fired.now chans ≡ false) l self.old self.new) }
+        ensures hit { IfOk result (λ l. l ≡ hit_by fired.now self.old.asleep) }
+        ensures left { OnOk result (self.new.asleep ≡ filter (λ w. not (is_on fired.now w.1)) self.old.asleep) }
+        ensures err { OnErr result (self.new ≡ self.old) }
     {
         let hit = self.registry.fire(alloc, fired)?;
         cancel_each(&mut self.timers, hit.as_slice());
@@ -83,7 +88,10 @@ impl SleepingReads {
 
     /// Those whose deadline has come sleep no more, and are given. Some may have gone also after want of memory.
     pub fn take_over(&mut self, alloc: Global, clock: u64) -> Result<List<u64>, Memory>
-        ensures { IfOk result (λ l. Leave (λ _ deadline. clock < deadline) l self.old self.new) }
+        ensures leave { IfOk result (λ l. Leave (λ _ deadline. clock < deadline) l self.old self.new) }
+        ensures due { IfOk result (λ l. AreDue self.old.timers clock l) }
+        ensures left { OnOk result (self.new.timers ≡ filter (λ t. not (nat_le t.1 clock)) self.old.timers) }
+        ensures gone { IfOk result (λ l. (n : ℕ) → is_among n l ≡ true → lookup (is_at (nat_cmp n)) self.new.asleep ≡ None) }
     {
         let over = take_due(alloc, &mut self.timers, clock)?;
         remove_each(&mut self.registry, over.as_slice());

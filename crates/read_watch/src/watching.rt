@@ -1,6 +1,6 @@
 //! The requests of all servers.
 
-ghost use Rattle.std.specs.Prelude.{◌≡◌, ◌≢◌, ◌+◌, ◌<◌, ◌≤◌, ◌⊎◌, ℕ, List as Items, false, length, IfOk, Contains};
+ghost use Rattle.std.specs.Prelude.{◌≡◌, ◌≢◌, ◌+◌, ◌<◌, ◌≤◌, ◌⊎◌, ℕ, List as Items, true, false, length, IfOk, Contains};
 ghost use Rattle.cat_model.specs.Reach.{is_on};
 ghost use Rattle.cat_model.specs.declared.query.Chan.{Chan as Channel};
 
@@ -36,7 +36,7 @@ fn place(server: u32) -> usize
 }
 
 impl Watch {
-    ghost use Rattle.read_watch.specs.Watch.{nobody, IsServer, IsAwake, Sleeps};
+    ghost use Rattle.read_watch.specs.Watch.{hit_by, nobody, sleepers_of, without_last, IsServer, IsAwake, IsOver, Sleeps};
 
     /// No request at so many servers.
     pub fn new(alloc: Global, servers: u32) -> Result<Watch, Memory>
@@ -69,6 +69,7 @@ impl Watch {
 
     fn wake_each(&mut self, numbers: &[u64])
         ensures awake { (n : ℕ) → Contains numbers.now n → IsAwake n self.new }
+        ensures alone { (n : ℕ) → Contains self.new.awake n → Contains self.old.awake n ⊎ Contains numbers.now n }
         ensures kept { (n : ℕ) → IsAwake n self.old → IsAwake n self.new }
         ensures servers { self.new.servers ≡ self.old.servers }
     {
@@ -80,6 +81,7 @@ impl Watch {
     /// A request wakes.
     pub fn wake(&mut self, number: u64)
         ensures awake { IsAwake number self.new }
+        ensures alone { (n : ℕ) → Contains self.new.awake n → Contains self.old.awake n ⊎ (n ≡ number) }
         ensures kept { (n : ℕ) → IsAwake n self.old → IsAwake n self.new }
         ensures servers { self.new.servers ≡ self.old.servers }
     {
@@ -93,6 +95,7 @@ impl Watch {
         requires { IsServer server self.old }
         ensures kept { (n : ℕ) → IsAwake n self.old → IsAwake n self.new }
         ensures sleepers { (i n : ℕ) (chans : Items Channel) (deadline : ℕ) → Sleeps i n chans deadline self.old → IsAwake n self.new ⊎ (Sleeps i n chans deadline self.new × (i ≡ server → is_on fired.now chans ≡ false)) }
+        ensures alone { (n : ℕ) → Contains self.new.awake n → Contains self.old.awake n ⊎ Contains (hit_by fired.now (sleepers_of self.old.servers server).asleep) n }
         ensures servers { length self.new.servers ≡ length self.old.servers }
     {
         match self.servers[place(server)].take_fired(alloc, fired) {
@@ -107,6 +110,7 @@ impl Watch {
         requires { IsServer server self.old }
         ensures kept { (n : ℕ) → IsAwake n self.old → IsAwake n self.new }
         ensures sleepers { (i n : ℕ) (chans : Items Channel) (deadline : ℕ) → Sleeps i n chans deadline self.old → IsAwake n self.new ⊎ (Sleeps i n chans deadline self.new × (i ≡ server → clock < deadline)) }
+        ensures alone { (n : ℕ) → Contains self.new.awake n → Contains self.old.awake n ⊎ IsOver n clock (sleepers_of self.old.servers server).timers }
         ensures servers { length self.new.servers ≡ length self.old.servers }
     {
         match self.servers[place(server)].take_over(alloc, clock) {
@@ -129,6 +133,8 @@ impl Watch {
         requires server { IsServer server self.old }
         requires two { length chans.now ≤ 2 }
         ensures rests { IsAwake number self.new ⊎ Sleeps server number chans.now deadline self.new }
+        ensures only { (cs : Items Channel) (d : ℕ) → Sleeps server number cs d self.new → (cs ≡ chans.now) × (d ≡ deadline) × (self.new.awake ≡ without_last number self.old.awake) }
+        ensures alone { (n : ℕ) → n ≢ number → Contains self.new.awake n → Contains self.old.awake n }
         ensures kept { (n : ℕ) → n ≢ number → IsAwake n self.old → IsAwake n self.new }
         ensures sleepers { (i n : ℕ) (cs : Items Channel) (d : ℕ) → n ≢ number → Sleeps i n cs d self.old → Sleeps i n cs d self.new }
         ensures servers { length self.new.servers ≡ length self.old.servers }
@@ -146,6 +152,7 @@ impl Watch {
         requires { IsServer server self.old }
         ensures kept { (n : ℕ) → n ≢ number → IsAwake n self.old → IsAwake n self.new }
         ensures sleepers { (i n : ℕ) (cs : Items Channel) (d : ℕ) → n ≢ number → Sleeps i n cs d self.old → Sleeps i n cs d self.new }
+        ensures alone { (n : ℕ) → Contains self.new.awake n → Contains self.old.awake n }
         ensures up { Contains self.new.awake number → ⊥ }
         ensures down { (chans : Items Channel) (deadline : ℕ) → Sleeps server number chans deadline self.new → ⊥ }
         ensures servers { length self.new.servers ≡ length self.old.servers }

@@ -8,3 +8,6 @@ returns-clause-others c = others_kept c.args.number c.args.awake.now.items _ (fi
 
 pub returns-clause-gone : goal.returns-clause-gone
 returns-clause-gone c = none_kept c.args.number c.args.awake.now.items _ (filter_same _ (λ p. not (p == c.args.number)) _ (λ x b f' k. search rules) _ _ c.retain.ensures.filtered)
+
+pub returns-clause-left : goal.returns-clause-left
+returns-clause-left c = filter_same _ (λ p. not (p == c.args.number)) _ (λ x b f' k. search rules) _ _ c.retain.ensures.filtered

@@ -1,4 +1,4 @@
-use Rattle.std.proofs.Common.{ℕ, sym, ◌∙◌, ap, get_or, subst}
+use Rattle.std.proofs.Common.{sym, ◌∙◌, ap, subst}
 use Rattle.std.specs.Ordering.{nat_cmp}
 use Rattle.std.specs.Map.{lookup}
 use Rattle.std.specs.BTreeMap.{is_at}

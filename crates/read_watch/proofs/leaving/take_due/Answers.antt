@@ -1,4 +1,4 @@
-use Rattle.std.proofs.Common.{ℕ, ◌<◌, ◌^◌, sym, subst, not, nat_le}
+use Rattle.std.proofs.Common.{◌<◌, ◌^◌, sym, subst, not, nat_le}
 use Rattle.std.specs.List.{AllByRecursion}
 use Rattle.read_watch.specs.Watch.{AreNumbers}
 use Rattle.read_watch.proofs.Lookups.{numbers_passing}
