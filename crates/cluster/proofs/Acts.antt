@@ -24,14 +24,14 @@ use Rattle.cluster_turns.specs.declared.cut.Cut.{Cut}
 use Rattle.cluster_turns.specs.declared.cut.Cut.TheVariants.{Before, Within}
 use Rattle.cluster_turns.specs.Turns.{ActsWhole, ActsCut}
 use Rattle.open_requests.specs.Requests.{Requests, cluster_of as whole_of}
-use Rattle.cluster.specs.declared.moving.Seen.{Seen}
-use Rattle.cluster.specs.Moving.{Ends, MarksStep, Seats, seen_of}
+use Rattle.cluster_parts.specs.declared.moving.Seen.{Seen}
+use Rattle.cluster_parts.specs.Moving.{Ends, MarksStep, Seats, seen_of}
 use Rattle.cluster.specs.Standing as standing
 use Rattle.cluster.proofs.Carried.{Goes, all_officed, arming_goes, carries, sound_officed}
 use Rattle.cluster.proofs.Forgetting.{forgot}
 use Rattle.cluster.proofs.Marking.{cluster_marked, stands_marked, with_room}
 use Rattle.agent_rules.specs.Agents.{Agent}
-use Rattle.cluster.specs.Watching.{Watching}
+use Rattle.cluster_parts.specs.Watching.{Watching}
 
 module _ (gs : List Agent) (wt : Watching) where
   -- the cluster of these parts, with these agents

@@ -30,8 +30,8 @@ use Rattle.cluster_turns.specs.declared.agent_event.AgentEvent.TheVariants as ag
 use Rattle.cluster_turns.specs.declared.cut.Cut.{Cut}
 use Rattle.cluster_turns.specs.declared.cut.Cut.TheVariants.{Before, Within}
 use Rattle.open_requests.specs.Requests.{Requests, answered_with, cluster_of as whole_of, numbered_with, used}
-use Rattle.cluster.specs.Agents.{agent_at, agents_with}
-use Rattle.cluster.specs.Watching.{Watching}
+use Rattle.cluster_parts.specs.Agents.{agent_at, agents_with}
+use Rattle.cluster_parts.specs.Watching.{Watching}
 use Rattle.cluster.specs.Standing.{Stands}
 use Rattle.cluster.specs.Syncing.{PlansInPart, PlansWhole, content_told, cut_first, noted_alone, own_done, reply_told}
 use Rattle.cluster.proofs.Handled.{Comes, numbered_cluster, numbered_stands}

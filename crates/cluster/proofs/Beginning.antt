@@ -9,7 +9,7 @@ use Rattle.cluster_rules.specs.Sound.{ServerIsSound}
 use Rattle.open_requests.specs.Requests as own
 use Rattle.cluster_servers.proofs.Beginning.{as_many_start}
 use Rattle.read_watch.specs.Watch.{no_sleeper}
-use Rattle.cluster.specs.Watching.{Watching, nothing_watched}
+use Rattle.cluster_parts.specs.Watching.{Watching, nothing_watched}
 use Rattle.cluster.specs.Beginning.{MayBegin}
 use Rattle.cluster.specs.Standing.{Stands}
 

@@ -17,7 +17,7 @@ use Rattle.cluster_rules.proofs.Boundary.{Rises, acts_rise}
 use Rattle.cluster_rules.proofs.Grows.{GoesTo, goes_by, goes_nowhere, write_map}
 use Rattle.cluster_rules.proofs.Moved.{arms_rise, drops_rise, ticks_rise}
 use Rattle.cluster_rules.proofs.Tools.{at_item, each_map}
-use Rattle.cluster.specs.Watching.{Watching}
+use Rattle.cluster_parts.specs.Watching.{Watching}
 use Rattle.cluster.specs.Standing.{HasPlace, IsAwaited, IsHeld, IsWatched}
 
 -- The world went on, and no server's commit fell.

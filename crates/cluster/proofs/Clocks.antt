@@ -14,7 +14,7 @@ use Rattle.cluster.specs.Standing as standing
 use Rattle.cluster.proofs.Carried.{losing_goes, ticking_goes}
 use Rattle.cluster.proofs.Marking.{world_stands}
 use Rattle.agent_rules.specs.Agents.{Agent}
-use Rattle.cluster.specs.Watching.{Watching}
+use Rattle.cluster_parts.specs.Watching.{Watching}
 
 module _ (gs : List Agent) (wt : Watching) where
   -- the cluster of these parts, with these agents

@@ -19,9 +19,9 @@ use Rattle.open_requests.specs.declared.pending.Stand as own_stand
 use Rattle.open_requests.specs.Contents.{content_of, stand_of}
 use Rattle.open_requests.specs.Requests.{Requests, cluster_of as whole_of, restood}
 use Rattle.open_requests.proofs.Lifting.{restands_by}
-use Rattle.cluster.specs.declared.work.Work as own
-use Rattle.cluster.specs.declared.work.Work.TheVariants.{Answer, Hold, Close, Apply}
-use Rattle.cluster.specs.Looking.{is_early}
+use Rattle.cluster_parts.specs.declared.work.Work as own
+use Rattle.cluster_parts.specs.declared.work.Work.TheVariants.{Answer, Hold, Close, Apply}
+use Rattle.cluster_parts.specs.Looking.{is_early}
 use Rattle.cluster.specs.Standing as standing
 use Rattle.cluster.specs.Standing.{IsWatched}
 use Rattle.cluster.proofs.Finding.{early_is}
@@ -31,9 +31,9 @@ use Rattle.cat_model.specs.declared.request.Asked.{Asked}
 use Rattle.cat_model.specs.declared.request.Asked.TheVariants.{Good, Bad}
 use Rattle.cat_model.specs.declared.request.Request.TheVariants.{Read, Execute, Write, Renew, Agent as AsksAgent}
 use Rattle.raft_model.specs.declared.message.Round.{Round}
-use Rattle.cluster.specs.Working.{DidDue, IsWork, closed}
+use Rattle.cluster_parts.specs.Working.{DidDue, IsWork, closed}
 use Rattle.agent_rules.specs.Agents.{Agent}
-use Rattle.cluster.specs.Watching.{MayBeDue, Watching}
+use Rattle.cluster_parts.specs.Watching.{MayBeDue, Watching}
 
 module _ (gs : List Agent) (wt : Watching) where
   -- the cluster of these parts, with these agents

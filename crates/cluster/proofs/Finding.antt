@@ -32,16 +32,16 @@ use Rattle.cluster_rules.proofs.Steps.{or_left, or_right}
 use Rattle.open_requests.specs.declared.pending.Stand as own
 use Rattle.open_requests.specs.Contents.{read_content, stand_of as own_stand}
 use Rattle.open_requests.specs.Requests.{Requests, cluster_of as whole_of}
-use Rattle.cluster.specs.declared.work.Work.{Work}
-use Rattle.cluster.specs.declared.work.Work.TheVariants.{Apply, Hold}
-use Rattle.cluster.specs.Looking.{is_early, is_late, is_look_due, is_number_early, is_number_late, is_round_over, is_stand_due, is_stand_late, numbered_in, test_held, waits_on}
+use Rattle.cluster_parts.specs.declared.work.Work.{Work}
+use Rattle.cluster_parts.specs.declared.work.Work.TheVariants.{Apply, Hold}
+use Rattle.cluster_parts.specs.Looking.{is_early, is_late, is_look_due, is_number_early, is_number_late, is_round_over, is_stand_due, is_stand_late, numbered_in, test_held, waits_on}
 use Rattle.cluster.specs.Standing as standing
 use Rattle.cluster.specs.Standing.{IsAwaited, IsWatched}
-use Rattle.cluster.specs.Working.{Finds, IsFound, IsWork}
+use Rattle.cluster_parts.specs.Working.{Finds, IsFound, IsWork}
 use Rattle.cluster.proofs.Numbered.{each_numbered, each_one, one_found}
 use Rattle.cluster.proofs.Watched.{RestsAs, rests_as}
 use Rattle.agent_rules.specs.Agents.{Agent as AgentRows}
-use Rattle.cluster.specs.Watching.{MayBeDue, Sleeps, StayAwake, Watching}
+use Rattle.cluster_parts.specs.Watching.{MayBeDue, Sleeps, StayAwake, Watching}
 
 module _ (gs : List AgentRows) (wt : Watching) where
   -- the cluster of these parts, with these agents

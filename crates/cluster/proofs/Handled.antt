@@ -40,7 +40,7 @@ use Rattle.cluster.proofs.Kept.{answer_stands}
 use Rattle.cluster.proofs.Notes.{come_made, joined_placed, numbers_by}
 use Rattle.cluster.proofs.Taken.{delayed_as_asked}
 use Rattle.agent_rules.specs.Agents.{Agent}
-use Rattle.cluster.specs.Watching.{Watching}
+use Rattle.cluster_parts.specs.Watching.{Watching}
 
 module _ (gs : List Agent) (wt : Watching) where
   -- the cluster of these parts, with these agents

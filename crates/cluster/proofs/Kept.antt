@@ -21,7 +21,7 @@ use Rattle.raft_model.proofs.Tests.{le_tells}
 use Rattle.cluster_rules.proofs.Works.{ascends_without, commit_agrees, each_kept}
 use Rattle.open_requests.specs.Requests.{Requests, answered_with, closed_with, cluster_of as whole_of}
 use Rattle.cluster_servers.specs.Servers.{Servers, applies_next}
-use Rattle.cluster.specs.Looking.{is_early, is_stand_due}
+use Rattle.cluster_parts.specs.Looking.{is_early, is_stand_due}
 use Rattle.cluster.specs.Standing as standing
 use Rattle.cluster.specs.Standing.{IsAwaited, IsWatched}
 use Rattle.cluster.proofs.Numbered.{others_left}
@@ -29,7 +29,7 @@ use Rattle.cluster.proofs.Watched.{fired_watched, others_stand, watched_by}
 use Rattle.replica.specs.Sparing.{SparesOthers}
 use Rattle.cluster.proofs.Carried.{sound_with}
 use Rattle.agent_rules.specs.Agents.{Agent}
-use Rattle.cluster.specs.Watching.{MayBeDue, Sleeps, StayAwake, Watching}
+use Rattle.cluster_parts.specs.Watching.{MayBeDue, Sleeps, StayAwake, Watching}
 
 -- a server at which more is committed than applied is one of them
 no_commit : (w : World) (i : ℕ) → (i ≡ 0) ⊎ (length w.nodes < i) → (node_of w i).commit ≡ 0

@@ -1,10 +1,7 @@
 pub mod Acts
-pub mod AgentPlaces
 pub mod Beginning
 pub mod Carried
 pub mod Dues
-pub mod Entered
-pub mod Executed
 pub mod ProposedAll
 pub mod Finding
 pub mod Forgetting
@@ -28,7 +25,6 @@ pub mod Turns
 pub mod Notes
 pub mod Numbered
 pub mod Watched
-pub mod Awake
 pub mod Slept
 pub mod AgentParts
 pub mod Syncs

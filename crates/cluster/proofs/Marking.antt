@@ -11,11 +11,11 @@ use Rattle.open_requests.specs.declared.note.Note.{Note}
 use Rattle.open_requests.specs.declared.note.Note.TheVariants.{Joined}
 use Rattle.open_requests.specs.Notes.{joined_in}
 use Rattle.open_requests.specs.Requests.{Requests, cluster_of as whole_of, halted_with, with_note}
-use Rattle.cluster.specs.Moving.{IsMarked}
+use Rattle.cluster_parts.specs.Moving.{IsMarked}
 use Rattle.cluster.specs.Standing as standing
 use Rattle.cluster.proofs.Carried.{Carries, Goes, all_later, carries, goes_here}
 use Rattle.agent_rules.specs.Agents.{Agent}
-use Rattle.cluster.specs.Watching.{Watching}
+use Rattle.cluster_parts.specs.Watching.{Watching}
 
 module _ (gs : List Agent) (wt : Watching) where
   -- the cluster of these parts, with these agents

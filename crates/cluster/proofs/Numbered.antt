@@ -8,7 +8,7 @@ use Rattle.cluster_rules.specs.Cluster.{Pending}
 use Rattle.cluster_rules.specs.Due.{without}
 use Rattle.cluster_rules.specs.Sound.{Ascends}
 use Rattle.cluster_rules.proofs.Tools.{eq_self, eq_tells_not}
-use Rattle.cluster.specs.Looking.{numbered_in}
+use Rattle.cluster_parts.specs.Looking.{numbered_in}
 
 below_other : (a b : ℕ) → a < b → (a == b) ≡ false
 below_other a b l = grind (arith, nat_tests)

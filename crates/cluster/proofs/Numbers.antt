@@ -7,7 +7,7 @@ use Rattle.cluster_rules.specs.Reached.{IsServerNumber}
 use Rattle.open_requests.specs.Requests.{Requests, cluster_of as whole_of}
 use Rattle.cluster.specs.Standing as standing
 use Rattle.agent_rules.specs.Agents.{Agent}
-use Rattle.cluster.specs.Watching.{Watching}
+use Rattle.cluster_parts.specs.Watching.{Watching}
 
 module _ (gs : List Agent) (wt : Watching) where
   -- the cluster of these parts, with these agents

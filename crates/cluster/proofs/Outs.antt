@@ -16,7 +16,7 @@ use Rattle.cluster.specs.Standing as standing
 use Rattle.cluster_interface.specs.Interface.{TakesFirst}
 use Rattle.cluster_interface.specs.Taking.{Collects, Takes}
 use Rattle.agent_rules.specs.Agents.{Agent}
-use Rattle.cluster.specs.Watching.{Watching}
+use Rattle.cluster_parts.specs.Watching.{Watching}
 
 module _ (gs : List Agent) (wt : Watching) where
   -- the cluster of these parts, with these agents

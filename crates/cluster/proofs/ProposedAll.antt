@@ -19,14 +19,14 @@ use Rattle.cluster_rules.proofs.Boundary.{acts_greatest, acts_server, leader_the
 use Rattle.cluster_rules.proofs.Tools.{is_node}
 use Rattle.cluster_servers.specs.Servers.{Servers}
 use Rattle.open_requests.specs.Requests.{Requests, cluster_of as whole_of}
-use Rattle.cluster.specs.declared.moving.Seen.{Seen}
-use Rattle.cluster.specs.Moving.{MarksStep, seen_of}
-use Rattle.cluster.specs.Proposing.{EndsProposal, IsEntered, IsRefused, OneProposed}
+use Rattle.cluster_parts.specs.declared.moving.Seen.{Seen}
+use Rattle.cluster_parts.specs.Moving.{MarksStep, seen_of}
+use Rattle.cluster_parts.specs.Proposing.{EndsProposal, IsEntered, IsRefused, OneProposed}
 use Rattle.cluster.specs.Standing as standing
 use Rattle.cluster.proofs.Carried.{carries, proposing_goes}
 use Rattle.cluster.proofs.Marking.{cluster_marked, stands_proposed, with_room}
 use Rattle.agent_rules.specs.Agents.{Agent}
-use Rattle.cluster.specs.Watching.{Watching}
+use Rattle.cluster_parts.specs.Watching.{Watching}
 
 -- All of these commands were entered, one after another.
 pub data AllEntered (i : ℕ) : List Command → Cluster → Cluster → Type 0 where

@@ -33,10 +33,10 @@ use Rattle.cluster_rules.proofs.Tools.{is_node}
 use Rattle.cluster_turns.specs.Turns.{HandlesNewest, IsCome, newest, numbered}
 use Rattle.cluster_servers.specs.Servers.{Servers}
 use Rattle.open_requests.specs.Requests.{Requests, answered_with, cluster_of as whole_of, holding_with, numbered_with, used}
-use Rattle.cluster.specs.declared.asking.Write.{Write}
-use Rattle.cluster.specs.declared.moving.Seen.{Seen}
-use Rattle.cluster.specs.Asking.{EndsWrite, IsCopied, IsTakenWrite}
-use Rattle.cluster.specs.Moving.{IsMarked, MarksStep, seen_of}
+use Rattle.cluster_parts.specs.declared.writing.Write.{Write}
+use Rattle.cluster_parts.specs.declared.moving.Seen.{Seen}
+use Rattle.cluster_parts.specs.Asking.{EndsWrite, IsCopied, IsTakenWrite}
+use Rattle.cluster_parts.specs.Moving.{IsMarked, MarksStep, seen_of}
 use Rattle.cluster.specs.Standing as standing
 use Rattle.cluster.specs.Standing.{HasPlace, IsAwaited}
 use Rattle.cluster.proofs.Carried.{carries, proposing_goes}
@@ -44,7 +44,7 @@ use Rattle.cluster.proofs.Handled.{Comes, below_next, hold_stands, holds_as, num
 use Rattle.cluster.proofs.Marking.{cluster_marked, stands_proposed, with_room}
 use Rattle.cluster.proofs.Taken.{is_counted}
 use Rattle.agent_rules.specs.Agents.{Agent}
-use Rattle.cluster.specs.Watching.{Watching}
+use Rattle.cluster_parts.specs.Watching.{Watching}
 
 module _ (gs : List Agent) (wt : Watching) where
   -- the cluster of these parts, with these agents

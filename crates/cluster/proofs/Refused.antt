@@ -19,7 +19,7 @@ use Rattle.cluster.specs.Standing as standing
 use Rattle.cluster.proofs.Carried.{all_more}
 use Rattle.cluster.proofs.Kept.{answer_stands, call_stands}
 use Rattle.agent_rules.specs.Agents.{Agent}
-use Rattle.cluster.specs.Watching.{Watching}
+use Rattle.cluster_parts.specs.Watching.{Watching}
 
 module _ (gs : List Agent) (wt : Watching) where
   -- the cluster of these parts, with these agents

@@ -22,12 +22,12 @@ use Rattle.cluster_rules.specs.Sound.{ServerIsSound}
 use Rattle.cluster_rules.proofs.Entries.{agree_entry, take_next}
 use Rattle.cluster_rules.proofs.Grows.{write_map}
 use Rattle.open_requests.specs.Contents.{write_content}
-use Rattle.cluster.specs.Looking.{IsAppliedLast, RepliesLast}
+use Rattle.cluster_parts.specs.Looking.{IsAppliedLast, RepliesLast}
 use Rattle.open_requests.specs.Requests.{Requests, cluster_of as whole_of}
 use Rattle.cluster.specs.Standing as standing
 use Rattle.cluster.specs.Standing.{HasPlace, IsAwaited}
 use Rattle.agent_rules.specs.Agents.{Agent as AgentRows}
-use Rattle.cluster.specs.Watching.{Watching}
+use Rattle.cluster_parts.specs.Watching.{Watching}
 
 module _ (gs : List AgentRows) (wt : Watching) where
   -- the cluster of these parts, with these agents

@@ -17,14 +17,14 @@ use Rattle.cluster_rules.proofs.Tools.{eq_tells_not, is_place, item_other, item_
 use Rattle.open_requests.proofs.Lifting.{ends_by}
 use Rattle.open_requests.specs.Notes.{events_noted}
 use Rattle.open_requests.specs.Requests.{Requests, cluster_of as whole_of, ended_all}
-use Rattle.cluster.specs.declared.moving.Seen.{Seen}
-use Rattle.cluster.specs.Moving.{IsMarked, seen_of}
+use Rattle.cluster_parts.specs.declared.moving.Seen.{Seen}
+use Rattle.cluster_parts.specs.Moving.{IsMarked, seen_of}
 use Rattle.cluster.specs.Standing as standing
 use Rattle.cluster.proofs.Acts.{ActedWhole, whole_with}
 use Rattle.cluster.proofs.Carried.{AreSound, Carries, held_same, server_later, sound_with}
 use Rattle.cluster.proofs.Marking.{cluster_marked, stands_marked, with_room}
 use Rattle.agent_rules.specs.Agents.{Agent}
-use Rattle.cluster.specs.Watching.{Watching, MayBeDue}
+use Rattle.cluster_parts.specs.Watching.{Watching, MayBeDue}
 
 module _ (gs : List Agent) (wt : Watching) where
   -- the cluster of these parts, with these agents

@@ -19,17 +19,17 @@ use Rattle.cluster_rules.proofs.Tools.{is_node, one_of}
 use Rattle.cluster_turns.specs.Turns.{HandlesNewest, IsCome, newest, numbered}
 use Rattle.cluster_servers.specs.Servers.{Servers}
 use Rattle.open_requests.specs.Requests.{Requests, cluster_of as whole_of, holding_with, numbered_with, used}
-use Rattle.cluster.specs.declared.moving.Seen.{Seen}
-use Rattle.cluster.specs.declared.probing.NewRead.{NewRead}
-use Rattle.cluster.specs.Asking.{EndsProbe, IsNewRead}
-use Rattle.cluster.specs.Moving.{MarksStep, seen_of}
+use Rattle.cluster_parts.specs.declared.moving.Seen.{Seen}
+use Rattle.cluster_parts.specs.declared.probing.NewRead.{NewRead}
+use Rattle.cluster_parts.specs.Asking.{EndsProbe, IsNewRead}
+use Rattle.cluster_parts.specs.Moving.{MarksStep, seen_of}
 use Rattle.cluster.specs.Standing as standing
 use Rattle.cluster.proofs.Carried.{carries, probing_goes}
 use Rattle.cluster.proofs.Handled.{Comes, below_next, hold_stands, holds_as, numbered_cluster, numbered_stands}
 use Rattle.cluster.proofs.Marking.{cluster_marked, stands_proposed, with_room}
 use Rattle.cluster.proofs.Proposing.{marked_asked, marked_held}
 use Rattle.agent_rules.specs.Agents.{Agent}
-use Rattle.cluster.specs.Watching.{Watching}
+use Rattle.cluster_parts.specs.Watching.{Watching}
 
 module _ (gs : List Agent) (wt : Watching) where
   -- the cluster of these parts, with these agents

@@ -19,9 +19,9 @@ use Rattle.cluster_rules.specs.Sound.{Ascends}
 use Rattle.cluster_rules.proofs.Steps.{or_left, or_right}
 use Rattle.cluster_rules.proofs.Tools.{eq_self, eq_tells_not, neither}
 use Rattle.open_requests.specs.Requests.{Requests, cluster_of}
-use Rattle.cluster.specs.Looking.{is_early, is_look_due, is_stand_due, numbered_in}
+use Rattle.cluster_parts.specs.Looking.{is_early, is_look_due, is_stand_due, numbered_in}
 use Rattle.cluster.specs.Standing.{IsWatched, Stands}
-use Rattle.cluster.specs.Watching.{MayBeDue, Sleeps, Watching}
+use Rattle.cluster_parts.specs.Watching.{MayBeDue, Sleeps, Watching}
 use Rattle.cluster.proofs.Finding.{early_is}
 use Rattle.cluster.proofs.Numbered.{each_numbered, each_one, none_found, number_of_found, one_found}
 use Rattle.cluster.proofs.Watched.{others_stand, rests_so}

@@ -9,14 +9,11 @@ use Rattle.cluster_rules.specs.Cluster.{Cluster}
 use Rattle.cluster_rules.specs.Reached.{AreUnarmed}
 use Rattle.script_runs.specs.Holds.{IsFirstStart}
 use Rattle.cluster.specs.Beginning.{HasBegun, MayBegin}
-use Rattle.cluster.specs.Playing.{empty_store}
+use Rattle.cluster_parts.specs.Stores.{empty_store}
 
 -- the stores as the rules see them
 abbrev pub seen : FaultyKeeper → Store
 seen k = stored (Some k.kept) k.armed k.faults
-
-pub one_more : (count : ℕ) (stores : List FaultyKeeper) → stores ≡ replicate count empty_store → stores ++ empty_store ∷ [] ≡ replicate (count + 1) empty_store
-one_more count stores e = ap (λ (s : List FaultyKeeper). s ++ empty_store ∷ []) e ∙ replicate_more count empty_store
 
 are_empty : (count : ℕ) → AreEmpty (map seen (replicate count empty_store))
 are_empty zero = tt

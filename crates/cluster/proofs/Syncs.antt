@@ -14,8 +14,8 @@ use Rattle.cluster_rules.specs.Reached.{IsAgentNumber}
 use Rattle.cluster_rules.specs.Replies.{Out, Synced}
 use Rattle.cluster_rules.specs.Requests.{moved}
 use Rattle.open_requests.specs.Requests.{Requests, cluster_of as whole_of, told_sync}
-use Rattle.cluster.specs.Watching.{Watching}
-use Rattle.cluster.specs.Agents.{agent_at}
+use Rattle.cluster_parts.specs.Watching.{Watching}
+use Rattle.cluster_parts.specs.Agents.{agent_at}
 use Rattle.cluster.specs.Standing.{Stands}
 use Rattle.cluster.specs.Syncing.{IsPlan, PlansWhole}
 

@@ -18,7 +18,8 @@ use Rattle.open_requests.specs.Requests.{Requests, cluster_of}
 use Rattle.session_ttl.specs.Endings.{ending_of}
 use Rattle.session_ttl.specs.declared.ending.Ending.{Ending}
 use Rattle.cluster_turns.specs.Turns.{TendsInPart}
-use Rattle.cluster.specs.Tending.{EndsProposed, ReapsProposed, end_command, is_reap_due}
+use Rattle.cluster.specs.Tending.{EndsProposed, ReapsProposed, is_reap_due}
+use Rattle.cluster_parts.specs.Ending.{end_command}
 
 -- a server in its own place
 own_set : (servers : List Server) (i : ℕ) → set_server servers i (server_of servers i) ≡ servers

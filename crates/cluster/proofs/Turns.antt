@@ -17,9 +17,9 @@ use Rattle.cluster_rules.proofs.Measure.{did_less}
 use Rattle.cluster_rules.proofs.Tools.{there_or_none}
 use Rattle.open_requests.specs.Requests.{Requests, cluster_of as whole_of}
 use Rattle.cluster.specs.Standing as standing
-use Rattle.cluster.specs.Working.{DidDue}
+use Rattle.cluster_parts.specs.Working.{DidDue}
 use Rattle.agent_rules.specs.Agents.{Agent}
-use Rattle.cluster.specs.Watching.{Watching}
+use Rattle.cluster_parts.specs.Watching.{Watching}
 
 module _ (gs : List Agent) (wt : Watching) where
   -- the cluster of these parts, with these agents

@@ -19,7 +19,7 @@ use Rattle.cluster_rules.specs.Cluster.{AtPlace, Ended, ForIndex, InRound, Pendi
 use Rattle.replica.specs.Sparing.{SparesOthers}
 use Rattle.open_requests.specs.Requests.{Requests}
 use Rattle.cluster.specs.Standing.{IsHeld, IsWatched, Rests, Stands}
-use Rattle.cluster.specs.Watching.{MayBeDue, Sleeps, StayAwake, Watching}
+use Rattle.cluster_parts.specs.Watching.{MayBeDue, Sleeps, StayAwake, Watching}
 use Rattle.cluster.proofs.Numbered.{each_on}
 
 -- a request that rests, with what it asks and where it stands

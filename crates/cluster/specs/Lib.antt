@@ -1,14 +1,6 @@
-pub mod Agents
-pub mod Asking
 pub mod Beginning
 pub mod Fitting
 pub mod Going
-pub mod Looking
-pub mod Moving
-pub mod Playing
-pub mod Proposing
 pub mod Standing
 pub mod Syncing
 pub mod Tending
-pub mod Watching
-pub mod Working

@@ -12,7 +12,7 @@ use Rattle.cat_model.specs.Machine.{catalog_at}
 use Rattle.raft_model.specs.Facts.{IsPlaced}
 use Rattle.raft_model.specs.Log.{Log}
 use Rattle.raft_model.specs.World.{World, IsReached}
-use Rattle.cluster.specs.Watching.{Watching, MayBeDue, Sleeps}
+use Rattle.cluster_parts.specs.Watching.{Watching, MayBeDue, Sleeps}
 use Rattle.request_rules.specs.Taken.{IsTakenAsked}
 use Rattle.cluster_rules.specs.Cluster.{Stand, AtPlace, ForIndex, Pending, Server, node_of, server_of}
 use Rattle.cluster_rules.specs.Lasting.{IsWrite}

@@ -1,20 +1,13 @@
 -- What is due by the clock of a server that leads.
 use Rattle.std.specs.Prelude.{◌≡◌, ℕ, nat_le, ◌&&◌, Bool, take}
 use Rattle.cat_model.specs.Log.{commands_of}
-use Rattle.cat_model.specs.declared.command.Command.{Command}
-use Rattle.cat_model.specs.declared.command.Command.TheVariants.{SessionDestroy}
 use Rattle.office_rules.specs.Offices.{has_removed}
 use Rattle.cluster_rules.specs.Cluster.{Cluster, applied_of, clock_of, office_of}
 use Rattle.cluster_rules.specs.Proposals.{Proposals, ends_of, looked, over_rows, reaps_of, with_ends}
-use Rattle.session_ttl.specs.declared.ending.Ending.{Ending}
 
 -- the next look of server i is due, and it has applied the removal of a key since the last reap
 abbrev pub is_reap_due : Cluster → ℕ → Bool
 is_reap_due c i = nat_le (office_of c i).reap (clock_of c.world i) && has_removed (commands_of (applied_of c i))
-
--- the command that ends a session
-abbrev pub end_command : Ending → Command
-end_command ending = SessionDestroy ending.id
 
 -- The ends of the sessions that are over were proposed, whole or as far as memory reached; those that were entered are
 -- not proposed again.

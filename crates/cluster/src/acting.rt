@@ -8,24 +8,11 @@ ghost use Rattle.cluster_rules.specs.Step.{goes_to, receiver};
 ghost use Rattle.cluster_turns.specs.Turns.{ActsCut, ActsWhole, event_of};
 
 use crate::cluster::Cluster;
-use crate::moving::{end, mark, mark_step, seat, see};
-use crate::watching::wake_held;
 use cat_model::Memory;
 use cat_outside::Keeper;
+use cluster_parts::{end, mark, mark_step, prepare, seat, see, wake_held};
 use cluster_turns::{Cut, Impulse};
-use open_requests::Requests;
 use std::alloc::Global;
-
-// Takes the room for the marks of a step.
-fn prepare(requests: &mut Requests) -> Result<(), Cut>
-    ensures ok { OnOk result (requests.new ≡ record requests.old { room = 4 }) }
-    ensures err { IfErr result (λ cut. (cut ≡ Cut.Before) × (requests.new ≡ requests.old)) }
-{
-    match requests.prepare() {
-        Ok(()) => Ok(()),
-        Err(Memory) => Err(Cut::Before),
-    }
-}
 
 impl<K: Keeper + Drop> Cluster<K> {
     /// The election timeout of a server is over.

@@ -1,12 +1,10 @@
 //! What an agent does by itself: it answers what it is asked, and its clock goes on.
 
 ghost use Rattle.std.specs.Prelude.{◌≡◌, IfOk, None, OnErr, OnOk, true};
-ghost use Rattle.cat_model.specs.declared.reply.Refusal.TheVariants as refusal;
 ghost use Rattle.cat_model.specs.declared.request.Asked.TheVariants.{Good};
 ghost use Rattle.cat_model.specs.declared.request.Draw.{Draw as SpecDraw};
 ghost use Rattle.cat_model.specs.declared.request.Event.TheVariants as event;
 ghost use Rattle.cat_model.specs.declared.request.Request.TheVariants.{Agent as AsksAgent};
-ghost use Rattle.agent_rules.specs.Agents.{changes, unknown};
 ghost use Rattle.cluster_rules.specs.Cluster.{Cluster as SpecCluster};
 ghost use Rattle.cluster_rules.specs.Proposals.{agent_did, is_agents, sync_of, synced};
 ghost use Rattle.cluster_rules.specs.Reached.{Fits, IsAgentNumber};
@@ -15,35 +13,12 @@ ghost use Rattle.cluster_turns.specs.Turns.{IsCome, numbered};
 ghost use Rattle.cluster.specs.Syncing.{own_done, reply_told};
 
 use crate::cluster::Cluster;
-use agent_state::unknown;
-use cat_model::{AgentOp, Asked, Draw, Kind, Memory, Refusal, Request, Text};
+use cat_model::{AgentOp, Asked, Draw, Kind, Memory, Request};
 use cat_outside::Keeper;
+use cluster_parts::{changes, not_found};
 use cluster_turns::AgentEvent;
 use open_requests::{Content, MarkedReply, copy_asked};
 use std::alloc::Global;
-
-// The request changes the agent, so that a sync follows it.
-fn changes(op: &AgentOp) -> bool
-    ensures { result ≡ changes op.now }
-{
-    match op {
-        AgentOp::Services | AgentOp::Checks => false,
-        AgentOp::AddService { .. }
-        | AgentOp::DropService { .. }
-        | AgentOp::AddCheck { .. }
-        | AgentOp::DropCheck { .. }
-        | AgentOp::Mark { .. } => true,
-    }
-}
-
-// The refusal of a request that names what an agent doesn't have.
-fn not_found(alloc: Global, op: &AgentOp) -> Result<Refusal, Memory>
-    ensures { IfOk result (λ why. why ≡ refusal.NotFound (unknown op.now)) }
-{
-    Ok(Refusal::NotFound {
-        what: Text::new(alloc, unknown(op))?,
-    })
-}
 
 impl<K: Keeper> Cluster<K> {
     // The agent of a request to itself, where a sync follows it.

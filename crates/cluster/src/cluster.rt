@@ -2,10 +2,9 @@
 
 ghost use Rattle.std.specs.Prelude.{◌≡◌, length};
 
-use crate::agents::Agents;
-use crate::watching::Watching;
 use cat_model::Entry;
 use cat_outside::Keeper;
+use cluster_parts::{Agents, Watching};
 use cluster_servers::Servers;
 use open_requests::Requests;
 use std::marker::Model;

@@ -3,22 +3,12 @@
 ghost use Rattle.std.specs.Prelude.{◌≡◌, None, is_some};
 ghost use Rattle.cat_model.specs.Role.{leads};
 ghost use Rattle.cluster_rules.specs.Cluster.{clock_of, contact_of, item_of, knows, node_of, since};
-ghost use Rattle.cluster_rules.specs.Lasting.{is_stale};
 ghost use Rattle.cluster_rules.specs.Reached.{IsServerNumber};
 
 use crate::cluster::Cluster;
-use cat_model::{Kind, Mode};
+use cat_model::Kind;
 use cat_outside::Keeper;
-
-/// Whether such a read is by the asked server as it stands.
-pub(crate) fn is_stale(mode: Mode) -> bool
-    ensures { result ≡ is_stale mode }
-{
-    match mode {
-        Mode::Default | Mode::Consistent => false,
-        Mode::Stale => true,
-    }
-}
+use cluster_parts::is_stale;
 
 impl<K: Keeper> Cluster<K> {
     /// The server is a leader by its role.

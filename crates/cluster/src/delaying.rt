@@ -1,46 +1,20 @@
 //! Writes that lock a key whose lock delay is not over.
 
-ghost use Rattle.std.specs.Prelude.{◌≡◌, IfOk, OnErr, OnOk, Some, false, true};
+ghost use Rattle.std.specs.Prelude.{◌≡◌, IfOk, OnErr, OnOk, Some, true};
 ghost use Rattle.std.specs.Option.{option_copied};
-ghost use Rattle.cat_model.specs.declared.reply.Kind.{Kind as SpecKind};
 ghost use Rattle.cat_model.specs.declared.request.Asked.TheVariants.{Good};
 ghost use Rattle.cat_model.specs.declared.request.Request.TheVariants.{Write as Writes};
 ghost use Rattle.cluster_rules.specs.Cluster.{until_at};
 ghost use Rattle.cluster_rules.specs.Reached.{IsServerNumber};
-ghost use Rattle.cluster_rules.specs.Replies.{Defers};
 ghost use Rattle.cluster_rules.specs.Requests.{delayed_at, is_ready};
 ghost use Rattle.cluster_turns.specs.Turns.{HandlesNewest, IsCome};
-ghost use Rattle.open_requests.specs.Requests.{reply_with};
 
 use crate::cluster::Cluster;
-use crate::looking::copy_command;
-use cat_model::{Asked, Command, Draw, Kind, Memory, Text};
+use cat_model::{Asked, Command, Draw, Memory};
 use cat_outside::Keeper;
-use open_requests::{Content, MarkedReply, copy_asked};
+use cluster_parts::deferred;
+use open_requests::copy_asked;
 use std::alloc::Global;
-
-// The reply to a write that locks this key, whose delay is over at a later time of the clock.
-fn deferred(
-    alloc: Global,
-    number: u64,
-    command: &Command,
-    key: &str,
-    until: u64,
-    now: u64,
-) -> Result<MarkedReply, Memory>
-    ensures { IfOk result (λ reply. reply ≡ reply_with number (SpecKind.Delayed key.now until now) false 0 (Defers command.now key.now)) }
-{
-    let kind = Kind::Delayed {
-        key: Text::new(alloc, key)?,
-        until,
-        now,
-    };
-    let content = Content::Defers {
-        command: copy_command(command)?,
-        key: Text::new(alloc, key)?,
-    };
-    MarkedReply::new(number, kind, false, 0, content)
-}
 
 impl<K: Keeper + Drop> Cluster<K> {
     // When the lock delay of a key is over at a server. It answers Memory also above 2^64 milliseconds, which no

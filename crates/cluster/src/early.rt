@@ -6,7 +6,7 @@ ghost use Rattle.std.specs.Option.{option_copied};
 ghost use Rattle.cluster_rules.specs.Cluster.{node_of};
 ghost use Rattle.cluster_rules.specs.Reached.{IsServerNumber};
 ghost use Rattle.open_requests.specs.Contents.{stand_of};
-ghost use Rattle.cluster.specs.Looking.{is_early, is_look_due, is_number_early, is_read_due, is_stand_due};
+ghost use Rattle.cluster_parts.specs.Looking.{is_early, is_look_due, is_number_early, is_read_due, is_stand_due};
 
 use crate::cluster::Cluster;
 use cat_model::{Asked, Query, Request};

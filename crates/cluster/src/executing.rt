@@ -7,26 +7,14 @@ ghost use Rattle.cat_model.specs.declared.request.Request.TheVariants.{Execute};
 ghost use Rattle.cluster_rules.specs.Cluster.{applied_of};
 ghost use Rattle.cluster_rules.specs.Due.{Replies};
 ghost use Rattle.cluster_rules.specs.Reached.{IsServerNumber};
-ghost use Rattle.cluster_rules.specs.Replies.{id_in};
-ghost use Rattle.cluster.specs.Working.{IsWork};
+ghost use Rattle.cluster_parts.specs.Working.{IsWork};
 
 use crate::cluster::Cluster;
-use crate::work::Work;
 use cat_model::{Kind, Memory, Mode, Text};
 use cat_outside::Keeper;
+use cluster_parts::{Work, id_in};
 use open_requests::{Content, Question};
 use std::alloc::Global;
-use uuid::Uuid;
-
-// The identifier that a text spells.
-fn id_in(text: &str) -> Option<u128>
-    ensures { result ≡ id_in text.now }
-{
-    match Uuid::parse_str(text) {
-        Ok(uuid) => Some(uuid.as_u128()),
-        Err(_) => None,
-    }
-}
 
 impl<K: Keeper> Cluster<K> {
     /// An execution is answered with what its prepared query gives at all that the server has applied.

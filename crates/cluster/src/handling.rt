@@ -1,7 +1,6 @@
 //! What a server does with a request that was just noted.
 
-ghost use Rattle.std.specs.Prelude.{◌≡◌, ◌≢◌, ◌+◌, ◌||◌, IfOk, None, OnErr, OnOk, Some, false, true};
-ghost use Rattle.cat_model.specs.LogLimits.{command_bytes as bytes_of_command};
+ghost use Rattle.std.specs.Prelude.{◌≡◌, ◌≢◌, ◌||◌, IfOk, None, OnErr, OnOk, Some, false, true};
 ghost use Rattle.cat_model.specs.declared.command.Command.{Command as SpecCommand};
 ghost use Rattle.cat_model.specs.declared.request.Asked.TheVariants.{Good};
 ghost use Rattle.cat_model.specs.declared.request.Mode.{Mode as SpecMode};
@@ -9,136 +8,19 @@ ghost use Rattle.cat_model.specs.declared.request.Mode.TheVariants as modes;
 ghost use Rattle.cat_model.specs.declared.request.Request.TheVariants.{Write as Writes};
 ghost use Rattle.request_rules.specs.Taken.{IsTakenAsked};
 ghost use Rattle.cluster_rules.specs.Cluster.{runs_leading};
-ghost use Rattle.cluster_rules.specs.Due.{due};
 ghost use Rattle.cluster_rules.specs.Reached.{IsServerNumber};
-ghost use Rattle.cluster_rules.specs.Replies.{entered};
-ghost use Rattle.cluster_rules.specs.Requests.{Goes, delayed_at, is_ready, is_stale_read, look_of, wait_of};
+ghost use Rattle.cluster_rules.specs.Requests.{Goes, delayed_at, is_ready, is_stale_read, look_of};
 ghost use Rattle.cluster_turns.specs.Turns.{GoesBy, HandlesNewest, IsCome};
-ghost use Rattle.cluster.specs.Asking.{IsCopied, IsTakenWrite};
+ghost use Rattle.cluster_parts.specs.Asking.{IsCopied, IsTakenWrite};
 
-use crate::asking::{Write, end_write};
 use crate::cluster::Cluster;
-use crate::entering::entered;
-use crate::looking::copy_command;
-use crate::moving::see;
-use crate::way::is_stale_read;
-use cat_model::{Asked, Command, Draw, Entry, Memory, Mode, Request};
+use cat_model::{Asked, Command, Draw, Memory, Mode, Request};
 use cat_outside::Keeper;
-use open_requests::{Plain, Question, Stand, Start, copy_asked};
-use raft_node::batch::command_bytes;
+use cluster_parts::{
+    Write, copied_question, copy_command, end_write, is_stale_read, see, wait_of, with_question,
+};
+use open_requests::{Plain, Stand, Start, copy_asked};
 use std::alloc::Global;
-
-/// How long a read waits at most, in milliseconds.
-pub(crate) fn wait_of(wait_ms: u64) -> u64
-    ensures { result ≡ wait_of wait_ms }
-{
-    if wait_ms == 0 {
-        300_000
-    } else {
-        wait_ms.min(600_000)
-    }
-}
-
-/// A request with its number, and a copy of what was asked.
-pub(crate) fn copied_question(
-    number: u64,
-    agent: u32,
-    asked: &Asked,
-    draw: Draw,
-) -> Result<Question, Memory>
-    ensures { IfOk result (λ question. question ≡ record { number = number; agent = agent; asked = asked.now; draw = draw }) }
-{
-    Ok(Question::new(number, agent, copy_asked(asked)?, draw))
-}
-
-// The entry of a write at a leader of this term.
-fn entry_of(
-    alloc: Global,
-    question: &Question,
-    term: u64,
-    command: &Command,
-) -> Result<Entry, Memory>
-    ensures { IfOk result (λ entry. entry ≡ record { term = term; number = question.now.number; command = entered question.now command.now }) }
-{
-    Ok(Entry {
-        term,
-        number: question.number(),
-        command: entered(alloc, question, command)?,
-    })
-}
-
-// How many bytes these are with a command more.
-fn total(alloc: Global, bytes: u64, command: &Command) -> Result<u64, Memory>
-    ensures { IfOk result (λ all. all ≡ bytes + bytes_of_command command.now) }
-{
-    let more = command_bytes(alloc, command)?;
-    bytes.checked_add(more as u64).ok_or(Memory)
-}
-
-fn with_bytes(
-    question: Question,
-    entry: Entry,
-    asked: &Asked,
-    entries: u64,
-    bytes: u64,
-) -> Result<Write, Memory>
-    ensures { IfOk result (λ write. write ≡ record { asked = asked.now; question = question; entry = entry; entries = entries; bytes = bytes }) }
-{
-    match copy_asked(asked) {
-        Ok(asked) => Ok(Write {
-            asked,
-            question,
-            entry,
-            entries,
-            bytes,
-        }),
-        Err(Memory) => {
-            drop(question);
-            drop(entry);
-            Err(Memory)
-        }
-    }
-}
-
-fn with_entry(
-    alloc: Global,
-    question: Question,
-    entry: Entry,
-    asked: &Asked,
-    entries: u64,
-    before: u64,
-) -> Result<Write, Memory>
-    ensures { IfOk result (λ write. write ≡ record { asked = asked.now; question = question; entry = entry; entries = entries; bytes = before + bytes_of_command entry.command }) }
-{
-    match total(alloc, before, &entry.command) {
-        Ok(bytes) => with_bytes(question, entry, asked, entries, bytes),
-        Err(Memory) => {
-            drop(question);
-            drop(entry);
-            Err(Memory)
-        }
-    }
-}
-
-fn with_question(
-    alloc: Global,
-    question: Question,
-    term: u64,
-    asked: &Asked,
-    command: &Command,
-    entries: u64,
-    before: u64,
-) -> Result<Write, Memory>
-    ensures { let enters = entered question command.now in IfOk result (λ write. write ≡ record { asked = asked.now; question = question; entry = record { term = term; number = question.number; command = enters }; entries = entries; bytes = before + bytes_of_command enters }) }
-{
-    match entry_of(alloc, &question, term, command) {
-        Ok(entry) => with_entry(alloc, question, entry, asked, entries, before),
-        Err(Memory) => {
-            drop(question);
-            Err(Memory)
-        }
-    }
-}
 
 impl<K: Keeper + Drop> Cluster<K> {
     /// The server has applied an entry of its term.

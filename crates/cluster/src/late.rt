@@ -1,36 +1,19 @@
 //! The held requests whose round is confirmed.
 
-ghost use Rattle.std.specs.Prelude.{◌≡◌, ℕ, IfNone, IfSome, None, false, true};
+ghost use Rattle.std.specs.Prelude.{◌≡◌, IfNone, IfSome, None, false, true};
 ghost use Rattle.std.specs.List.{AllByRecursion as Each, find};
 ghost use Rattle.std.specs.Option.{option_copied};
-ghost use Rattle.cluster_rules.specs.Cluster as rules;
-ghost use Rattle.cluster_rules.specs.Due.{late_work, next_work};
+ghost use Rattle.cluster_rules.specs.Due.{next_work};
 ghost use Rattle.cluster_rules.specs.Reached.{IsServerNumber};
 ghost use Rattle.open_requests.specs.Contents.{stand_of};
-ghost use Rattle.cluster.specs.Looking.{is_early, is_late, is_number_late, is_round_over, is_stand_late};
-ghost use Rattle.cluster.specs.Working.{Finds, IsFound};
+ghost use Rattle.cluster_parts.specs.Looking.{is_early, is_late, is_number_late, is_round_over, is_stand_late};
+ghost use Rattle.cluster_parts.specs.Working.{Finds};
 
 use crate::cluster::Cluster;
-use crate::work::Work;
 use cat_outside::Keeper;
+use cluster_parts::{Work, past_round};
 use open_requests::{Pending, Stand};
 use raft_model::Round;
-
-// A request whose round is over is looked for from now on.
-fn past_round(held: &Pending) -> Option<Work>
-    ensures { (c : rules.Cluster) (i : ℕ) → is_late c i held.now ≡ true → IsFound c i (late_work c i held.now) result }
-{
-    match held.stand() {
-        Stand::InRound { deadline, .. } => Some(Work::Hold {
-            number: held.number(),
-            stand: Stand::ForIndex {
-                deadline,
-                looked: false,
-            },
-        }),
-        _ => None,
-    }
-}
 
 impl<K: Keeper + Drop> Cluster<K> {
     // The round is confirmed at a server that runs, and its commit is applied there.

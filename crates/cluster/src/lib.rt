@@ -3,20 +3,16 @@
 
 mod acting;
 mod agent_parts;
-mod agents;
-mod asking;
 mod cluster;
 mod contact;
 mod delaying;
 mod early;
-mod entering;
 mod executing;
 mod fitting;
 mod handling;
 mod late;
 mod looking;
 mod memory;
-mod moving;
 mod noting;
 mod parts;
 mod playing;
@@ -34,9 +30,7 @@ mod taking;
 mod ticking;
 mod travelling;
 mod turning;
-mod watching;
 mod way;
-mod work;
 mod working;
 
 pub use cluster::Cluster;

@@ -1,79 +1,22 @@
 //! What is due at a server.
 
-ghost use Rattle.std.specs.Prelude.{◌≡◌, ◌≢◌, ◌≤◌, ℕ, None, Some, false, true, IfOk, OnErr, is_some, length};
+ghost use Rattle.std.specs.Prelude.{◌≡◌, ◌≢◌, ◌≤◌, None, Some, false, true, IfOk, OnErr, is_some, length};
 ghost use Rattle.std.specs.List.{AllByRecursion as Each};
 ghost use Rattle.cat_model.specs.declared.reply.Kind.TheVariants as kinds;
-ghost use Rattle.cat_model.specs.declared.reply.Refusal.TheVariants as refusals;
 ghost use Rattle.request_rules.specs.Taken.{IsTakenAsked};
-ghost use Rattle.cluster_rules.specs.Cluster as rules;
 ghost use Rattle.cluster_rules.specs.Cluster.{AtPlace, applied_of};
-ghost use Rattle.cluster_rules.specs.Due.{Replies, due, early_stand, early_work, is_ended, landed};
+ghost use Rattle.cluster_rules.specs.Due.{Replies, due, early_stand, early_work, landed};
 ghost use Rattle.cluster_rules.specs.Reached.{IsServerNumber};
-ghost use Rattle.cluster_rules.specs.Replies as replies;
-ghost use Rattle.open_requests.specs.Contents.{content_of, stand_of, write_content};
-ghost use Rattle.cluster.specs.Looking.{IsAppliedLast, is_early, is_number_early};
+ghost use Rattle.cluster_parts.specs.Looking.{IsAppliedLast, is_early, is_number_early};
 ghost use Rattle.cluster.specs.Standing.{IsAwaited};
-ghost use Rattle.cluster.specs.Working.{Finds, IsFound, IsWork};
+ghost use Rattle.cluster_parts.specs.Working.{Finds, IsFound, IsWork};
 
 use crate::cluster::Cluster;
-use crate::entering::entered;
-use crate::work::Work;
-use cat_model::{Applied, Asked, Command, Kind, Memory, Refusal, Request};
+use cat_model::{Kind, Memory};
 use cat_outside::Keeper;
-use open_requests::{Content, Pending, Question, Stand};
+use cluster_parts::{Work, halted, is_ended, lost, written};
+use open_requests::{Pending, Question, Stand};
 use std::alloc::Global;
-
-fn is_ended(stand: Stand) -> bool
-    ensures { result ≡ is_ended (stand_of stand) }
-{
-    matches!(stand, Stand::Ended { .. })
-}
-
-// A halted server refuses a request.
-#[tactic(auto, unfolding(cluster_rules::specs::Replies::shown))]
-fn halted(number: u64, server: u32) -> Work
-    ensures { (c : rules.Cluster) (q : replies.Question) → number ≡ q.number → IsWork c server result (Replies q (kinds.Refused (refusals.Halted server))) }
-{
-    Work::Answer {
-        number,
-        kind: Kind::Refused(Refusal::Halted { server }),
-        content: Content::Says(Refusal::Halted { server }),
-    }
-}
-
-// Another entry stands where a write was proposed, or another term came while a read waited for its round.
-#[tactic(auto, unfolding(cluster_rules::specs::Replies::shown))]
-fn lost(number: u64, entered: u64, found: u64) -> Work
-    ensures { (c : rules.Cluster) (i : ℕ) (q : replies.Question) → number ≡ q.number → IsWork c i result (Replies q (kinds.Refused (refusals.Lost entered found))) }
-{
-    Work::Answer {
-        number,
-        kind: Kind::Refused(Refusal::Lost { entered, found }),
-        content: Content::Says(Refusal::Lost { entered, found }),
-    }
-}
-
-pub(crate) fn copy_command(command: &Command) -> Result<Command, Memory>
-    ensures { IfOk result (λ copy. copy ≡ command.now) }
-{
-    Ok(command.clone()?)
-}
-
-// What a write shows that is done, with the catalog's answer.
-fn written(alloc: Global, question: &Question, applied: Applied) -> Result<Content, Memory>
-    ensures { IfOk result (λ content. content_of content ≡ write_content question.now question.now.asked applied) }
-{
-    match question.asked() {
-        Asked::Good(Request::Write { command }) => match entered(alloc, question, command) {
-            Ok(command) => Ok(Content::Tells { command, applied }),
-            Err(Memory) => {
-                drop(applied);
-                Err(Memory)
-            }
-        },
-        _ => Ok(Content::Blank),
-    }
-}
 
 impl<K: Keeper + Drop> Cluster<K> {
     // A write stands where it was proposed, and was applied last: the last reply is its own.

@@ -1,99 +1,19 @@
 //! A consistent read waits for a round of acknowledgements, which is begun for it.
 
-ghost use Rattle.std.specs.Prelude.{◌≡◌, ◌<◌, ◌≤◌, ◌+◌, ◌-◌, ◌^◌, ◌||◌, ℕ, IfOk, OnErr, OnOk, Some, true};
+ghost use Rattle.std.specs.Prelude.{◌≡◌, ◌<◌, ◌-◌, ◌^◌, ◌||◌, OnErr, OnOk, Some, true};
 ghost use Rattle.cat_model.specs.declared.request.Mode.TheVariants as modes;
 ghost use Rattle.request_rules.specs.Taken.{IsTakenAsked};
-ghost use Rattle.cluster_rules.specs.Cluster.{clock_of, node_of};
+ghost use Rattle.cluster_rules.specs.Cluster.{node_of};
 ghost use Rattle.cluster_rules.specs.Reached.{IsServerNumber};
-ghost use Rattle.cluster_rules.specs.Requests.{is_ready, is_stale_read, look_of, wait_of};
+ghost use Rattle.cluster_rules.specs.Requests.{is_ready, is_stale_read, look_of};
 ghost use Rattle.cluster_turns.specs.Turns.{HandlesNewest, IsCome};
-ghost use Rattle.open_requests.specs.Notes.{IsMadeLast};
-ghost use Rattle.cluster.specs.Asking.{EndsProbe, HoldsRead, IsNewRead};
+ghost use Rattle.cluster_parts.specs.Asking.{IsNewRead};
 
 use crate::cluster::Cluster;
-use crate::handling::{copied_question, wait_of};
-use crate::moving::{Seen, mark_step, see};
 use cat_model::{Asked, Draw, Memory};
 use cat_outside::Keeper;
-use open_requests::{Question, Requests, Stand, Start, copy_asked};
-use raft_model::Round;
-use raft_node::ProbeFault;
+use cluster_parts::{NewRead, end_probe, read_copies, see, wait_of};
 use std::alloc::Global;
-
-// A read with its number, and a copy of what was asked.
-#[derive(Drop)]
-pub(crate) struct NewRead {
-    pub(crate) asked: Asked,
-    pub(crate) question: Question,
-}
-
-// Holds a read whose round was begun.
-fn hold_read(
-    requests: &mut Requests,
-    server: u32,
-    before: Seen,
-    now: Seen,
-    read: NewRead,
-    deadline: u64,
-    round: Round,
-)
-    requires room { 4 ≤ requests.old.room }
-    requires made { IsMadeLast requests.old.notes }
-    requires grown { before.agreed ≤ now.agreed }
-    ensures { HoldsRead read before now server deadline round requests.old requests.new }
-{
-    let NewRead { asked, question } = read;
-    let number = question.number();
-    requests.number(question.agent(), asked, question.draw());
-    mark_step(requests, server, before, now);
-    let stand = Stand::InRound { round, deadline };
-    let start = Start::Probed {
-        number,
-        server,
-        round,
-    };
-    requests.hold(question, server, stand, start);
-}
-
-// Holds a read, where its round was begun.
-fn end_probe(
-    requests: &mut Requests,
-    server: u32,
-    before: Seen,
-    now: Seen,
-    read: NewRead,
-    deadline: u64,
-    probed: Result<Round, ProbeFault>,
-) -> Result<(), Memory>
-    requires room { 4 ≤ requests.old.room }
-    requires made { IsMadeLast requests.old.notes }
-    requires grown { before.agreed ≤ now.agreed }
-    ensures { EndsProbe read before now server deadline probed result requests.old requests.new }
-{
-    match probed {
-        Ok(round) => {
-            hold_read(requests, server, before, now, read, deadline, round);
-            Ok(())
-        }
-        Err(_) => {
-            drop(read);
-            Err(Memory)
-        }
-    }
-}
-
-fn copies(number: u64, agent: u32, asked: &Asked, draw: Draw) -> Result<NewRead, Memory>
-    ensures { IfOk result (λ read. read ≡ record { asked = asked.now; question = record { number = number; agent = agent; asked = asked.now; draw = draw } }) }
-{
-    let question = copied_question(number, agent, asked, draw)?;
-    match copy_asked(asked) {
-        Ok(asked) => Ok(NewRead { asked, question }),
-        Err(Memory) => {
-            drop(question);
-            Err(Memory)
-        }
-    }
-}
 
 impl<K: Keeper + Drop> Cluster<K> {
     // Begins a round for a read that has its copies.
@@ -157,7 +77,7 @@ impl<K: Keeper + Drop> Cluster<K> {
         if self.servers.node(server).round() == u64::MAX {
             return Err(Memory);
         }
-        let read = copies(number, agent, asked, draw)?;
+        let read = read_copies(number, agent, asked, draw)?;
         self.probe(alloc, server, read, deadline)
     }
 }

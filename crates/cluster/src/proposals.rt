@@ -4,50 +4,13 @@ ghost use Rattle.std.specs.Prelude.{◌≡◌, ◌≤◌, IfOk, OnErr, length, t
 ghost use Rattle.cluster_rules.specs.Cluster.{runs_leading};
 ghost use Rattle.cluster_rules.specs.Proposals.{Proposals};
 ghost use Rattle.cluster_rules.specs.Reached.{IsServerNumber};
-ghost use Rattle.cluster.specs.Proposing.{EndsProposal, OneProposed};
+ghost use Rattle.cluster_parts.specs.Proposing.{OneProposed};
 
 use crate::cluster::Cluster;
-use crate::looking::copy_command;
-use crate::moving::{Seen, mark_step, see};
 use cat_model::{Command, Memory};
 use cat_outside::Keeper;
-use open_requests::Requests;
-use raft_model::Place;
-use raft_node::ProposeFault;
+use cluster_parts::{Proposed, copy_command, end_proposal, see};
 use std::alloc::Global;
-
-/// How far proposals of commands came: so many were entered, and where it is not whole, memory ran out before the next
-/// one. A whole one stops early where the log has no room for the next one, or the server's store failed at it.
-#[derive(Clone, Copy)]
-pub(crate) struct Proposed {
-    pub(crate) entered: usize,
-    pub(crate) whole: bool,
-}
-
-// Marks what became of a proposal for no request, and says whether it was entered. No reply tells that it was refused.
-fn end_proposal(
-    requests: &mut Requests,
-    server: u32,
-    before: Seen,
-    now: Seen,
-    proposed: Result<Place, ProposeFault>,
-) -> Result<bool, Memory>
-    requires room { 4 ≤ requests.old.room }
-    requires grown { before.agreed ≤ now.agreed }
-    ensures { EndsProposal before now server proposed result requests.old requests.new }
-{
-    match proposed {
-        Ok(_) => {
-            mark_step(requests, server, before, now);
-            Ok(true)
-        }
-        Err(ProposeFault::Full | ProposeFault::Halted) => {
-            mark_step(requests, server, before, now);
-            Ok(false)
-        }
-        Err(ProposeFault::NotLeader | ProposeFault::Memory) => Err(Memory),
-    }
-}
 
 impl<K: Keeper + Drop> Cluster<K> {
     // Proposes a command at a server that leads, for no request, and says whether it was entered.

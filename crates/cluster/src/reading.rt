@@ -1,8 +1,7 @@
 //! What is due of a read that waits for an index.
 
-ghost use Rattle.std.specs.Prelude.{◌≡◌, ◌<◌, ◌||◌, ℕ, Bool, IfOk, Some, is_some, length, nat_le, nat_lt, true};
+ghost use Rattle.std.specs.Prelude.{◌≡◌, ◌<◌, ℕ, Bool, IfOk, Some, is_some, length, true};
 ghost use Rattle.cat_model.specs.declared.reply.Kind.TheVariants as kinds;
-ghost use Rattle.cat_model.specs.declared.reply.Refusal.TheVariants as refusals;
 ghost use Rattle.cat_model.specs.declared.request.Asked.TheVariants.{Good};
 ghost use Rattle.cat_model.specs.declared.request.Request.TheVariants.{Read};
 ghost use Rattle.cat_model.specs.Indexes.{index_of};
@@ -10,67 +9,25 @@ ghost use Rattle.cat_model.specs.Log.{commands_of};
 ghost use Rattle.cat_model.specs.Machine.{catalog_at};
 ghost use Rattle.cat_model.specs.Queries.{answer};
 ghost use Rattle.request_rules.specs.Taken.{IsTakenAsked};
-ghost use Rattle.cluster_rules.specs.Cluster as rules;
 ghost use Rattle.cluster_rules.specs.Cluster.{applied_of, clock_of};
-ghost use Rattle.cluster_rules.specs.Due.{Replies, asks, asks_read, has_looked, waiting, waits};
+ghost use Rattle.cluster_rules.specs.Due.{Replies, asks, asks_read, waiting};
 ghost use Rattle.cluster_rules.specs.Reached.{IsServerNumber};
-ghost use Rattle.cluster_rules.specs.Replies as replies;
 ghost use Rattle.cluster_rules.specs.Replies.{shown_read};
-ghost use Rattle.open_requests.specs.Contents.{read_content, stand_of};
-ghost use Rattle.cluster.specs.Looking.{waits_on};
-ghost use Rattle.cluster.specs.Working.{IsFound, IsWork};
+ghost use Rattle.open_requests.specs.Contents.{read_content};
+ghost use Rattle.cluster_parts.specs.Looking.{waits_on};
+ghost use Rattle.cluster_parts.specs.Working.{IsFound, IsWork};
 
 use crate::cluster::Cluster;
-use crate::work::Work;
-use cat_model::{Answer, Asked, Kind, Memory, Mode, Query, Refusal, Request, Steps};
+use cat_model::{Answer, Asked, Kind, Memory, Mode, Query, Request, Steps};
 use cat_outside::Keeper;
-use open_requests::{Content, Pending, Question, Stand};
+use cluster_parts::{Work, count_waiting, is_answered, too_many};
+use open_requests::{Pending, Question, Stand};
 use std::alloc::Global;
 use std::marker::Brand;
 use std::sync::ledger::{Blank, Ledger};
 
 // The most queries that wait at a server.
 const MOST_WAITING: u32 = 4096;
-
-// It was looked for and was not there.
-fn has_looked(stand: Stand) -> bool
-    ensures { result ≡ has_looked (stand_of stand) }
-{
-    matches!(stand, Stand::ForIndex { looked: true, .. })
-}
-
-// It waits at the server for an index.
-fn waits(server: u32, held: &Pending) -> bool
-    ensures { result ≡ waits server held.now }
-{
-    held.server() == server && has_looked(held.stand())
-}
-
-// A query is answered now: its index is above the one given, or its time is over.
-fn is_answered(least: u64, index: u64, deadline: u64, clock: u64) -> bool
-    ensures { result ≡ (nat_lt least index || nat_le deadline clock) }
-{
-    least < index || deadline <= clock
-}
-
-// So many wait already.
-#[tactic(auto, unfolding(cluster_rules::specs::Replies::shown))]
-fn too_many(number: u64, waiting: u32) -> Work
-    ensures { (c : rules.Cluster) (i : ℕ) (q : replies.Question) → number ≡ q.number → IsWork c i result (Replies q (kinds.Refused (refusals.TooMany waiting))) }
-{
-    Work::Answer {
-        number,
-        kind: Kind::Refused(Refusal::TooMany { waiting }),
-        content: Content::Says(Refusal::TooMany { waiting }),
-    }
-}
-
-// How many of these held requests wait at a server for an index.
-fn count_waiting(server: u32, held: &[Pending]) -> usize
-    ensures { result ≡ waiting server held.now }
-{
-    held.iter().filter(|h| waits(server, h)).count()
-}
 
 impl<K: Keeper> Cluster<K> {
     // How many requests wait at a server for an index.

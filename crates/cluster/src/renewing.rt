@@ -1,42 +1,17 @@
 //! Renewals of sessions.
 
-ghost use Rattle.std.specs.Prelude.{◌≡◌, IfOk, OnErr, OnOk, false, true};
-ghost use Rattle.std.specs.Option.{option_copied};
-ghost use Rattle.cat_model.specs.declared.reply.Kind.{Kind as SpecKind};
+ghost use Rattle.std.specs.Prelude.{◌≡◌, OnErr, OnOk, true};
 ghost use Rattle.cat_model.specs.declared.request.Asked.TheVariants.{Good};
-ghost use Rattle.cat_model.specs.declared.request.Mode.{Mode as SpecMode};
 ghost use Rattle.cat_model.specs.declared.request.Request.TheVariants.{Renew as Renews};
 ghost use Rattle.cluster_rules.specs.Reached.{IsServerNumber};
-ghost use Rattle.cluster_rules.specs.Replies as replies;
 ghost use Rattle.cluster_rules.specs.Requests.{is_ready};
 ghost use Rattle.cluster_turns.specs.Turns.{HandlesNewest, IsCome};
-ghost use Rattle.open_requests.specs.Requests.{reply_with};
 
 use crate::cluster::Cluster;
-use cat_model::{Asked, Draw, Kind, Memory, Mode, SessionRow};
+use cat_model::{Asked, Draw, Memory};
 use cat_outside::Keeper;
-use open_requests::{Content, MarkedReply, Start, copy_asked};
-
-fn copy_of(row: Option<&SessionRow>) -> Result<Option<SessionRow>, Memory>
-    ensures { IfOk result (λ copy. copy ≡ option_copied row.entry) }
-{
-    match row {
-        None => Ok(None),
-        Some(row) => Ok(Some(row.clone()?)),
-    }
-}
-
-// The reply to a renewal at this prefix, where the session has this row, or is not there.
-fn renewed(number: u64, prefix: u64, row: Option<&SessionRow>) -> Result<MarkedReply, Memory>
-    ensures { IfOk result (λ reply. reply ≡ reply_with number (SpecKind.Seen SpecMode.Default prefix) false 0 (replies.Renews (option_copied row.entry))) }
-{
-    let content = Content::Renews(copy_of(row)?);
-    let kind = Kind::Seen {
-        mode: Mode::Default,
-        prefix,
-    };
-    MarkedReply::new(number, kind, false, 0, content)
-}
+use cluster_parts::renewed;
+use open_requests::{Start, copy_asked};
 
 impl<K: Keeper + Drop> Cluster<K> {
     /// Renews a session, if it is there, so that its TTL begins anew, and answers with its row.

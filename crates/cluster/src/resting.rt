@@ -1,34 +1,13 @@
 //! Reads that wait for an index go to sleep, until what they read is changed or their time is over.
 
-ghost use Rattle.std.specs.Prelude.{◌≡◌, ℕ, Bool, IfSome, None, true};
-ghost use Rattle.cat_model.specs.declared.request.Asked.TheVariants.{Good};
-ghost use Rattle.cat_model.specs.declared.request.Mode.{Mode as SpecMode};
-ghost use Rattle.cat_model.specs.declared.request.Request.TheVariants.{Read};
-ghost use Rattle.cluster_rules.specs.Cluster.{ForIndex};
+ghost use Rattle.std.specs.Prelude.{◌≡◌, None};
 ghost use Rattle.cluster_rules.specs.Due.{due};
 ghost use Rattle.cluster_rules.specs.Reached.{IsServerNumber};
 
 use crate::cluster::Cluster;
-use cat_model::{Asked, Query, Request};
 use cat_outside::Keeper;
-use open_requests::{Pending, Stand};
+use cluster_parts::waits_for;
 use std::alloc::Global;
-
-// The query of a read that waits for an index, and when its time is over.
-fn waits_for(held: &Pending) -> Option<(&Query, u64)>
-    ensures { IfSome result (λ wait. (mode : SpecMode) × (least : ℕ) × (ms : ℕ) × (raw : Bool) × (held.now.question.asked ≡ Good (Read wait.0.now mode least ms raw)) × (held.now.stand ≡ ForIndex wait.1 true)) }
-{
-    match (held.question().asked(), held.stand()) {
-        (
-            Asked::Good(Request::Read { query, .. }),
-            Stand::ForIndex {
-                deadline,
-                looked: true,
-            },
-        ) => Some((query, deadline)),
-        _ => None,
-    }
-}
 
 impl<K: Keeper + Drop> Cluster<K> {
     // The request that is awake at this place goes to sleep, if it is a read of the server that waits for an index.

@@ -7,13 +7,12 @@ ghost use Rattle.raft_node.specs.Steps.{stored};
 ghost use Rattle.raft_world.specs.Starting.{AreGivenBack};
 ghost use Rattle.agent_rules.specs.Agents.{new_agent};
 ghost use Rattle.cluster.specs.Beginning.{HasBegun, MayBegin};
-ghost use Rattle.cluster.specs.Watching.{nothing_watched};
+ghost use Rattle.cluster_parts.specs.Watching.{nothing_watched};
 
-use crate::agents::Agents;
 use crate::cluster::Cluster;
-use crate::watching::Watching;
 use cat_model::{List, Memory};
 use cat_outside::{KeepFail, Keeper};
+use cluster_parts::{Agents, Watching};
 use cluster_servers::Servers;
 use open_requests::Requests;
 use std::alloc::Global;

@@ -10,6 +10,7 @@ use crate::cluster::Cluster;
 use cat_model::{Entry, List, Memory};
 use cat_outside::Keeper;
 use cluster_interface::History;
+use cluster_parts::copy_entries;
 use open_requests::{Collected, Out};
 use std::alloc::Global;
 
@@ -46,21 +47,13 @@ impl<K: Keeper> Cluster<K> {
     }
 }
 
-// A copy of these entries.
-fn copied(alloc: Global, entries: &[Entry]) -> Result<List<Entry>, Memory>
-    ensures { IfOk result (λ copy. copy ≡ entries.now) }
-{
-    let copy = Vec::from_clones(alloc, entries)?;
-    Ok(List::from(copy))
-}
-
 impl<K: Keeper + Drop> Cluster<K> {
     /// The agreed log, and what has happened, of a cluster that is done with.
     pub fn into_history(self, alloc: Global) -> Result<History, Memory>
         ensures agreed { IfOk result (λ h. h.agreed ≡ self.world.agreed) }
         ensures marks { IfOk result (λ h. h.marks ≡ reverse self.past) }
     {
-        let agreed = copied(alloc, self.servers.agreed())?;
+        let agreed = copy_entries(alloc, self.servers.agreed())?;
         let marks = self.requests.into_marks(alloc, agreed.as_slice())?;
         Ok(History { agreed, marks })
     }

@@ -8,25 +8,15 @@ ghost use Rattle.cluster_rules.specs.Proposals.{Proposals, Tends, looked, over_r
 ghost use Rattle.cluster_rules.specs.Reached.{Fits, IsServerNumber};
 ghost use Rattle.cluster_turns.specs.Turns.{TendsInPart, Ticks};
 ghost use Rattle.session_ttl.specs.Endings.{ending_of};
-ghost use Rattle.cluster.specs.Tending.{EndsProposed, ReapsProposed, end_command, is_reap_due};
+ghost use Rattle.cluster.specs.Tending.{EndsProposed, ReapsProposed, is_reap_due};
+ghost use Rattle.cluster_parts.specs.Ending.{end_command};
 
 use crate::cluster::Cluster;
-use crate::proposals::Proposed;
 use cat_model::{Command, Memory};
 use cat_outside::Keeper;
+use cluster_parts::{Proposed, ends_of};
 use session_ttl::Ending;
 use std::alloc::Global;
-
-// The commands that end these sessions.
-fn ends_of(alloc: Global, endings: &[Ending]) -> Result<Vec<Command>, Memory>
-    ensures { IfOk result (λ commands. commands.items ≡ map end_command endings.now) }
-{
-    let commands = endings
-        .iter()
-        .map(|ending| Command::SessionDestroy { id: ending.id })
-        .collect(alloc)?;
-    Ok(commands)
-}
 
 impl<K: Keeper + Drop> Cluster<K> {
     /// The clock of a server goes on by so many milliseconds.

@@ -3,34 +3,16 @@
 ghost use Rattle.std.specs.Prelude.{◌≡◌, ◌<◌, ◌≤◌, ◌+◌, IfOk, None, Some, false, true, length, ℕ};
 ghost use Rattle.cluster_rules.specs.Cluster.{no_node, node_of, runs_leading};
 ghost use Rattle.cluster_rules.specs.Reached.{IsAgentNumber, IsServerNumber};
-ghost use Rattle.cluster_rules.specs.Requests.{Goes, asked_server, is_stale_read, to_leader, way_of as rules_way};
+ghost use Rattle.cluster_rules.specs.Requests.{Goes, asked_server, to_leader, way_of as rules_way};
 ghost use Rattle.cluster_turns.specs.AgentEvents.{is_for_agent, sync_way};
 ghost use Rattle.cluster_turns.specs.Turns.{GoesBy, way_of};
 ghost use Rattle.cluster.specs.Going.{held_of};
 
 use crate::cluster::Cluster;
-use crate::contact::is_stale;
-use cat_model::{Asked, Held, Memory, Refusal, Request, Role};
+use cat_model::{Asked, Held, Memory, Refusal, Role};
 use cat_outside::Keeper;
+use cluster_parts::{copy_refusal, is_stale_read};
 use cluster_turns::Way;
-
-// A copy of why a request is none.
-fn copied(why: &Refusal) -> Result<Refusal, Memory>
-    ensures { IfOk result (λ copy. copy ≡ why.now) }
-{
-    Ok(why.clone()?)
-}
-
-/// It is a stale read or execution.
-pub(crate) fn is_stale_read(asked: &Asked) -> bool
-    ensures { result ≡ is_stale_read asked.now }
-{
-    match asked {
-        Asked::Good(Request::Read { mode, .. }) => is_stale(*mode),
-        Asked::Good(Request::Execute { mode, .. }) => is_stale(*mode),
-        _ => false,
-    }
-}
 
 impl<K: Keeper> Cluster<K> {
     // The server that an agent asks.
@@ -133,7 +115,7 @@ impl<K: Keeper> Cluster<K> {
                 let stale = is_stale_read(asked);
                 Ok(self.way_from(self.asked_server(agent), stale))
             }
-            Asked::Bad(why) => Ok(Way::Answers(copied(why)?)),
+            Asked::Bad(why) => Ok(Way::Answers(copy_refusal(why)?)),
         }
     }
 

@@ -7,12 +7,12 @@ ghost use Rattle.cluster_rules.specs.Due.{IsDue, answered, applies, with_held};
 ghost use Rattle.cluster_rules.specs.Reached.{IsServerNumber};
 ghost use Rattle.cluster_rules.specs.Replies.{Question, shown};
 ghost use Rattle.open_requests.specs.Contents.{content_of, stand_of};
-ghost use Rattle.cluster.specs.Working.{DidDue, IsWork, closed};
+ghost use Rattle.cluster_parts.specs.Working.{DidDue, IsWork, closed};
 
 use crate::cluster::Cluster;
-use crate::work::Work;
 use cat_model::{Kind, Memory};
 use cat_outside::Keeper;
+use cluster_parts::Work;
 use open_requests::{Content, Stand};
 use std::alloc::Global;
 

@@ -4,10 +4,10 @@ use denote.Struct.Declared as declared
 use Rattle.std.proofs.Crossing.{crosses}
 use Rattle.cat_outside.specs.contracts.mem_keeper.MemKeeper as mem_keeper
 use Rattle.cat_outside.specs.contracts.mem_keeper.MemKeeperKeeper.TheImpl.{ghosts}
-use Rattle.cluster.specs.contracts.agents.Agents as agents
-use Rattle.cluster.specs.contracts.agents.Agents.TheInside as inner
-use Rattle.cluster.specs.contracts.watching.Watching as watching
-use Rattle.cluster.specs.contracts.watching.Watching.TheInside as watched
+use Rattle.cluster_parts.specs.contracts.agents.Agents as agents
+use Rattle.cluster_parts.specs.contracts.agents.Agents.TheInside as inner
+use Rattle.cluster_parts.specs.contracts.watching.Watching as watching
+use Rattle.cluster_parts.specs.contracts.watching.Watching.TheInside as watched
 use Rattle.cluster.specs.contracts.cluster.Cluster as whole
 use Rattle.cluster.specs.contracts.cluster.Cluster.TheInside as inside
 use Rattle.cluster_sending.proofs.clusters_send.Goals as goal

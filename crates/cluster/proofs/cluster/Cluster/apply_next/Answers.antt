@@ -1,7 +1,7 @@
 use Rattle.std.proofs.Common.{◌≡◌, ◌<◌, false, length, ap, subst, sym, ◌∙◌}
 use Rattle.std.specs.List.{AllByRecursion as Each}
 use Rattle.cluster_rules.specs.Cluster.{Cluster, Pending, applied_of, node_of}
-use Rattle.cluster.specs.Looking.{is_early}
+use Rattle.cluster_parts.specs.Looking.{is_early}
 use Rattle.cluster.proofs.Dues.{applies_next, none_before}
 use Rattle.cluster.proofs.Kept.{applied_stands}
 use Rattle.cluster.proofs.cluster.Cluster.apply_next.Goals as goal

@@ -1,6 +1,6 @@
 use Rattle.std.proofs.Common.{None, Some, ap, sym, subst, ◌∙◌, ◌≡◌, ℕ, true}
 use Rattle.std.specs.Option.{option_copied}
-use Rattle.cluster.specs.Looking.{is_early, numbered_in, test_held}
+use Rattle.cluster_parts.specs.Looking.{is_early, numbered_in, test_held}
 use Rattle.cluster.proofs.Finding.{ascends_in, first_in, first_number}
 use Rattle.cluster.proofs.Numbered.{none_found}
 use Rattle.cluster.proofs.cluster.Cluster.early_held.Goals as goal

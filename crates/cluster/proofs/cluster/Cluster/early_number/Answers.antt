@@ -2,7 +2,7 @@ use Rattle.std.proofs.Common.{◌≡◌, ◌<◌, ◌≤◌, ◌∙◌, ℕ, Lis
 use Rattle.std.specs.List.{AllByRecursion as Each}
 use Rattle.cluster_rules.specs.Cluster.{Cluster, Pending, node_of}
 use Rattle.cluster_rules.proofs.Tools.{get_default}
-use Rattle.cluster.specs.Looking.{is_early, is_number_early}
+use Rattle.cluster_parts.specs.Looking.{is_early, is_number_early}
 use Rattle.cluster.specs.Standing.{Stands}
 use Rattle.cluster.proofs.Finding.{early_none, none_more, none_passes}
 use Rattle.cluster.proofs.Watched.{looked_at}

@@ -1,6 +1,6 @@
 use Rattle.std.proofs.Common.{◌≡◌, ◌<◌, ◌-◌, ℕ, false, length}
 use Rattle.std.specs.Prelude.{slice_index_or}
-use Rattle.cluster.specs.Looking.{is_number_early}
+use Rattle.cluster_parts.specs.Looking.{is_number_early}
 use Rattle.cluster.proofs.cluster.Cluster.early_number.Given as goal
 
 abbrev pub invariant-loop-at : goal.invariant-loop-at

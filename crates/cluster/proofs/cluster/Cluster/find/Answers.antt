@@ -1,6 +1,6 @@
 use Rattle.std.proofs.Common.{Some, subst}
 use Rattle.cluster_rules.specs.Cluster.{Cluster}
-use Rattle.cluster.specs.Working.{Finds}
+use Rattle.cluster_parts.specs.Working.{Finds}
 use Rattle.cluster.proofs.cluster.Cluster.find.Goals as goal
 
 pub returns-in-Ok-clause-found : goal.returns-in-Ok-clause-found

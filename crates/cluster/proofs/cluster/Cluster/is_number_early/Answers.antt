@@ -1,6 +1,6 @@
 use Rattle.std.proofs.Common.{Some, ap, sym, ◌∙◌}
 use Rattle.std.specs.Option.{option_copied}
-use Rattle.cluster.specs.Looking.{is_early, test_held}
+use Rattle.cluster_parts.specs.Looking.{is_early, test_held}
 use Rattle.cluster.proofs.Finding.{pending_in}
 use Rattle.cluster.proofs.cluster.Cluster.is_number_early.Goals as goal
 

@@ -1,4 +1,4 @@
-use Rattle.cluster.specs.Watching.{unwatched}
+use Rattle.cluster_parts.specs.Watching.{unwatched}
 use Rattle.cluster.proofs.Finding.{none_due}
 use Rattle.cluster.proofs.cluster.Cluster.late_due.Goals as goal
 

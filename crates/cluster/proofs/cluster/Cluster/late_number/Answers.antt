@@ -1,5 +1,5 @@
 use Rattle.std.proofs.Common.{refl}
-use Rattle.cluster.specs.Looking.{is_number_late}
+use Rattle.cluster_parts.specs.Looking.{is_number_late}
 use Rattle.cluster.proofs.Finding.{late_none, some_awake}
 use Rattle.cluster.proofs.cluster.Cluster.late_number.Goals as goal
 

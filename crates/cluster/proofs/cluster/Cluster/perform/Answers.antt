@@ -1,4 +1,4 @@
-use Rattle.cluster.specs.Watching.{unwatched}
+use Rattle.cluster_parts.specs.Watching.{unwatched}
 use Rattle.cluster.proofs.Dues.{answer_done, apply_done, apply_due, close_done, hold_done, hold_due}
 use Rattle.cluster.proofs.cluster.Cluster.perform.Goals as goal
 

@@ -2,7 +2,7 @@ use Rattle.std.proofs.Common.{◌≡◌, ◌+◌, ◌∷◌, false, true, Bool, 
 use Rattle.cat_model.specs.declared.command.Command.{Command}
 use Rattle.cluster_rules.specs.Cluster.{Cluster}
 use Rattle.cluster_rules.specs.Proposals.{Proposals, breaks}
-use Rattle.cluster.specs.Proposing.{OneProposed}
+use Rattle.cluster_parts.specs.Proposing.{OneProposed}
 use Rattle.cluster.proofs.ProposedAll.{AllEntered, all_entered, entered_last, next_taken, no_more, refused_one, servers_kept, stopped_at}
 use Rattle.cluster.proofs.cluster.Cluster.propose_all.Goals as goal
 

@@ -6,7 +6,7 @@ use Rattle.cluster.specs.Standing.{Stands}
 use Rattle.cluster.proofs.Marking.{prepared_stands}
 use Rattle.std.specs.List.{AllByRecursion as Each}
 use Rattle.cluster_rules.specs.Cluster.{Pending}
-use Rattle.cluster.specs.Watching.{MayBeDue}
+use Rattle.cluster_parts.specs.Watching.{MayBeDue}
 use Rattle.cluster.proofs.Restarts.{restart_acts}
 use Rattle.cluster.proofs.Watched.{woken_stands}
 use Rattle.cluster.proofs.cluster.Cluster.restart.Goals as goal

@@ -1,8 +1,8 @@
 use Rattle.std.proofs.Common.{Option, Some, subst, sym}
 use Rattle.cluster_rules.specs.Cluster.{Cluster}
-use Rattle.cluster.specs.declared.work.Work.{Work}
-use Rattle.cluster.specs.Watching.{unwatched}
-use Rattle.cluster.specs.Working.{DidDue, Finds}
+use Rattle.cluster_parts.specs.declared.work.Work.{Work}
+use Rattle.cluster_parts.specs.Watching.{unwatched}
+use Rattle.cluster_parts.specs.Working.{DidDue, Finds}
 use Rattle.cluster.proofs.Turns.{due_some, less_left}
 use Rattle.cluster.proofs.cluster.Cluster.turn.Goals as goal
 

@@ -1,0 +1,9 @@
+pub mod Agents
+pub mod Asking
+pub mod Ending
+pub mod Looking
+pub mod Moving
+pub mod Proposing
+pub mod Stores
+pub mod Watching
+pub mod Working

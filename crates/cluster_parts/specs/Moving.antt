@@ -1,0 +1,40 @@
+-- What is marked of a step that a server's node made.
+use Rattle.std.specs.Prelude.{◌≡◌, ◌≢◌, ℕ, ◌-◌, ◌==◌, ◌&&◌, not, if◌then◌else◌, Bool, length, Result, Ok, Err}
+use Rattle.cat_model.specs.declared.memory.Memory.{Memory}
+use Rattle.raft_model.specs.World.{World}
+use Rattle.office_rules.specs.Offices.{office_from}
+use Rattle.cluster_rules.specs.Cluster.{clock_of, node_of, runs_leading}
+use Rattle.cluster_servers.specs.Servers.{Servers, officed}
+use Rattle.cluster_turns.specs.declared.cut.Cut.{Cut}
+use Rattle.cluster_turns.specs.declared.cut.Cut.TheVariants.{Before, Within}
+use Rattle.open_requests.specs.declared.note.Note.TheVariants.{Joined}
+use Rattle.open_requests.specs.Requests.{Requests, halted_with, with_note}
+use Rattle.cluster_parts.specs.declared.moving.Seen.{Seen}
+
+-- what is seen of server i in this world
+abbrev pub seen_of : World → ℕ → Seen
+seen_of w i = record { halted = (node_of w i).halted; leads = runs_leading w i; term = (node_of w i).term; agreed = length w.agreed }
+
+-- Server i takes office where it leads now, and did not before in this term.
+abbrev pub Seats : Seen → Seen → ℕ → Servers → Servers → Type 0
+Seats before now i old new = new ≡ (if now.leads && not (before.leads && (before.term == now.term)) then officed i (office_from (clock_of old.world i)) old else old)
+
+-- a server's store failed or not
+abbrev pub IsHalted : Bool → ℕ → Requests → Requests → Type 0
+IsHalted failed i old new = new ≡ record (halted_with failed i old) { room = new.room }
+
+-- a server's store failed or not, and so many entries joined the agreed log
+abbrev pub IsMarked : Bool → ℕ → ℕ → Requests → Requests → Type 0
+IsMarked failed i count old new = new ≡ record (with_note (Joined count) (halted_with failed i old)) { room = new.room }
+
+-- a step of server i is marked, by what was seen before and what is seen now
+abbrev pub MarksStep : Seen → Seen → ℕ → Requests → Requests → Type 0
+MarksStep before now i old new = IsMarked (not before.halted && now.halted) i (now.agreed - before.agreed) old new
+
+-- A call that was a step is marked. One that found no memory was a part of a step exactly where the term differs.
+abbrev pub Ends : Seen → Seen → ℕ → Result Unit Memory → Result Unit Cut → Requests → Requests → Type 0
+Ends before now i (Ok _) (Ok _) old new = MarksStep before now i old new
+Ends before now i (Ok _) (Err _) old new = ⊥
+Ends before now i (Err _) (Ok _) old new = ⊥
+Ends before now i (Err _) (Err Before) old new = (now.term ≡ before.term) × (new ≡ old)
+Ends before now i (Err _) (Err Within) old new = (now.term ≢ before.term) × MarksStep before now i old new

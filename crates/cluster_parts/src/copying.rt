@@ -1,0 +1,41 @@
+//! Copies of what is asked and entered.
+
+ghost use Rattle.std.specs.Prelude.{◌≡◌, IfOk};
+
+use cat_model::{Asked, Command, Draw, Entry, List, Memory, Refusal};
+use open_requests::{Question, copy_asked};
+use std::alloc::Global;
+
+/// A copy of a command.
+pub fn copy_command(command: &Command) -> Result<Command, Memory>
+    ensures { IfOk result (λ copy. copy ≡ command.now) }
+{
+    Ok(command.clone()?)
+}
+
+/// A copy of why a request is none.
+pub fn copy_refusal(why: &Refusal) -> Result<Refusal, Memory>
+    ensures { IfOk result (λ copy. copy ≡ why.now) }
+{
+    Ok(why.clone()?)
+}
+
+/// A copy of these entries.
+pub fn copy_entries(alloc: Global, entries: &[Entry]) -> Result<List<Entry>, Memory>
+    ensures { IfOk result (λ copy. copy ≡ entries.now) }
+{
+    let copy = Vec::from_clones(alloc, entries)?;
+    Ok(List::from(copy))
+}
+
+/// A request with its number, and a copy of what was asked.
+pub fn copied_question(
+    number: u64,
+    agent: u32,
+    asked: &Asked,
+    draw: Draw,
+) -> Result<Question, Memory>
+    ensures { IfOk result (λ question. question ≡ record { number = number; agent = agent; asked = asked.now; draw = draw }) }
+{
+    Ok(Question::new(number, agent, copy_asked(asked)?, draw))
+}

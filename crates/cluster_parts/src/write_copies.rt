@@ -1,0 +1,104 @@
+//! The copies of a write that a server is to enter, and what its log would have with that.
+
+ghost use Rattle.std.specs.Prelude.{◌≡◌, ◌+◌, IfOk};
+ghost use Rattle.cat_model.specs.LogLimits.{command_bytes as bytes_of_command};
+ghost use Rattle.cluster_rules.specs.Replies.{entered};
+
+use crate::entering::entered;
+use crate::writing::Write;
+use cat_model::{Asked, Command, Entry, Memory};
+use open_requests::{Question, copy_asked};
+use raft_node::batch::command_bytes;
+use std::alloc::Global;
+
+// The entry of a write at a leader of this term.
+fn entry_of(
+    alloc: Global,
+    question: &Question,
+    term: u64,
+    command: &Command,
+) -> Result<Entry, Memory>
+    ensures { IfOk result (λ entry. entry ≡ record { term = term; number = question.now.number; command = entered question.now command.now }) }
+{
+    Ok(Entry {
+        term,
+        number: question.number(),
+        command: entered(alloc, question, command)?,
+    })
+}
+
+// How many bytes these are with a command more.
+fn total(alloc: Global, bytes: u64, command: &Command) -> Result<u64, Memory>
+    ensures { IfOk result (λ all. all ≡ bytes + bytes_of_command command.now) }
+{
+    let more = command_bytes(alloc, command)?;
+    bytes.checked_add(more as u64).ok_or(Memory)
+}
+
+// A write with all its parts.
+fn with_bytes(
+    question: Question,
+    entry: Entry,
+    asked: &Asked,
+    entries: u64,
+    bytes: u64,
+) -> Result<Write, Memory>
+    ensures { IfOk result (λ write. write ≡ record { asked = asked.now; question = question; entry = entry; entries = entries; bytes = bytes }) }
+{
+    match copy_asked(asked) {
+        Ok(asked) => Ok(Write {
+            asked,
+            question,
+            entry,
+            entries,
+            bytes,
+        }),
+        Err(Memory) => {
+            drop(question);
+            drop(entry);
+            Err(Memory)
+        }
+    }
+}
+
+// A write with its entry, behind so many bytes of the log.
+fn with_entry(
+    alloc: Global,
+    question: Question,
+    entry: Entry,
+    asked: &Asked,
+    entries: u64,
+    before: u64,
+) -> Result<Write, Memory>
+    ensures { IfOk result (λ write. write ≡ record { asked = asked.now; question = question; entry = entry; entries = entries; bytes = before + bytes_of_command entry.command }) }
+{
+    match total(alloc, before, &entry.command) {
+        Ok(bytes) => with_bytes(question, entry, asked, entries, bytes),
+        Err(Memory) => {
+            drop(question);
+            drop(entry);
+            Err(Memory)
+        }
+    }
+}
+
+/// A write with its question, which a leader of this term enters behind so many bytes of its log.
+pub fn with_question(
+    alloc: Global,
+    question: Question,
+    term: u64,
+    asked: &Asked,
+    command: &Command,
+    entries: u64,
+    before: u64,
+) -> Result<Write, Memory>
+    ensures { let enters = entered question command.now in IfOk result (λ write. write ≡ record { asked = asked.now; question = question; entry = record { term = term; number = question.number; command = enters }; entries = entries; bytes = before + bytes_of_command enters }) }
+{
+    match entry_of(alloc, &question, term, command) {
+        Ok(entry) => with_entry(alloc, question, entry, asked, entries, before),
+        Err(Memory) => {
+            drop(question);
+            Err(Memory)
+        }
+    }
+}
