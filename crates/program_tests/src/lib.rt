@@ -1,5 +1,5 @@
 //! Tests of the program's one call, of what no script in a file can say: wrong words, a source and a sink that fail,
-//! scripts past a limit, and the numbers of a report. There is no code beside them.
+//! scripts past a limit, the numbers of a report, and a server over TCP with its clients. There is no code beside them.
 #![tactic(auto)]
 
 #[cfg(test)]
@@ -8,3 +8,5 @@ mod endings;
 mod playing;
 #[cfg(test)]
 mod reports;
+#[cfg(test)]
+mod serving;
