@@ -9,8 +9,8 @@ ghost use Rattle.catalog_table.specs.Rows.{catalog_of};
 use cat_model::{Answer, CheckRow, CheckView, List, Memory, Status, Text};
 use catalog_table::CatalogTable;
 use health_view::name_or_blank;
-use health_view::texts::{is_blank, is_same};
 use lists::{copy_of, made};
+use node_rows::{is_blank, is_same};
 use std::alloc::Global;
 
 fn service_name(alloc: Global, catalog: &CatalogTable, c: &CheckRow) -> Result<Text, Memory>

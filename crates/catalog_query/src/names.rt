@@ -7,8 +7,8 @@ ghost use Rattle.cat_model.specs.Queries.{with_name, all_names, all_tags, names_
 ghost use Rattle.catalog_query.specs.Places.{rank};
 
 use cat_model::{List, Memory, NameTags, ServiceRow, Text, Texts};
-use health_view::texts::is_same;
 use lists::{copy_of, gathered, kept, made};
+use node_rows::is_same;
 use std::alloc::Global;
 
 /// How many of the names are smaller.

@@ -2,10 +2,22 @@
 
 ghost use Rattle.std.specs.Prelude.{◌≡◌, filter};
 ghost use Rattle.cat_model.specs.Queries.{has_tag, has_all_tags, all_pass};
+ghost use Rattle.cat_model.specs.Same.{same_status};
 ghost use Rattle.cat_model.specs.Executions.{meets_tag, meets_all_tags, none_critical};
 
-use crate::texts::{is_same, is_same_status};
 use cat_model::{Instance, List, Status, Text, Texts};
+use node_rows::is_same;
+
+fn is_same_status(a: Status, b: Status) -> bool
+    ensures { result ≡ same_status a b }
+{
+    matches!(
+        (a, b),
+        (Status::Passing, Status::Passing)
+            | (Status::Warning, Status::Warning)
+            | (Status::Critical, Status::Critical)
+    )
+}
 
 fn does_pass(x: &Instance) -> bool
     ensures { result ≡ all_pass x.now }

@@ -3,7 +3,6 @@
 
 mod filters;
 mod instances;
-pub mod texts;
 
 pub use filters::{meeting_tags, not_critical, only_passing, with_tags};
 pub use instances::{join, name_or_blank};
