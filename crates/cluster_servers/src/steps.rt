@@ -15,9 +15,7 @@ use raft_model::{Place, Round};
 use raft_node::{ProbeFault, ProposeFault};
 use replica::Replica;
 use std::alloc::Global;
-
-// Lets go of a replica that nobody is to read.
-fn discard(_replica: Replica) {}
+use std::mem;
 
 impl<K: Keeper + Drop> Servers<K> {
     /// The election timeout of a server is over.
@@ -133,11 +131,11 @@ impl<K: Keeper + Drop> Servers<K> {
         match self.world.restart(alloc, s) {
             Ok(()) => {
                 let at = place(s);
-                self.replicas[at] = anew;
+                drop(mem::replace(&mut self.replicas[at], anew));
                 Ok(())
             }
             Err(Memory) => {
-                discard(anew);
+                drop(anew);
                 Err(Memory)
             }
         }

@@ -78,6 +78,18 @@ fn each_timer_is_due_at_its_time(rt: HostRuntime) -> Result<(), Fail> {
 }
 
 #[test]
+fn timers_that_are_found_due_stay(rt: HostRuntime) -> Result<(), Fail> {
+    let alloc = rt.alloc();
+    let mut wheel = some_timers(alloc)?;
+    let found = wheel.find_due(alloc, 65_539)?;
+    let same = found.as_slice() == [7, 9].as_slice();
+    assert!(rt; same);
+    let due = is_due(alloc, &mut wheel, 65_546, &[7, 9, 5, 2])?;
+    assert!(rt; due);
+    Ok(())
+}
+
+#[test]
 fn timers_are_due_by_time_and_then_by_key(rt: HostRuntime) -> Result<(), Fail> {
     let alloc = rt.alloc();
     let mut wheel = some_timers(alloc)?;

@@ -9,7 +9,8 @@ use Rattle.cat_model.specs.Reach.{is_on}
 use Rattle.cat_model.specs.declared.query.Chan.{Chan}
 use Rattle.timer_wheel.specs.Dues.{AreDue}
 use Rattle.read_watch.specs.Watch.{Sleepers, SleepsAmong, Leave, OthersStay, AreNumbers, IsOver, is_among}
-use Rattle.read_watch.proofs.Lookups.{found_without, found_new, found_beside, found_passing, numbers_new, numbers_without, number_found}
+use Rattle.timer_wheel.proofs.Lookups.{found_without, found_new, found_beside, found_passing}
+use Rattle.read_watch.proofs.Lookups.{numbers_new, numbers_without, number_found}
 use Rattle.read_watch.proofs.Members.{listed, passing_listed}
 
 abbrev pub sleepers : List (ℕ × List Chan) → List (ℕ × ℕ) → Sleepers

@@ -4,6 +4,6 @@ pub mod Replying
 pub mod Standing
 pub mod Making
 pub mod Waiting
-pub mod Quieting
+pub mod InTime
 pub mod Channels
 pub mod Sparing

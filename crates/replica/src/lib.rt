@@ -5,10 +5,10 @@ mod copies;
 mod delays;
 pub mod laws;
 mod locking;
-mod node_rows;
 mod office;
-mod quiet;
+mod remote;
 mod removing;
 mod replica;
+mod timing;
 
 pub use replica::Replica;

@@ -8,7 +8,6 @@ ghost use Rattle.office_rules.specs.Offices.{Office as SpecOffice, ended_too, lo
 ghost use Rattle.replica.specs.States.{in_office};
 ghost use Rattle.session_ttl.specs.Endings.{ending_of};
 
-use crate::quiet;
 use crate::replica::Replica;
 use cat_model::Memory;
 use session_ttl::Ending;
@@ -20,7 +19,7 @@ impl Replica {
         ensures { self.new ≡ in_office (office_from now) self.old }
     {
         self.office.lead(now);
-        self.quiet_until = 0;
+        self.timers.stop();
     }
 
     /// A server in office renews the session of this identifier, if there is one, at this time of its clock: it lives
@@ -33,13 +32,14 @@ impl Replica {
             return Ok(());
         };
         self.office.in_order();
-        let until = if self.office.is_ended(row.create) {
-            0
-        } else {
-            quiet::renewed(self.quiet_until, row.ttl_ms, now)
-        };
         self.office.renew(row, now)?;
-        self.quiet_until = until;
+        self.timers.set(
+            &self.office,
+            self.clocks.as_slice(),
+            self.store.sessions(),
+            id,
+            now,
+        );
         Ok(())
     }
 
@@ -48,11 +48,13 @@ impl Replica {
     pub fn over(&self, alloc: Global, now: u64) -> Result<Vec<Ending>, Memory>
         ensures { IfOk result (λ v. v.items ≡ map ending_of (over_now self.now.commands self.now.clocks self.now.office now)) }
     {
-        if u128::from(now) < self.quiet_until {
-            return Ok(Vec::new(alloc));
-        }
-        self.office
-            .over(alloc, self.clocks.as_slice(), self.store.sessions(), now)
+        self.timers.over(
+            alloc,
+            &self.office,
+            self.clocks.as_slice(),
+            self.store.sessions(),
+            now,
+        )
     }
 
     /// The ends of these sessions are about to be proposed.
@@ -74,7 +76,7 @@ impl Replica {
             return;
         }
         self.office.keep_first(endings, kept);
-        self.quiet_until = 0;
+        self.timers.stop();
     }
 
     /// The time of a server's next look for removed keys has come.
@@ -85,16 +87,17 @@ impl Replica {
     }
 
     /// A server in office looks for removed keys that are to be reaped, where the time of its next look has come, and
-    /// the look after that comes 900,000 milliseconds later. It also looks when sessions are over next, where one may be
-    /// now.
+    /// the look after that comes 900,000 milliseconds later. It also sets the timers of its sessions that are due anew, or
+    /// makes them all, where it has none.
     pub fn look(&mut self, now: u64)
         ensures { self.new ≡ in_office (looks_on now self.old.office) self.old }
     {
         self.office.look(now);
-        if self.quiet_until <= u128::from(now) {
-            self.quiet_until = self
-                .office
-                .quiet_until(self.clocks.as_slice(), self.store.sessions(), now);
-        }
+        self.timers.look(
+            &self.office,
+            self.clocks.as_slice(),
+            self.store.sessions(),
+            now,
+        );
     }
 }

@@ -15,14 +15,14 @@ ghost use Rattle.replica.specs.Sparing.{SparesOthers};
 ghost use Rattle.replica.specs.States.{nothing_applied, applied_at, last_reply};
 
 use crate::delays::Delays;
-use crate::node_rows::rows_of_node;
-use crate::{copies, quiet, removing};
+use crate::remote::rows_of_node;
+use crate::{copies, removing, timing};
 use cat_model::{
     Answer, Applied, Chan, Command, Fired, List, Memory, Query, Ran, Remote, SessionRow, Steps,
 };
 use catalog_query::{ExecuteFault, View};
 use catalog_store::Store;
-use session_ttl::Office;
+use session_ttl::{Office, SessionTimers};
 use std::alloc::Global;
 use std::marker::Model;
 use std::sync::ledger::Ledger;
@@ -36,8 +36,8 @@ pub struct Replica {
     reply: Option<Applied>,
     removed: bool,
     pub(crate) office: Office,
-    /// Before this clock no session is over whose end is still to be proposed.
-    pub(crate) quiet_until: u128,
+    /// The timers of the sessions, which it gets when it first looks in office.
+    pub(crate) timers: SessionTimers,
     delays: Delays,
 }
 
@@ -46,14 +46,14 @@ impl Model for Replica {
     ghost use Rattle.office_rules.specs.Offices.{delay_over, has_removed};
     ghost use Rattle.replica.specs.Delays.{delay_end};
     ghost use Rattle.replica.specs.States.{ReplicaState, last_reply};
-    ghost use Rattle.session_ttl.specs.Quiet.{IsQuiet};
+    ghost use Rattle.session_ttl.specs.Timed.{AreTimed};
     ghost use Rattle.cat_model.specs.Machine.{catalog_at};
 
     ghost Value = { ReplicaState };
 
     ghost view = { λ r. record { commands = r.store; clocks = r.clocks.items; office = r.office } };
 
-    ghost invariant = { λ r. (length r.clocks.items ≡ length r.store) × (length r.store ≤ 262144) × (r.reply ≡ last_reply r.store) × (r.removed ≡ has_removed r.store) × ((key : List ℕ) → delay_end r.delays key ≡ delay_over r.store r.clocks.items key) × IsQuiet r.quiet_until r.clocks.items r.office (catalog_at r.store).sessions };
+    ghost invariant = { λ r. (length r.clocks.items ≡ length r.store) × (length r.store ≤ 262144) × (r.reply ≡ last_reply r.store) × (r.removed ≡ has_removed r.store) × ((key : List ℕ) → delay_end r.delays key ≡ delay_over r.store r.clocks.items key) × AreTimed r.timers r.clocks.items r.office (catalog_at r.store).sessions };
 }
 
 // The tables of a store, read together.
@@ -80,7 +80,7 @@ impl Replica {
             reply: None,
             removed: false,
             office: Office::new(alloc),
-            quiet_until: 0,
+            timers: SessionTimers::new(alloc),
             delays: Delays::new(alloc)?,
         })
     }
@@ -155,7 +155,14 @@ impl Replica {
                     &self.store,
                 );
                 self.delays.note(freed, now);
-                self.quiet_until = quiet::applied(self.quiet_until, command, now);
+                timing::applied(
+                    &mut self.timers,
+                    &self.office,
+                    self.clocks.as_slice(),
+                    self.store.sessions(),
+                    command,
+                    now,
+                );
                 Ok(chans)
             }
             Err(memory) => {

@@ -3,9 +3,12 @@ use Rattle.std.proofs.Common.{◌≡◌, ℕ, ◌+◌, ◌-◌, Bool, true, fals
 use Rattle.std.proofs.lemmas.List.{length-append, length-map, reverse-append, reverse-reverse, take-map}
 use Rattle.std.proofs.lemmas.List.Elements.{filter-append}
 use Rattle.std.proofs.Math.Seq.{take-append-add}
+use Rattle.cat_model.specs.declared.row.Behavior.TheVariants.{Release}
 use Rattle.cat_model.specs.declared.row.SessionRow.{SessionRow}
 use Rattle.session_ttl.specs.declared.ending.Ending.{Ending}
-use Rattle.session_ttl.specs.Endings.{create_of, ending_of}
+use Rattle.office_rules.specs.Offices.{Office, over_at, sorted_by}
+use Rattle.session_ttl.specs.Endings.{create_of, ending_in, ending_of, over_in, overdue_of}
+use Rattle.session_ttl.proofs.Sorting.{sorted_map}
 
 pub filter_reverse : {A : Type 0} (p : A → Bool) (xs : List A) → reverse (filter p xs) ≡ filter p (reverse xs)
 filter_reverse p [] = refl
@@ -49,3 +52,16 @@ ends_kept all endings rows ended kept e is =
     ∙ reverse-append (reverse ended) (take kept (map create rows))
     ∙ ap (λ l. reverse (take kept (map create rows)) ++ l) (reverse-reverse ended)
     ∙ ap (λ l. reverse l ++ ended) (take-map create kept rows)
+
+-- the sessions that are over, in their turn
+pub in_turn : (clocks : List ℕ) (o : Office) (rows : List SessionRow) → map ending_in (sorted_by over_in (map (overdue_of clocks o) rows)) ≡ map ending_of (sorted_by (over_at clocks o) rows)
+in_turn clocks o rows = ap (map ending_in) (sorted_map over_in (overdue_of clocks o) rows) ∙ map_map ending_in (overdue_of clocks o) (sorted_by (over_at clocks o) rows)
+
+-- a session of this end
+pub row_of : Ending → SessionRow
+row_of e = record { id = e.id; name = []; node = []; checks = []; behavior = Release; delay_ms = 0; ttl_ms = 0; create = e.create; modify = 0 }
+
+pub ends_are : (endings : List Ending) → endings ≡ map ending_of (map row_of endings)
+unfolding row_of
+ends_are [] = refl
+ends_are (e ∷ endings) = ap (λ l. e ∷ l) (ends_are endings)

@@ -1,4 +1,5 @@
 pub mod Starts
 pub mod Sorting
 pub mod Ends
-pub mod Quiet
+pub mod Among
+pub mod Timing

@@ -6,6 +6,8 @@ mod ending;
 mod office;
 mod over;
 mod renewal;
+mod timers;
 
 pub use ending::Ending;
 pub use office::Office;
+pub use timers::SessionTimers;

@@ -142,7 +142,7 @@ left_later t now (e ∷ es) p h = go (left_later t now es p) (nat_le e.1.at now)
 due_itself : (d : ℕ × ℕ) → is_at (due_cmp d) d ≡ true
 due_itself d = λ i. is_eq (ordering_then (nat_cmp_self d.0 i) (nat_cmp_self d.1 i))
 
-due_same : (d x : ℕ × ℕ) → is_at (due_cmp d) x ≡ true → d ≡ x
+pub due_same : (d x : ℕ × ℕ) → is_at (due_cmp d) x ≡ true → d ≡ x
 due_same d x h = due_exact d x (is_equal (due_cmp d x) h)
 
 -- the key of what is found is among the keys
@@ -192,7 +192,7 @@ has_is es now found sound whole key p h = go (nat_le p.at now) refl (has key (ma
     go true e false f = sym f ∙ due e
     go false e true f = sym (le-leb p.at now (early f)) ∙ e
 
-due_total : IsTotalOrder due_cmp
+pub due_total : IsTotalOrder due_cmp
 due_total = then_total (on_total (λ (d : ℕ × ℕ). d.0) nat_cmp_total) (on_total (λ (d : ℕ × ℕ). d.1) nat_cmp_total)
 
 -- what was found are the timers that are due

@@ -78,6 +78,17 @@ impl TimerWheel {
         unset_timer(&mut self.list, &mut self.places, self.low, key)
     }
 
+    /// The keys of the timers whose time is now or before, by time and then by key. All timers stay.
+    pub fn find_due(&self, alloc: Global, now: u64) -> Result<Vec<u128>, Memory>
+        ensures { IfOk result (λ keys. AreDue self.now now keys.items) }
+    {
+        if now < self.low {
+            return Ok(Vec::new(alloc));
+        }
+        let found = find_due(alloc, &self.list, &self.places, self.low, now)?;
+        keys_of(alloc, &found)
+    }
+
     /// Takes out the timers whose time is now or before, and gives their keys by time and then by key.
     pub fn due(&mut self, alloc: Global, now: u64) -> Result<Vec<u128>, Memory>
         ensures due { IfOk result (λ keys. AreDue self.old now keys.items) }

@@ -3,7 +3,8 @@ use Rattle.std.specs.Ordering.{nat_cmp}
 use Rattle.std.specs.Map.{lookup}
 use Rattle.std.specs.BTreeMap.{is_at}
 use Rattle.read_watch.specs.Watch.{AreNumbers}
-use Rattle.read_watch.proofs.Lookups.{found_without, numbers_without}
+use Rattle.timer_wheel.proofs.Lookups.{found_without}
+use Rattle.read_watch.proofs.Lookups.{numbers_without}
 use Rattle.read_watch.proofs.Members.{not_before}
 use Rattle.read_watch.proofs.leaving.cancel_each.Goals as goal
 

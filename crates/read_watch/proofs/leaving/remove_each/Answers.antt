@@ -4,7 +4,7 @@ use Rattle.std.specs.Map.{lookup}
 use Rattle.std.specs.BTreeMap.{is_at}
 use Rattle.std.proofs.lemmas.Bool.{eqb-true, eqb-false}
 use Rattle.read_watch.specs.Watch.{is_among}
-use Rattle.read_watch.proofs.Lookups.{found_without}
+use Rattle.timer_wheel.proofs.Lookups.{found_without}
 use Rattle.read_watch.proofs.Members.{before_it, not_before}
 use Rattle.read_watch.proofs.leaving.remove_each.Goals as goal
 

@@ -1,4 +1,4 @@
-use Rattle.std.proofs.Common.{ap, length, refl, arith}
+use Rattle.std.proofs.Common.{ap, length, refl, ◌∙◌, arith}
 use Rattle.raft_world.proofs.Calling.{by_same}
 use Rattle.cluster_servers.specs.Servers.{Servers}
 use Rattle.cluster_servers.proofs.Following.{same_length}
@@ -15,8 +15,8 @@ index_mut-requires g c =
 
 pub invariant_of-self : goal.invariant_of-self
 invariant_of-self g c =
-    (restarts_it c.self.inside.world c.self.inside.replicas.items c.args.self.now c.self.view_is c.self.invariant c.place-at.result c.args.s c.place-at.ensures c.in_ok-anew.anew c.in_ok-anew.ensures c.restart.new.self c.in-Ok.ensures.ok).0
+    (restarts_it c.self.inside.world c.self.inside.replicas.items c.args.self.now c.self.view_is c.self.invariant c.place-at.result c.args.s c.place-at.ensures c.replace.new.dest (c.replace.ensures.after ∙ c.in_ok-anew.ensures) c.restart.new.self c.in-Ok.ensures.ok).0
 
 pub returns-in-Ok-clause-begins : goal.returns-in-Ok-clause-begins
 returns-in-Ok-clause-begins g c =
-    (restarts_it c.self.inside.world c.self.inside.replicas.items c.args.self.now c.self.view_is c.self.invariant c.place-at.result c.args.s c.place-at.ensures c.in_ok-anew.anew c.in_ok-anew.ensures c.restart.new.self c.in-Ok.ensures.ok).1
+    (restarts_it c.self.inside.world c.self.inside.replicas.items c.args.self.now c.self.view_is c.self.invariant c.place-at.result c.args.s c.place-at.ensures c.replace.new.dest (c.replace.ensures.after ∙ c.in_ok-anew.ensures) c.restart.new.self c.in-Ok.ensures.ok).1
