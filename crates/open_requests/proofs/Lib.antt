@@ -6,4 +6,5 @@ pub mod Placing
 pub mod Numbering
 pub mod Amounts
 pub mod LastOut
-pub mod Order
+pub mod Ordering
+pub mod Slots

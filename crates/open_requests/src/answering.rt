@@ -14,7 +14,7 @@ use crate::note::Note;
 use crate::out::{Given, Out, Reply};
 use crate::plain::Plain;
 use crate::requests::Requests;
-use crate::{giving, holding, noting};
+use crate::{giving, noting};
 use cat_model::{Asked, Draw, Kind, Mark, Memory, Refusal};
 
 impl Requests {
@@ -24,7 +24,7 @@ impl Requests {
         requires kind { event_of mark ≡ 0 }
         ensures { self.new ≡ used (given_with reply mark self.old) }
     {
-        holding::let_go(&mut self.held, reply.number());
+        self.held.let_go(reply.number());
         giving::put(&mut self.fresh, Out::new(Given::Replied(reply)));
         noting::add(&mut self.notes, Note::Marked(mark));
         self.room -= 1;
@@ -126,7 +126,7 @@ impl Requests {
         ensures err { OnErr result (self.new ≡ self.old) }
     {
         self.prepare_one()?;
-        holding::let_go(&mut self.held, number);
+        self.held.let_go(number);
         giving::put(&mut self.fresh, Out::new(Given::Closed { number, event }));
         self.room -= 1;
         Ok(())

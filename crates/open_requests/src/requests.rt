@@ -1,22 +1,27 @@
 //! The requests of a cluster.
 
-ghost use Rattle.std.specs.Prelude.{◌≡◌, ◌<◌, ◌+◌, [], ◌∷◌, IfOk, IfSome, IfNone, None, Some, OnOk, OnErr, true, length, map, reverse};
+ghost use Rattle.std.specs.Prelude.{◌≡◌, ◌==◌, ◌<◌, ◌+◌, [], ◌∷◌, IfOk, IfSome, IfNone, None, Some, OnOk, OnErr, true, filter, is_some, length, map, reverse};
 ghost use Rattle.cat_model.specs.declared.reply.Mark.TheVariants as mark;
 ghost use Rattle.open_requests.specs.declared.note.Note.TheVariants as notes;
 ghost use Rattle.open_requests.specs.Contents.{stand_of, start_of};
-ghost use Rattle.std.specs.List.{position};
+ghost use Rattle.std.specs.List.{AllByRecursion as Each, find, position};
+ghost use Rattle.std.specs.Option.{option_copied};
+ghost use Rattle.cluster_rules.specs.Replies.{number_of};
+ghost use Rattle.open_requests.specs.Held.{held_in};
 ghost use Rattle.open_requests.specs.Notes.{IsJustMade, IsMadeLast, events_noted, past_of};
 ghost use Rattle.open_requests.specs.Requests.{came_with, empty, ended_all, forgotten, holding_with, noted, numbered_with, restood, shelved_all, used, with_note};
 ghost use Rattle.open_requests.specs.Taking.{IsCollected, TakesAt, TakesFirst, is_of};
 
 use crate::collected::Collected;
+use crate::held::HeldRequests;
 use crate::history::marks_of;
 use crate::note::Note;
 use crate::out::{Given, Out};
 use crate::pending::{Pending, Stand, Start};
 use crate::question::Question;
 use crate::room::reserve;
-use crate::{giving, holding, noting};
+use crate::slot::HeldSlot;
+use crate::{giving, noting};
 use cat_model::{Asked, Draw, Entry, Event, List, Mark, Memory};
 use std::alloc::Global;
 use std::collections::VecDeque;
@@ -32,7 +37,7 @@ const CALLS: u64 = 4;
 pub struct Requests {
     pub(crate) asked: u64,
     pub(crate) events: u64,
-    pub(crate) held: Vec<Pending>,
+    pub(crate) held: HeldRequests,
     pub(crate) starts: Vec<Start>,
     pub(crate) fresh: Vec<Out>,
     pub(crate) tray: VecDeque<Out>,
@@ -43,6 +48,7 @@ pub struct Requests {
 impl Model for Requests {
     ghost use Rattle.std.specs.Prelude.{map, reverse, vec_len, vec_capacity};
     ghost use Rattle.std.specs.VecDeque.{deque_len, deque_capacity};
+    ghost use Rattle.open_requests.specs.Ordered.{IsOrdered};
     ghost use Rattle.open_requests.specs.Requests as spec;
 
     ghost Value = { spec.Requests };
@@ -51,7 +57,7 @@ impl Model for Requests {
 
     ghost view = { λ r. record {
       asked = r.asked;
-      held = r.held.items;
+      held = r.held.requests;
       starts = reverse (map start_of r.starts.items);
       fresh = r.fresh.items;
       tray = r.tray.items;
@@ -60,8 +66,9 @@ impl Model for Requests {
     } };
 
     ghost invariant = { λ r.
-        spec.HasRoom r.room (vec_len r.notes) (vec_capacity r.notes) (vec_len r.held) (vec_capacity r.held) (vec_len r.starts) (vec_capacity r.starts) (vec_len r.fresh) (vec_capacity r.fresh) (deque_len r.tray) (deque_capacity r.tray)
-        × spec.HasNumbers r.room r.asked r.events (reverse r.notes.items) };
+        spec.HasRoom r.room (vec_len r.notes) (vec_capacity r.notes) r.held.room (vec_len r.starts) (vec_capacity r.starts) (vec_len r.fresh) (vec_capacity r.fresh) (deque_len r.tray) (deque_capacity r.tray)
+        × spec.HasNumbers r.room r.asked r.events (reverse r.notes.items)
+        × IsOrdered r.fresh.items };
 }
 
 impl Requests {
@@ -72,7 +79,7 @@ impl Requests {
         Requests {
             asked: 0,
             events: 0,
-            held: Vec::new(alloc),
+            held: HeldRequests::new(alloc),
             starts: Vec::new(alloc),
             fresh: Vec::new(alloc),
             tray: VecDeque::new(alloc),
@@ -138,11 +145,18 @@ impl Requests {
         self.asked
     }
 
-    /// The requests that are held, in the order of their numbers.
-    pub fn held(&self) -> &[Pending]
-        ensures { result.now ≡ self.now.held }
+    /// The slots of the requests that are held, in the order of their numbers.
+    pub fn held(&self) -> &[HeldSlot]
+        ensures { held_in result.now ≡ self.now.held }
     {
-        self.held.as_slice()
+        self.held.slots()
+    }
+
+    /// The held request of a number. It costs a logarithm of how many are held.
+    pub fn pending(&self, number: u64) -> Option<&Pending>
+        ensures { option_copied result ≡ find (λ h. h.question.number == number) self.now.held }
+    {
+        self.held.get(number)
     }
 
     /// What has happened, the first one first.
@@ -261,13 +275,14 @@ impl Requests {
         self.room -= 1;
     }
 
-    /// The server holds the request. There is room for it, so that it takes no memory.
+    /// The server holds the request, whose number is above those of all that are held. There is room for it, so that it
+    /// takes no memory.
     pub fn hold(&mut self, question: Question, server: u32, stand: Stand, start: Start)
-        requires { 0 < self.old.room }
+        requires room { 0 < self.old.room }
+        requires last { Each (λ h. h.question.number < question.number) self.old.held }
         ensures { self.new ≡ used (holding_with question server (stand_of stand) (start_of start) self.old) }
     {
-        self.held
-            .push_reserved(Pending::new(question, server, stand));
+        self.held.push(Pending::new(question, server, stand));
         self.starts.push_reserved(start);
         self.room -= 1;
     }
@@ -285,7 +300,7 @@ impl Requests {
     pub fn restand(&mut self, number: u64, stand: Stand)
         ensures { self.new ≡ record self.old { held = map (restood number (stand_of stand)) self.old.held } }
     {
-        holding::restand(self.held.as_mut_slice(), number, stand);
+        self.held.restand(number, stand);
     }
 
     /// A server restarted in the event that was noted last: each request that it holds is to be closed.
@@ -293,7 +308,7 @@ impl Requests {
         ensures { self.new ≡ ended_all server self.old }
     {
         let event = self.events;
-        holding::end_all(self.held.as_mut_slice(), server, event);
+        self.held.end_all(server, event);
     }
 
     /// Lets the outs of the event join the tray. It takes no memory.
@@ -301,6 +316,13 @@ impl Requests {
         ensures { self.new ≡ shelved_all self.old }
     {
         giving::shelve(&mut self.tray, &mut self.fresh);
+    }
+
+    /// Lets go of the outs of syncs in the tray, which no request waits for. It takes no memory.
+    pub fn drop_syncs(&mut self)
+        ensures { self.new ≡ record self.old { tray = filter (λ o. is_some (number_of o)) self.old.tray } }
+    {
+        giving::drop_syncs(&mut self.tray);
     }
 
     /// Takes the first out of the tray, if there is one.
@@ -346,7 +368,7 @@ impl Requests {
         requires { position (λ o. is_of number o) self.now.tray ≡ None }
         ensures { IsCollected number result self.now self.now }
     {
-        match holding::find(self.held.as_slice(), number) {
+        match self.held.get(number) {
             Some(pending) => Collected::NotYet(pending.awaits()),
             None => Collected::Gone,
         }
@@ -369,8 +391,7 @@ impl Requests {
     pub fn unanswered(&self, alloc: Global) -> Result<List<u64>, Memory>
         ensures { IfOk result (λ numbers. numbers ≡ map (λ h. h.question.number) self.now.held) }
     {
-        let numbers: Vec<u64> = self.held.iter().map(|h| h.number()).collect(alloc)?;
-        Ok(List::from(numbers))
+        Ok(List::from(self.held.numbers(alloc)?))
     }
 
     /// The marks of what has happened, the first one first, beside the agreed log.

@@ -4,9 +4,10 @@ ghost use Rattle.std.specs.Prelude.{◌≡◌, ◌≤◌, ◌+◌, ◌*◌, IfOk
 ghost use Rattle.std.specs.VecDeque.{deque_len, deque_capacity};
 ghost use Rattle.open_requests.specs.Requests.{HasRoom};
 
+use crate::held::HeldRequests;
 use crate::note::Note;
 use crate::out::Out;
-use crate::pending::{Pending, Start};
+use crate::pending::Start;
 use cat_model::Memory;
 use std::collections::VecDeque;
 
@@ -22,18 +23,18 @@ fn notes_of(fresh: usize, tray: usize, room: u64) -> Result<usize, Memory>
 /// Takes the room for so many calls.
 pub fn reserve(
     notes: &mut Vec<Note>,
-    held: &mut Vec<Pending>,
+    held: &mut HeldRequests,
     starts: &mut Vec<Start>,
     fresh: &mut Vec<Out>,
     tray: &mut VecDeque<Out>,
     room: u64,
 ) -> Result<(), Memory>
     ensures notes { (notes.new.items ≡ notes.old.items) × (vec_len notes.new ≡ vec_len notes.old) × (vec_capacity notes.old ≤ vec_capacity notes.new) }
-    ensures held { (held.new.items ≡ held.old.items) × (vec_len held.new ≡ vec_len held.old) × (vec_capacity held.old ≤ vec_capacity held.new) }
+    ensures held { (held.new.requests ≡ held.old.requests) × (held.old.room ≤ held.new.room) }
     ensures starts { (starts.new.items ≡ starts.old.items) × (vec_len starts.new ≡ vec_len starts.old) × (vec_capacity starts.old ≤ vec_capacity starts.new) }
     ensures fresh { (fresh.new.items ≡ fresh.old.items) × (vec_len fresh.new ≡ vec_len fresh.old) × (vec_capacity fresh.old ≤ vec_capacity fresh.new) }
     ensures tray { (tray.new.items ≡ tray.old.items) × (deque_len tray.new ≡ deque_len tray.old) × (deque_capacity tray.old ≤ deque_capacity tray.new) }
-    ensures room { OnOk result (HasRoom room (vec_len notes.new) (vec_capacity notes.new) (vec_len held.new) (vec_capacity held.new) (vec_len starts.new) (vec_capacity starts.new) (vec_len fresh.new) (vec_capacity fresh.new) (deque_len tray.new) (deque_capacity tray.new)) }
+    ensures room { OnOk result (HasRoom room (vec_len notes.new) (vec_capacity notes.new) held.new.room (vec_len starts.new) (vec_capacity starts.new) (vec_len fresh.new) (vec_capacity fresh.new) (deque_len tray.new) (deque_capacity tray.new)) }
 {
     let coming = notes_of(fresh.len(), tray.len(), room)?;
     let waiting = fresh.len().checked_add(room as usize).ok_or(Memory)?;

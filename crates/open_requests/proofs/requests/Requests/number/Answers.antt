@@ -24,4 +24,5 @@ invariant_of-self c =
         of_events = omega (arith, c.self.invariant.1.of_events);
         events_are = c.self.invariant.1.events_are ∙ sym stay ∙ sym (ap events_noted c.replace_made.ensures.items);
       },
+      c.self.invariant.2,
     )

@@ -1,8 +1,0 @@
-use Rattle.std.proofs.Common.{◌≡◌}
-use Rattle.open_requests.specs.Contents.{stand_of}
-use Rattle.open_requests.specs.Requests.{restood}
-use Rattle.open_requests.proofs.Fronts.{mapped_front}
-use Rattle.open_requests.proofs.holding.restand.Given as goal
-
-abbrev pub invariant-loop-pending : goal.invariant-loop-pending
-invariant-loop-pending l = l.held ≡ mapped_front (restood l.number (stand_of l.stand)) l.pending-index l.initial.held
