@@ -6,7 +6,7 @@ use Rattle.open_requests.specs.declared.collected.Collected.{Collected}
 use Rattle.open_requests.specs.declared.collected.Collected.TheVariants as collected
 use Rattle.cluster_rules.specs.Past.{HasNoOut, IsNotHeld}
 use Rattle.open_requests.specs.Taking.{Waits}
-use Rattle.script_runs.specs.Plays.{taken}
+use Rattle.script_runs.specs.Plays.{of_requests, taken}
 
 -- This out was taken out of the tray, and a request's taking is marked.
 pub record Takes (out : Out) (c c' : Cluster) : Type 0 where
@@ -21,3 +21,7 @@ Collects number (collected.Ready reply) c c' = Takes (Replied reply) c c' × (re
 Collects number (collected.Closed event) c c' = Takes (Closed number event) c c'
 Collects number (collected.NotYet wanted) c c' = (c' ≡ c) × HasNoOut number c.tray × Waits number wanted c.held
 Collects number collected.Gone c c' = (c' ≡ c) × HasNoOut number c.tray × IsNotHeld number c.held
+
+-- The outs of syncs are let go of, for which no request waits. That has no mark.
+abbrev pub DropsSyncs : Cluster → Cluster → Type 0
+DropsSyncs c c' = c' ≡ record c { tray = of_requests c.tray }

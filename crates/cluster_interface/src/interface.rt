@@ -9,7 +9,7 @@ ghost use Rattle.script_runs.specs.Lines.{misfit};
 ghost use Rattle.script_runs.specs.Holds.{IsFirstStart};
 ghost use Rattle.request_rules.specs.Taken.{IsTakenAsked};
 ghost use Rattle.cluster_interface.specs.Interface.{IsPlayed, SettlesTo, TakesFirst, held_numbers};
-ghost use Rattle.cluster_interface.specs.Taking.{Collects};
+ghost use Rattle.cluster_interface.specs.Taking.{Collects, DropsSyncs};
 
 use cat_model::{Asked, Draw, Entry, Event, List, Mark, Memory};
 use open_requests::{Collected, Out};
@@ -74,6 +74,10 @@ pub trait ClusterInterface: Drop {
     /// before or never asked.
     fn collect(&mut self, number: u64) -> Collected
         ensures { Collects number result (state self.old) (state self.new) };
+
+    /// Lets go of the outs of syncs, for which no request waits. It takes no memory.
+    fn drop_syncs(&mut self)
+        ensures { DropsSyncs (state self.old) (state self.new) };
 
     /// How many requests were asked.
     fn asked(&self) -> u64

@@ -1,5 +1,5 @@
 -- A script over a cluster, line by line: each event is a whole step of the cluster, after which all its outs are taken.
-use Rattle.std.specs.Prelude.{◌≡◌, ◌⊎◌, ◌≤◌, ℕ, suc, true, List, [], ◌∷◌, ◌++◌, Option, Some, None}
+use Rattle.std.specs.Prelude.{◌≡◌, ◌⊎◌, ◌≤◌, ℕ, suc, true, List, [], ◌∷◌, ◌++◌, Option, Some, None, filter, is_some}
 use Rattle.cat_model.specs.declared.request.Event.{Event}
 use Rattle.cat_model.specs.declared.reply.Mark.{Mark}
 use Rattle.cat_model.specs.declared.reply.Mark.TheVariants as mark
@@ -19,6 +19,10 @@ taken (Some number) past = mark.Taken number ∷ past
 abbrev pub all_taken : List Out → List Mark → List Mark
 all_taken [] past = past
 all_taken (out ∷ outs) past = all_taken outs (taken (number_of out) past)
+
+-- the outs of requests, without those of syncs
+abbrev pub of_requests : List Out → List Out
+of_requests outs = filter (λ o. is_some (number_of o)) outs
 
 -- the cluster once all its outs were taken
 abbrev pub emptied : Cluster → Cluster

@@ -1,5 +1,5 @@
 -- Whatever is done to a cluster that serves leaves it serving.
-use Rattle.std.proofs.Common.{◌≡◌, ◌≤◌, ◌⊎◌, ℕ, suc, ◌+◌, Bool, true, false, inl, inr, List, [], ◌∷◌, ◌++◌, length, refl, sym, ◌∙◌, ap, subst, arith, Option, Some, None}
+use Rattle.std.proofs.Common.{◌≡◌, ◌≤◌, ◌⊎◌, ℕ, suc, ◌+◌, Bool, true, false, inl, inr, List, [], ◌∷◌, ◌++◌, length, refl, sym, ◌∙◌, ap, subst, append_assoc, arith, Option, Some, None}
 use Rattle.std.specs.Prelude.{◌&&◌}
 use Rattle.cat_model.specs.declared.request.Asked.{Asked}
 use Rattle.cat_model.specs.declared.request.Draw.{Draw}
@@ -7,10 +7,10 @@ use Rattle.cat_model.specs.declared.request.Event.{Event}
 use Rattle.cat_model.specs.declared.request.Event.TheVariants as event
 use Rattle.cat_model.specs.declared.reply.Mark.{Mark}
 use Rattle.cat_model.specs.declared.reply.Mark.TheVariants as mark
-use Rattle.cluster_rules.specs.Replies.{Out, Closed, number_of}
+use Rattle.cluster_rules.specs.Replies.{Out, Closed, Replied, Synced, number_of}
 use Rattle.cluster_rules.specs.Cluster.{Cluster}
 use Rattle.cluster_rules.specs.Step.{ClusterStep, marked, noted}
-use Rattle.cluster_rules.specs.Reached.{Move, Makes, Takes, Settles, Advances, Fits, Reached, at_start, by_event, by_taking, by_settling, EndInPairs, Settling, none, pair, moves_of}
+use Rattle.cluster_rules.specs.Reached.{Move, Makes, Takes, Settles, Advances, Fits, Reached, at_start, by_event, by_handing, by_taking, by_settling, EndInPairs, Settling, none, pair, moves_of}
 use Rattle.cluster_rules.specs.Sound.{Sound, IsAmong, OutIsSound, RestartedAt}
 use Rattle.cluster_rules.proofs.Reached.{run_sound}
 use Rattle.cluster_rules.proofs.Marks.{marks_are_moves}
@@ -19,6 +19,7 @@ use Rattle.cluster_turns.specs.Turns.{FindsNoMemory}
 use Rattle.cluster_turns.specs.Pairs.{IsPartlySettled, IsPartOfPair, settled}
 use Rattle.script_runs.specs.Holds.{IsFirstStart}
 use Rattle.script_runs.proofs.Holding.{a_start}
+use Rattle.script_runs.specs.Plays.{of_requests}
 use Rattle.serving_rules.specs.Keeping.{Keeps}
 use Rattle.serving_rules.specs.Serving.{Size, IsSized, IsServing, AreServing, Serves}
 use Rattle.serving_rules.proofs.Keeping.{step_keeps}
@@ -125,6 +126,18 @@ part_on size c c' s (inr (p, low, fits, inr (c₁, first, fits', inr short))) =
 pub partly_on : (size : Size) (most : ℕ) (c c' : Cluster) → Serves size c → IsPartlySettled most c c' → Serves size c'
 partly_on size most c c' s (pairs, few, (c₁, all, part)) = part_on size c₁ c' (settling_on size pairs 0 c c₁ (no_pairs size c s) all).serves part
 
+one_handed : (size : Size) (c : Cluster) (out : Out) (before after : List Out) → Serves size c → number_of out ≡ None → c.tray ≡ before ++ out ∷ after → Serves size (record c { tray = before ++ after })
+one_handed size c out before after s is there = record {
+  start = s.start;
+  whole = s.whole;
+  moves = s.moves;
+  begins = s.begins;
+  sized = s.sized;
+  reached = by_handing out before after s.reached is there;
+  serving = s.serving;
+  count = s.count;
+}
+
 pub taken_on : (size : Size) (number : ℕ) (c : Cluster) (out : Out) (before after : List Out) → Serves size c → number_of out ≡ Some number → c.tray ≡ before ++ out ∷ after → Serves size (record c { tray = before ++ after; past = mark.Taken number ∷ c.past })
 taken_on size number c out before after s is there = record {
   start = s.start;
@@ -136,6 +149,15 @@ taken_on size number c out before after s is there = record {
   serving = (tt, s.serving);
   count = s.count;
 }
+
+-- the outs of syncs are handed over one after another
+handed_from : (size : Size) (before outs : List Out) (c : Cluster) → Serves size c → c.tray ≡ before ++ outs → Serves size (record c { tray = before ++ of_requests outs })
+handed_from size before [] c s there = subst (λ (t : List Out). Serves size (record c { tray = t })) there s
+handed_from size before (Synced agent count ∷ outs) c s there = handed_from size before outs (record c { tray = before ++ outs }) (one_handed size c (Synced agent count) before outs s refl there) refl
+handed_from size before (out ∷ outs) c s there = subst (λ (t : List Out). Serves size (record c { tray = t })) (append_assoc before (out ∷ []) (of_requests outs)) (handed_from size (before ++ out ∷ []) outs c s (there ∙ sym (append_assoc before (out ∷ []) outs)))
+
+pub handed_on : (size : Size) (c : Cluster) → Serves size c → Serves size (record c { tray = of_requests c.tray })
+handed_on size c s = handed_from size [] c.tray c s refl
 
 -- No server restarts.
 pub none_restarts : (moves : List Move) (server : ℕ) → AreServing moves → IsAmong (Makes (event.Restart server)) moves → ⊥

@@ -11,6 +11,7 @@ ghost use Rattle.cluster_rules.specs.Replies.{Closed, Out, number_of};
 ghost use Rattle.cluster_rules.specs.Step.{ClusterStep};
 ghost use Rattle.cluster_turns.specs.Pairs.{IsPartlySettled, settled};
 ghost use Rattle.script_runs.specs.Holds.{IsFirstStart};
+ghost use Rattle.script_runs.specs.Plays.{of_requests};
 ghost use Rattle.serving_rules.specs.Holding.{Holds};
 ghost use Rattle.serving_rules.specs.Serving.{IsSized, Serves, Size};
 
@@ -39,6 +40,11 @@ pub fn deliveries_serve()
 /// So does the taking of a request's out.
 pub fn takings_serve()
     ensures { (size : Size) (number : ℕ) (c : Cluster) (out : Out) (before after : List Out) → Serves size c → number_of out ≡ Some number → c.tray ≡ before ++ out ∷ after → Serves size (record c { tray = before ++ after; past = mark.Taken number ∷ c.past }) }
+{}
+
+/// So does letting go of the outs of syncs.
+pub fn handings_serve()
+    ensures { (size : Size) (c : Cluster) → Serves size c → Serves size (record c { tray = of_requests c.tray }) }
 {}
 
 /// All that holds of every run holds of a cluster that serves.
