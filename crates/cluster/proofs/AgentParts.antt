@@ -30,10 +30,11 @@ use Rattle.cluster_turns.specs.declared.agent_event.AgentEvent.TheVariants as ag
 use Rattle.cluster_turns.specs.declared.cut.Cut.{Cut}
 use Rattle.cluster_turns.specs.declared.cut.Cut.TheVariants.{Before, Within}
 use Rattle.open_requests.specs.Requests.{Requests, answered_with, cluster_of as whole_of, numbered_with, used}
-use Rattle.cluster_parts.specs.Agents.{agent_at, agents_with}
+use Rattle.cluster_parts.specs.Agents.{agent_at, agents_with, content_told, own_reply}
 use Rattle.cluster_parts.specs.Watching.{Watching}
-use Rattle.cluster.specs.Standing.{Stands}
-use Rattle.cluster.specs.Syncing.{PlansInPart, PlansWhole, content_told, cut_first, noted_alone, own_done, reply_told}
+use Rattle.cluster_parts.specs.Standing.{Stands}
+use Rattle.cluster_parts.specs.Newest.{answered_newest}
+use Rattle.cluster.specs.Syncing.{PlansInPart, PlansWhole, cut_first, noted_alone, own_done}
 use Rattle.cluster.proofs.Handled.{Comes, numbered_cluster, numbered_stands}
 use Rattle.cluster.proofs.Kept.{answer_stands}
 
@@ -66,10 +67,10 @@ asked_so agent op asked draw c e =
     agent_did (event.Ask agent a draw) c₁ ≡ answered (record { number = c₁.asked; agent = agent; asked = a; draw = draw }) (kind_told agent op g) false 0 [] (with_change agent g c₁)) in
     subst Goal (sym e) refl
 
-module _ (gs gs' : List Agent) (wt : Watching) (w : World) (servers : List Server) (r r' : Requests) (c : Cluster) (agent : ℕ) (op : AgentOp) (asked : Asked) (draw : Draw) (reply : Reply)
-    (at : Comes gs wt w servers r c agent asked draw) (is : asked ≡ Good (AsksAgent op)) (told_is : reply ≡ reply_told (r.asked + 1) agent op (whole_of w servers gs r))
+module _ (gs gs' : List Agent) (wt : Watching) (w : World) (servers : List Server) (r r' : Requests) (c : Cluster) (agent : ℕ) (op : AgentOp) (asked : Asked) (draw : Draw)
+    (at : Comes gs wt w servers r c agent asked draw) (is : asked ≡ Good (AsksAgent op))
     (grown : gs' ≡ agents_with agent (change agent op (agent_at gs agent)) gs)
-    (given : r' ≡ used (answered_with reply.number reply.kind reply.known reply.contact reply.content (used (numbered_with agent asked draw (record r { room = 4 }))))) where
+    (given : r' ≡ answered_newest agent asked draw (own_reply (r.asked + 1) agent op gs) r) where
   abbrev g : Option Agent
   g = change agent op (agent_at gs agent)
 
@@ -92,7 +93,7 @@ module _ (gs gs' : List Agent) (wt : Watching) (w : World) (servers : List Serve
   here = record { stands = at.stands; view = refl; come = subst (λ (d : Cluster). IsCome agent asked draw d.past) (sym at.view) at.come }
 
   given_is : r' ≡ used (answered_with (r.asked + 1) kind false 0 (content_told kind) r₁)
-  given_is = given ∙ ap (λ (x : Reply). used (answered_with x.number x.kind x.known x.contact x.content r₁)) told_is
+  given_is = given
 
   others : whole_of w servers gs' r₁ ≡ with_change agent g c₁
   others =

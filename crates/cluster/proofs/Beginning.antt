@@ -11,7 +11,7 @@ use Rattle.cluster_servers.proofs.Beginning.{as_many_start}
 use Rattle.read_watch.specs.Watch.{no_sleeper}
 use Rattle.cluster_parts.specs.Watching.{Watching, nothing_watched}
 use Rattle.cluster.specs.Beginning.{MayBegin}
-use Rattle.cluster.specs.Standing.{Stands}
+use Rattle.cluster_parts.specs.Standing.{Stands}
 
 replicated : {A : Type 0} (count : ℕ) (x : A) → length (replicate count x) ≡ count
 replicated zero x = refl

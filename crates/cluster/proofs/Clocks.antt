@@ -10,9 +10,9 @@ use Rattle.cluster_rules.specs.Requests.{entries_past, halts_past, moved}
 use Rattle.cluster_rules.proofs.Moved.{drops_rise}
 use Rattle.cluster_turns.specs.Turns.{Ticks}
 use Rattle.open_requests.specs.Requests.{Requests, cluster_of as whole_of}
-use Rattle.cluster.specs.Standing as standing
-use Rattle.cluster.proofs.Carried.{losing_goes, ticking_goes}
-use Rattle.cluster.proofs.Marking.{world_stands}
+use Rattle.cluster_parts.specs.Standing as standing
+use Rattle.cluster_parts.proofs.Carried.{losing_goes, ticking_goes}
+use Rattle.cluster_parts.proofs.Marking.{world_stands}
 use Rattle.agent_rules.specs.Agents.{Agent}
 use Rattle.cluster_parts.specs.Watching.{Watching}
 

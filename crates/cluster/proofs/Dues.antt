@@ -1,5 +1,5 @@
 -- What is due first is due.
-use Rattle.std.proofs.Common.{◌≡◌, inl, inr, ℕ, ◌<◌, Bool, true, false, cond, List, [], ◌∷◌, ◌++◌, length, map, Option, Some, None, Result, Ok, Err, refl, sym, ap, ◌∙◌, subst, arith}
+use Rattle.std.proofs.Common.{◌≡◌, inl, inr, ℕ, ◌<◌, Bool, true, false, cond, List, [], ◌∷◌, length, map, Option, Some, None, Result, Ok, Err, refl, sym, ap, ◌∙◌, subst}
 use Rattle.std.specs.Prelude.{OnOk, ◌==◌, ◌&&◌, ◌||◌, is_some, nat_le, nat_lt, not}
 use Rattle.cat_model.specs.declared.reply.Kind.{Kind}
 use Rattle.cat_model.specs.declared.reply.Kind.TheVariants.{At, Refused}
@@ -22,8 +22,8 @@ use Rattle.open_requests.proofs.Lifting.{restands_by}
 use Rattle.cluster_parts.specs.declared.work.Work as own
 use Rattle.cluster_parts.specs.declared.work.Work.TheVariants.{Answer, Hold, Close, Apply}
 use Rattle.cluster_parts.specs.Looking.{is_early}
-use Rattle.cluster.specs.Standing as standing
-use Rattle.cluster.specs.Standing.{IsWatched}
+use Rattle.cluster_parts.specs.Standing as standing
+use Rattle.cluster_parts.specs.Standing.{IsWatched}
 use Rattle.cluster.proofs.Finding.{early_is}
 use Rattle.cluster.proofs.Watched.{rests_as}
 use Rattle.cluster_rules.proofs.Steps.{or_left, or_right}

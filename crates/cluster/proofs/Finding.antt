@@ -21,7 +21,6 @@ use Rattle.cat_model.specs.Queries.{answer}
 use Rattle.raft_model.proofs.Tests.{at_bool, eq_tells, le_tells}
 use Rattle.raft_model.specs.declared.message.Round.{Round}
 use Rattle.raft_model.specs.World.{World}
-use Rattle.request_rules.specs.Taken.{IsTakenAsked}
 use Rattle.cluster_rules.proofs.Tools.{both, get_default}
 use Rattle.cluster_rules.specs.Replies.{Question, Runs, id_in, shown, shown_read, shown_seen}
 use Rattle.cluster_rules.specs.Cluster.{Cluster, Pending, Server, Stand, AtPlace, InRound, ForIndex, Ended, applied_of, clock_of, node_of, server_of}
@@ -35,8 +34,8 @@ use Rattle.open_requests.specs.Requests.{Requests, cluster_of as whole_of}
 use Rattle.cluster_parts.specs.declared.work.Work.{Work}
 use Rattle.cluster_parts.specs.declared.work.Work.TheVariants.{Apply, Hold}
 use Rattle.cluster_parts.specs.Looking.{is_early, is_late, is_look_due, is_number_early, is_number_late, is_round_over, is_stand_due, is_stand_late, numbered_in, test_held, waits_on}
-use Rattle.cluster.specs.Standing as standing
-use Rattle.cluster.specs.Standing.{IsAwaited, IsWatched}
+use Rattle.cluster_parts.specs.Standing as standing
+use Rattle.cluster_parts.specs.Standing.{IsAwaited, IsWatched}
 use Rattle.cluster_parts.specs.Working.{Finds, IsFound, IsWork}
 use Rattle.cluster.proofs.Numbered.{each_numbered, each_one, one_found}
 use Rattle.cluster.proofs.Watched.{RestsAs, rests_as}

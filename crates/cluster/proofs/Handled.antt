@@ -1,5 +1,5 @@
 -- A request that was just noted is handled: it takes its number, and is refused or held.
-use Rattle.std.proofs.Common.{◌≡◌, ◌≢◌, inl, inr, ℕ, suc, ◌+◌, ◌<◌, ◌≤◌, ◌||◌, true, false, length, take, List, [], ◌∷◌, ◌++◌, Option, Some, None, refl, sym, ap, ◌∙◌, subst, arith}
+use Rattle.std.proofs.Common.{◌≡◌, ◌≢◌, inl, inr, ℕ, suc, ◌+◌, ◌<◌, ◌≤◌, ◌||◌, true, false, length, take, List, [], ◌∷◌, ◌++◌, Option, Some, refl, sym, ap, ◌∙◌, subst, arith}
 use Rattle.std.specs.List.{AllByRecursion as Each}
 use Rattle.cat_model.specs.declared.request.Asked.{Asked}
 use Rattle.cat_model.specs.declared.request.Draw.{Draw}
@@ -30,12 +30,12 @@ use Rattle.cluster_rules.proofs.Tools.{each_append, each_map, neither, one_of}
 use Rattle.cluster_turns.specs.Turns.{HandlesNewest, IsCome, newest, numbered}
 use Rattle.open_requests.specs.Notes.{IsMadeLast, past_of}
 use Rattle.open_requests.specs.Requests.{Requests, answered_with, cluster_of as whole_of, holding_with, numbered_with, used}
-use Rattle.cluster.specs.Standing as standing
-use Rattle.cluster.specs.Standing.{IsAwaited}
+use Rattle.cluster_parts.specs.Standing as standing
+use Rattle.cluster_parts.specs.Standing.{IsAwaited}
 use Rattle.office_rules.specs.Offices.{Office, renew_in}
 use Rattle.cluster_servers.specs.Servers.{Servers, officed}
-use Rattle.cluster.proofs.Acts.{stands_officed}
-use Rattle.cluster.proofs.Carried.{all_more}
+use Rattle.cluster_parts.proofs.Acts.{stands_officed}
+use Rattle.cluster_parts.proofs.Carried.{all_more}
 use Rattle.cluster.proofs.Kept.{answer_stands}
 use Rattle.cluster.proofs.Notes.{come_made, joined_placed, numbers_by}
 use Rattle.cluster.proofs.Taken.{delayed_as_asked}

@@ -1,5 +1,5 @@
 -- What stands of a cluster once something was done.
-use Rattle.std.proofs.Common.{◌≡◌, ◌≢◌, ◌⊎◌, inl, inr, ℕ, zero, suc, ◌<◌, ◌≤◌, ◌==◌, ◌||◌, Bool, true, false, cond, length, take, List, [], ◌∷◌, ◌++◌, Option, Some, None, Result, Ok, Err, refl, sym, ap, ◌∙◌, subst, arith}
+use Rattle.std.proofs.Common.{◌≡◌, ◌≢◌, ◌⊎◌, inl, inr, ℕ, zero, suc, ◌<◌, ◌≤◌, ◌==◌, ◌||◌, Bool, true, false, length, take, List, [], ◌∷◌, ◌++◌, Option, Some, None, Result, Ok, Err, refl, sym, ap, ◌∙◌, subst, arith}
 use Rattle.std.specs.Prelude.{OnOk, OnErr, ◌&&◌, nat_le}
 use Rattle.std.specs.List.{AllByRecursion as Each}
 use Rattle.std.proofs.lemmas.List.{length-append}
@@ -22,12 +22,12 @@ use Rattle.cluster_rules.proofs.Works.{ascends_without, commit_agrees, each_kept
 use Rattle.open_requests.specs.Requests.{Requests, answered_with, closed_with, cluster_of as whole_of}
 use Rattle.cluster_servers.specs.Servers.{Servers, applies_next}
 use Rattle.cluster_parts.specs.Looking.{is_early, is_stand_due}
-use Rattle.cluster.specs.Standing as standing
-use Rattle.cluster.specs.Standing.{IsAwaited, IsWatched}
+use Rattle.cluster_parts.specs.Standing as standing
+use Rattle.cluster_parts.specs.Standing.{IsAwaited, IsWatched}
 use Rattle.cluster.proofs.Numbered.{others_left}
 use Rattle.cluster.proofs.Watched.{fired_watched, others_stand, watched_by}
 use Rattle.replica.specs.Sparing.{SparesOthers}
-use Rattle.cluster.proofs.Carried.{sound_with}
+use Rattle.cluster_parts.proofs.Carried.{sound_with}
 use Rattle.agent_rules.specs.Agents.{Agent}
 use Rattle.cluster_parts.specs.Watching.{MayBeDue, Sleeps, StayAwake, Watching}
 

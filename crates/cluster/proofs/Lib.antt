@@ -1,15 +1,11 @@
-pub mod Acts
 pub mod Beginning
-pub mod Carried
 pub mod Dues
 pub mod ProposedAll
 pub mod Finding
-pub mod Forgetting
 pub mod Going
 pub mod Handled
 pub mod Impulses
 pub mod Kept
-pub mod Marking
 pub mod Numbers
 pub mod Outs
 pub mod Proposing
@@ -17,7 +13,6 @@ pub mod Tending
 pub mod Refused
 pub mod Replying
 pub mod Rounds
-pub mod Restarts
 pub mod Stores
 pub mod Taken
 pub mod Clocks
@@ -28,3 +23,4 @@ pub mod Watched
 pub mod Slept
 pub mod AgentParts
 pub mod Syncs
+pub mod Results

@@ -17,7 +17,7 @@ use Rattle.open_requests.specs.declared.note.Note.TheVariants.{Marked, Joined}
 use Rattle.open_requests.specs.Notes.{IsJustMade, IsMadeLast, before_made, in_place as note_in_place, joined_in, past_of}
 use Rattle.open_requests.specs.Requests.{Requests, cluster_of as whole_of, forgotten, numbered_with}
 use Rattle.cluster_turns.specs.Turns.{IsCome, in_place, numbered}
-use Rattle.cluster.specs.Standing as standing
+use Rattle.cluster_parts.specs.Standing as standing
 use Rattle.agent_rules.specs.Agents.{Agent}
 use Rattle.cluster_parts.specs.Watching.{Watching}
 

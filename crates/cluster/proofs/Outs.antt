@@ -12,7 +12,7 @@ use Rattle.open_requests.specs.Requests.{Requests, cluster_of as whole_of}
 use Rattle.open_requests.specs.Taking as own
 use Rattle.open_requests.specs.declared.collected.Collected.{Collected}
 use Rattle.open_requests.specs.declared.collected.Collected.TheVariants as collected
-use Rattle.cluster.specs.Standing as standing
+use Rattle.cluster_parts.specs.Standing as standing
 use Rattle.cluster_interface.specs.Interface.{TakesFirst}
 use Rattle.cluster_interface.specs.Taking.{Collects, Takes}
 use Rattle.agent_rules.specs.Agents.{Agent}

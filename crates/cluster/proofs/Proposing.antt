@@ -37,11 +37,11 @@ use Rattle.cluster_parts.specs.declared.writing.Write.{Write}
 use Rattle.cluster_parts.specs.declared.moving.Seen.{Seen}
 use Rattle.cluster_parts.specs.Asking.{EndsWrite, IsCopied, IsTakenWrite}
 use Rattle.cluster_parts.specs.Moving.{IsMarked, MarksStep, seen_of}
-use Rattle.cluster.specs.Standing as standing
-use Rattle.cluster.specs.Standing.{HasPlace, IsAwaited}
-use Rattle.cluster.proofs.Carried.{carries, proposing_goes}
+use Rattle.cluster_parts.specs.Standing as standing
+use Rattle.cluster_parts.specs.Standing.{HasPlace, IsAwaited}
+use Rattle.cluster_parts.proofs.Carried.{carries, proposing_goes}
 use Rattle.cluster.proofs.Handled.{Comes, below_next, hold_stands, holds_as, numbered_cluster, numbered_stands, refusal_stands, refuses_as}
-use Rattle.cluster.proofs.Marking.{cluster_marked, stands_proposed, with_room}
+use Rattle.cluster_parts.proofs.Marking.{cluster_marked, stands_proposed, with_room}
 use Rattle.cluster.proofs.Taken.{is_counted}
 use Rattle.agent_rules.specs.Agents.{Agent}
 use Rattle.cluster_parts.specs.Watching.{Watching}

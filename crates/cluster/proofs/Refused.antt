@@ -15,8 +15,8 @@ use Rattle.cluster_rules.specs.Step.{marked}
 use Rattle.cluster_turns.specs.Turns.{newest}
 use Rattle.open_requests.specs.declared.note.Note.TheVariants.{Marked}
 use Rattle.open_requests.specs.Requests.{Requests, answered_with, came_with, cluster_of as whole_of}
-use Rattle.cluster.specs.Standing as standing
-use Rattle.cluster.proofs.Carried.{all_more}
+use Rattle.cluster_parts.specs.Standing as standing
+use Rattle.cluster_parts.proofs.Carried.{all_more}
 use Rattle.cluster.proofs.Kept.{answer_stands, call_stands}
 use Rattle.agent_rules.specs.Agents.{Agent}
 use Rattle.cluster_parts.specs.Watching.{Watching}

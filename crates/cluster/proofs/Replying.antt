@@ -24,8 +24,8 @@ use Rattle.cluster_rules.proofs.Grows.{write_map}
 use Rattle.open_requests.specs.Contents.{write_content}
 use Rattle.cluster_parts.specs.Looking.{IsAppliedLast, RepliesLast}
 use Rattle.open_requests.specs.Requests.{Requests, cluster_of as whole_of}
-use Rattle.cluster.specs.Standing as standing
-use Rattle.cluster.specs.Standing.{HasPlace, IsAwaited}
+use Rattle.cluster_parts.specs.Standing as standing
+use Rattle.cluster_parts.specs.Standing.{HasPlace, IsAwaited}
 use Rattle.agent_rules.specs.Agents.{Agent as AgentRows}
 use Rattle.cluster_parts.specs.Watching.{Watching}
 

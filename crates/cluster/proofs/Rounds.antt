@@ -23,10 +23,10 @@ use Rattle.cluster_parts.specs.declared.moving.Seen.{Seen}
 use Rattle.cluster_parts.specs.declared.probing.NewRead.{NewRead}
 use Rattle.cluster_parts.specs.Asking.{EndsProbe, IsNewRead}
 use Rattle.cluster_parts.specs.Moving.{MarksStep, seen_of}
-use Rattle.cluster.specs.Standing as standing
-use Rattle.cluster.proofs.Carried.{carries, probing_goes}
+use Rattle.cluster_parts.specs.Standing as standing
+use Rattle.cluster_parts.proofs.Carried.{carries, probing_goes}
 use Rattle.cluster.proofs.Handled.{Comes, below_next, hold_stands, holds_as, numbered_cluster, numbered_stands}
-use Rattle.cluster.proofs.Marking.{cluster_marked, stands_proposed, with_room}
+use Rattle.cluster_parts.proofs.Marking.{cluster_marked, stands_proposed, with_room}
 use Rattle.cluster.proofs.Proposing.{marked_asked, marked_held}
 use Rattle.agent_rules.specs.Agents.{Agent}
 use Rattle.cluster_parts.specs.Watching.{Watching}

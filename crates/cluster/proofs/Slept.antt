@@ -1,6 +1,6 @@
 -- A read that waits for an index goes to sleep where nothing is due.
-use Rattle.std.proofs.Common.{◌≡◌, ◌≢◌, ◌⊎◌, inl, inr, ℕ, ◌≤◌, ◌==◌, ◌&&◌, ◌||◌, Bool, true, false, nat_le, nat_lt, not, length, List, [], ◌∷◌, Option, None, Some, is_some, refl, sym, ap, ◌∙◌, subst, arith}
-use Rattle.std.specs.List.{AllByRecursion as Each, find}
+use Rattle.std.proofs.Common.{◌≡◌, ◌≢◌, ◌⊎◌, inl, inr, ℕ, ◌≤◌, ◌==◌, ◌&&◌, ◌||◌, Bool, true, false, nat_le, nat_lt, length, List, [], ◌∷◌, Option, None, Some, is_some, refl, sym, ap, ◌∙◌, subst, arith}
+use Rattle.std.specs.List.{AllByRecursion as Each}
 use Rattle.cat_model.specs.Channels.{chans}
 use Rattle.cat_model.specs.Indexes.{index_of}
 use Rattle.cat_model.specs.Log.{commands_of}
@@ -15,12 +15,11 @@ use Rattle.raft_model.proofs.Tests.{at_bool, eq_tells, lt_tells_not}
 use Rattle.raft_model.specs.World.{World}
 use Rattle.cluster_rules.specs.Cluster.{Cluster, ForIndex, Pending, Server, Stand, applied_of, clock_of, node_of, server_of}
 use Rattle.cluster_rules.specs.Due.{Work, due, early_work, first_work}
-use Rattle.cluster_rules.specs.Sound.{Ascends}
 use Rattle.cluster_rules.proofs.Steps.{or_left, or_right}
 use Rattle.cluster_rules.proofs.Tools.{eq_self, eq_tells_not, neither}
 use Rattle.open_requests.specs.Requests.{Requests, cluster_of}
 use Rattle.cluster_parts.specs.Looking.{is_early, is_look_due, is_stand_due, numbered_in}
-use Rattle.cluster.specs.Standing.{IsWatched, Stands}
+use Rattle.cluster_parts.specs.Standing.{IsWatched, Stands}
 use Rattle.cluster_parts.specs.Watching.{MayBeDue, Sleeps, Watching}
 use Rattle.cluster.proofs.Finding.{early_is}
 use Rattle.cluster.proofs.Numbered.{each_numbered, each_one, none_found, number_of_found, one_found}

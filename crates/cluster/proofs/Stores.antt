@@ -1,6 +1,6 @@
 -- Stores in memory that hold nothing.
-use Rattle.std.proofs.Common.{◌≡◌, inl, ℕ, zero, suc, ◌+◌, ◌<◌, ◌≤◌, length, map, replicate, List, [], ◌∷◌, ◌++◌, Some, refl, sym, ap, ◌∙◌, subst, arith}
-use Rattle.std.proofs.lemmas.List.{length-map, replicate_more}
+use Rattle.std.proofs.Common.{◌≡◌, inl, ℕ, zero, suc, ◌<◌, ◌≤◌, length, map, replicate, List, Some, refl, sym, ap, ◌∙◌, subst, arith}
+use Rattle.std.proofs.lemmas.List.{length-map}
 use Rattle.cat_outside.specs.KeepersInMemory.{FaultyKeeper}
 use Rattle.raft_model.specs.Node.{Store}
 use Rattle.raft_model.specs.World.{AreEmpty}

@@ -16,7 +16,7 @@ use Rattle.cluster_rules.specs.Requests.{moved}
 use Rattle.open_requests.specs.Requests.{Requests, cluster_of as whole_of, told_sync}
 use Rattle.cluster_parts.specs.Watching.{Watching}
 use Rattle.cluster_parts.specs.Agents.{agent_at}
-use Rattle.cluster.specs.Standing.{Stands}
+use Rattle.cluster_parts.specs.Standing.{Stands}
 use Rattle.cluster.specs.Syncing.{IsPlan, PlansWhole}
 
 -- An out that was told last.

@@ -1,9 +1,9 @@
 -- A turn does what is due first, and leaves less to do.
-use Rattle.std.proofs.Common.{◌≡◌, ◌⊎◌, inl, inr, ℕ, ◌<◌, ◌≤◌, length, List, ◌∷◌, ◌++◌, None, refl, sym, ◌∙◌, subst, arith}
+use Rattle.std.proofs.Common.{◌≡◌, ◌⊎◌, inl, inr, ℕ, ◌<◌, ◌≤◌, length, List, ◌∷◌, ◌++◌, None, sym, ◌∙◌, subst, arith}
 use Rattle.raft_model.specs.Node.{Node}
 use Rattle.raft_model.specs.World.{World, IsReached, IsServer}
 use Rattle.cluster_rules.specs.Cluster.{Cluster, Pending, Server, no_node, node_of}
-use Rattle.cluster_rules.specs.Due.{IsDue, Work, did, due, early, early_work, first_work, late, late_work, next_one, next_work}
+use Rattle.cluster_rules.specs.Due.{IsDue, Work, due, early, early_work, first_work, late, late_work, next_one, next_work}
 use Rattle.cluster_rules.proofs.Cases.{no_work}
 use Rattle.cluster_rules.proofs.Steps.{or_left, or_right}
 use Rattle.cluster.proofs.Numbered.{each_at}
@@ -16,7 +16,7 @@ use Rattle.cluster_rules.proofs.Boundary.{commit_within}
 use Rattle.cluster_rules.proofs.Measure.{did_less}
 use Rattle.cluster_rules.proofs.Tools.{there_or_none}
 use Rattle.open_requests.specs.Requests.{Requests, cluster_of as whole_of}
-use Rattle.cluster.specs.Standing as standing
+use Rattle.cluster_parts.specs.Standing as standing
 use Rattle.cluster_parts.specs.Working.{DidDue}
 use Rattle.agent_rules.specs.Agents.{Agent}
 use Rattle.cluster_parts.specs.Watching.{Watching}

@@ -18,9 +18,8 @@ use Rattle.read_watch.specs.Watch as plain
 use Rattle.cluster_rules.specs.Cluster.{AtPlace, Ended, ForIndex, InRound, Pending, Server, Stand, server_of}
 use Rattle.replica.specs.Sparing.{SparesOthers}
 use Rattle.open_requests.specs.Requests.{Requests}
-use Rattle.cluster.specs.Standing.{IsHeld, IsWatched, Rests, Stands}
+use Rattle.cluster_parts.specs.Standing.{IsHeld, IsWatched, Rests, Stands}
 use Rattle.cluster_parts.specs.Watching.{MayBeDue, Sleeps, StayAwake, Watching}
-use Rattle.cluster.proofs.Numbered.{each_on}
 
 -- a request that rests, with what it asks and where it stands
 pub record RestsAs (watch : Watching) (applied : Log) (server number : ℕ) (asked : Asked) (stand : Stand) : Type 0 where

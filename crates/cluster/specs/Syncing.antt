@@ -1,30 +1,14 @@
 -- What an agent's answer shows, and what a sync does at a server that is ready.
 use Rattle.std.specs.Prelude.{◌≡◌, ℕ, ◌<◌, Bool, true, false, if◌then◌else◌, None, Some}
-use Rattle.cat_model.specs.declared.reply.Kind.{Kind}
-use Rattle.cat_model.specs.declared.reply.Kind.TheVariants.{Local, Refused}
-use Rattle.cat_model.specs.declared.request.AgentOp.{AgentOp}
 use Rattle.cat_model.specs.declared.request.Event.{Event}
 use Rattle.cat_model.specs.Syncs.{plan}
-use Rattle.agent_rules.specs.Agents.{change}
 use Rattle.anti_entropy.specs.declared.syncing.SyncPlan.{SyncPlan}
-use Rattle.cluster_rules.specs.Cluster.{Cluster, agent_of}
-use Rattle.cluster_rules.specs.Proposals.{Proposals, adopted, agent_did, did_own, kind_told, merged_at, remote_at, synced}
-use Rattle.cluster_rules.specs.Replies.{Blank, Content, Holds, Reply, Says}
+use Rattle.cluster_rules.specs.Cluster.{Cluster}
+use Rattle.cluster_rules.specs.Proposals.{Proposals, adopted, agent_did, did_own, merged_at, remote_at, synced}
 use Rattle.cluster_turns.specs.AgentEvents.{agent_in, event_of_agent, with_number}
 use Rattle.cluster_turns.specs.declared.agent_event.AgentEvent.{AgentEvent}
 use Rattle.cluster_turns.specs.declared.cut.Cut.{Cut}
 use Rattle.cluster_turns.specs.declared.cut.Cut.TheVariants.{Before, Within}
-use Rattle.open_requests.specs.Requests.{reply_with}
-
--- what an answer of an agent shows
-abbrev pub content_told : Kind → Content
-content_told (Local body) = Holds body
-content_told (Refused why) = Says why
-content_told other = Blank
-
--- the answer of agent a to the request of this number
-abbrev pub reply_told : ℕ → ℕ → AgentOp → Cluster → Reply
-reply_told number a op c = let kind = kind_told a op (change a op (agent_of c a)) in reply_with number kind false 0 (content_told kind)
 
 -- The agent does its own part, once a request has its number.
 abbrev pub own_done : Event → Cluster → Cluster

@@ -3,15 +3,14 @@
 ghost use Rattle.std.specs.Prelude.{◌≡◌, IfErr, OnErr, OnOk, Some};
 ghost use Rattle.cat_model.specs.declared.request.Event.TheVariants as event;
 ghost use Rattle.raft_model.specs.World.{numbered};
-ghost use Rattle.cluster_rules.specs.Reached.{Fits, IsServerNumber};
-ghost use Rattle.cluster_rules.specs.Step.{goes_to, receiver};
-ghost use Rattle.cluster_turns.specs.Turns.{ActsCut, ActsWhole, event_of};
+ghost use Rattle.cluster_rules.specs.Reached.{IsServerNumber};
+ghost use Rattle.cluster_rules.specs.Step.{receiver};
+ghost use Rattle.cluster_turns.specs.Turns.{ActsCut, ActsWhole};
 
 use crate::cluster::Cluster;
-use cat_model::Memory;
 use cat_outside::Keeper;
-use cluster_parts::{end, mark, mark_step, prepare, seat, see, wake_held};
-use cluster_turns::{Cut, Impulse};
+use cluster_parts::{beat, deliver, fail_keep, restart, time_out, wake_held};
+use cluster_turns::Cut;
 use std::alloc::Global;
 
 impl<K: Keeper + Drop> Cluster<K> {
@@ -21,12 +20,7 @@ impl<K: Keeper + Drop> Cluster<K> {
         ensures whole { OnOk result (ActsWhole server (event.Timeout server) self.old self.new) }
         ensures cut { IfErr result (λ cut. ActsCut server (event.Timeout server) cut self.old self.new) }
     {
-        prepare(&mut self.requests)?;
-        let before = see(&self.servers, server);
-        let made = self.servers.timeout(alloc, server);
-        let now = see(&self.servers, server);
-        seat(&mut self.servers, server, before, now);
-        end(&mut self.requests, server, before, now, made)
+        time_out(&mut self.servers, &mut self.requests, alloc, server)
     }
 
     /// A server that leads sends its heartbeat.
@@ -35,12 +29,7 @@ impl<K: Keeper + Drop> Cluster<K> {
         ensures whole { OnOk result (ActsWhole server (event.Beat server) self.old self.new) }
         ensures cut { IfErr result (λ cut. ActsCut server (event.Beat server) cut self.old self.new) }
     {
-        prepare(&mut self.requests)?;
-        let before = see(&self.servers, server);
-        let made = self.servers.beat(alloc, server);
-        let now = see(&self.servers, server);
-        seat(&mut self.servers, server, before, now);
-        end(&mut self.requests, server, before, now, made)
+        beat(&mut self.servers, &mut self.requests, alloc, server)
     }
 
     /// A message reaches the server to which it goes.
@@ -50,12 +39,7 @@ impl<K: Keeper + Drop> Cluster<K> {
         ensures whole { OnOk result (ActsWhole server (event.Deliver number) self.old self.new) }
         ensures cut { IfErr result (λ cut. ActsCut server (event.Deliver number) cut self.old self.new) }
     {
-        prepare(&mut self.requests)?;
-        let before = see(&self.servers, server);
-        let made = self.servers.deliver(alloc, number);
-        let now = see(&self.servers, server);
-        seat(&mut self.servers, server, before, now);
-        end(&mut self.requests, server, before, now, made)
+        deliver(&mut self.servers, &mut self.requests, alloc, server, number)
     }
 
     /// A call of a server's durable store is to fail.
@@ -64,12 +48,7 @@ impl<K: Keeper + Drop> Cluster<K> {
         ensures whole { OnOk result (ActsWhole server (event.FailKeep server nth) self.old self.new) }
         ensures cut { IfErr result (λ cut. ActsCut server (event.FailKeep server nth) cut self.old self.new) }
     {
-        prepare(&mut self.requests)?;
-        let before = see(&self.servers, server);
-        self.servers.fail_keep(server, nth);
-        let now = see(&self.servers, server);
-        mark_step(&mut self.requests, server, before, now);
-        Ok(())
+        fail_keep(&mut self.servers, &mut self.requests, server, nth)
     }
 
     /// A server stops and begins again. Its store failed exactly where it is halted then, also where it was before.
@@ -79,37 +58,6 @@ impl<K: Keeper + Drop> Cluster<K> {
         ensures cut { IfErr result (λ cut. ActsCut server (event.Restart server) cut self.old self.new) }
     {
         wake_held(&mut self.watch, self.requests.held(), server);
-        prepare(&mut self.requests)?;
-        let before = see(&self.servers, server);
-        match self.servers.restart(alloc, server) {
-            Ok(()) => {}
-            Err(Memory) => return Err(Cut::Before),
-        }
-        let now = see(&self.servers, server);
-        mark(
-            &mut self.requests,
-            server,
-            now.halted,
-            now.agreed - before.agreed,
-        );
-        self.requests.end_all_of(server);
-        Ok(())
-    }
-
-    /// A server does what an event makes it do.
-    pub(crate) fn act(&mut self, alloc: Global, server: u32, impulse: Impulse) -> Result<(), Cut>
-        requires server { IsServerNumber self.old server }
-        requires goes { goes_to self.old (event_of impulse) ≡ Some server }
-        requires fits { Fits self.old (event_of impulse) }
-        ensures whole { OnOk result (ActsWhole server (event_of impulse) self.old self.new) }
-        ensures cut { IfErr result (λ cut. ActsCut server (event_of impulse) cut self.old self.new) }
-    {
-        match impulse {
-            Impulse::Timeout(_) => self.time_out(alloc, server),
-            Impulse::Beat(_) => self.beat(alloc, server),
-            Impulse::Deliver(number) => self.deliver(alloc, server, number),
-            Impulse::Restart(_) => self.restart(alloc, server),
-            Impulse::FailKeep(_, nth) => self.fail_keep(server, nth),
-        }
+        restart(&mut self.servers, &mut self.requests, alloc, server)
     }
 }

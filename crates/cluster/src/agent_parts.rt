@@ -1,6 +1,6 @@
 //! What an agent does by itself: it answers what it is asked, and its clock goes on.
 
-ghost use Rattle.std.specs.Prelude.{◌≡◌, IfOk, None, OnErr, OnOk, true};
+ghost use Rattle.std.specs.Prelude.{◌≡◌, None, OnErr, OnOk, true};
 ghost use Rattle.cat_model.specs.declared.request.Asked.TheVariants.{Good};
 ghost use Rattle.cat_model.specs.declared.request.Draw.{Draw as SpecDraw};
 ghost use Rattle.cat_model.specs.declared.request.Event.TheVariants as event;
@@ -10,19 +10,18 @@ ghost use Rattle.cluster_rules.specs.Proposals.{agent_did, is_agents, sync_of, s
 ghost use Rattle.cluster_rules.specs.Reached.{Fits, IsAgentNumber};
 ghost use Rattle.cluster_turns.specs.AgentEvents.{IsNoted, event_of_agent};
 ghost use Rattle.cluster_turns.specs.Turns.{IsCome, numbered};
-ghost use Rattle.cluster.specs.Syncing.{own_done, reply_told};
+ghost use Rattle.cluster.specs.Syncing.{own_done};
 
 use crate::cluster::Cluster;
-use cat_model::{AgentOp, Asked, Draw, Kind, Memory, Request};
+use cat_model::{AgentOp, Asked, Draw, Memory, Request};
 use cat_outside::Keeper;
-use cluster_parts::{changes, not_found};
+use cluster_parts::{answer_own, changes};
 use cluster_turns::AgentEvent;
-use open_requests::{Content, MarkedReply, copy_asked};
 use std::alloc::Global;
 
 impl<K: Keeper> Cluster<K> {
-    // The agent of a request to itself, where a sync follows it.
-    fn sync_after(&self, agent: u32, asked: &Asked) -> Option<u32>
+    /// The agent of a request to itself, where a sync follows it.
+    pub(crate) fn sync_after(&self, agent: u32, asked: &Asked) -> Option<u32>
         requires { IsAgentNumber self.now agent }
         ensures { (draw : SpecDraw) → result ≡ sync_of self.now (event.Ask agent asked.now draw) }
     {
@@ -32,45 +31,6 @@ impl<K: Keeper> Cluster<K> {
             }
             _ => None,
         }
-    }
-
-    /// The agent whose sync is a part of its event.
-    pub(crate) fn sync_of(&self, event: &AgentEvent) -> Option<u32>
-        requires { Fits self.now (event_of_agent event.now) }
-        ensures { result ≡ sync_of self.now (event_of_agent event.now) }
-    {
-        match event {
-            AgentEvent::Sync { agent } => Some(*agent),
-            AgentEvent::Tick { agent, ms } => {
-                if self.agents.wants_sync(*agent, *ms) {
-                    Some(*agent)
-                } else {
-                    None
-                }
-            }
-            AgentEvent::Ask { agent, asked, .. } => self.sync_after(*agent, asked),
-        }
-    }
-
-    // The reply of an agent to the request of this number.
-    fn reply_told(
-        &self,
-        alloc: Global,
-        number: u64,
-        agent: u32,
-        op: &AgentOp,
-    ) -> Result<MarkedReply, Memory>
-        requires { IsAgentNumber self.now agent }
-        ensures { IfOk result (λ reply. reply ≡ reply_told number agent op.now self.now) }
-    {
-        if !self.agents.can_change(agent, op) {
-            let kind = Kind::Refused(not_found(alloc, op)?);
-            let content = Content::Says(not_found(alloc, op)?);
-            return MarkedReply::new(number, kind, false, 0, content);
-        }
-        let body = self.agents.body(alloc, agent, op)?;
-        let content = Content::Holds(self.agents.body(alloc, agent, op)?);
-        MarkedReply::new(number, Kind::Local { body }, false, 0, content)
     }
 
     // An agent does what it is asked, once the request has its number, and answers.
@@ -88,24 +48,15 @@ impl<K: Keeper> Cluster<K> {
         ensures ok { OnOk result (self.new ≡ agent_did (event.Ask agent asked.now draw) (numbered agent asked.now draw self.old)) }
         ensures err { OnErr result (self.new ≡ self.old) }
     {
-        let number = self.requests.asked().checked_add(1).ok_or(Memory)?;
-        self.requests.prepare()?;
-        let reply = self.reply_told(alloc, number, agent, op)?;
-        let copy = match copy_asked(asked) {
-            Ok(copy) => copy,
-            Err(Memory) => {
-                drop(reply);
-                return Err(Memory);
-            }
-        };
-        if self.agents.change(alloc, agent, op).is_err() {
-            drop(reply);
-            drop(copy);
-            return Err(Memory);
-        }
-        self.requests.number(agent, copy, draw);
-        self.requests.give(reply);
-        Ok(())
+        answer_own(
+            &mut self.agents,
+            &mut self.requests,
+            alloc,
+            agent,
+            asked,
+            op,
+            draw,
+        )
     }
 
     // An agent's clock goes on. It answers Memory also where the clock would pass 2^64 milliseconds.

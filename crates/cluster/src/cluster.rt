@@ -22,7 +22,7 @@ pub struct Cluster<K: Keeper> {
 impl<K: Keeper> Model for Cluster<K> {
     ghost use Rattle.cluster_rules.specs.Cluster as rules;
     ghost use Rattle.open_requests.specs.Requests.{cluster_of};
-    ghost use Rattle.cluster.specs.Standing.{Stands};
+    ghost use Rattle.cluster_parts.specs.Standing.{Stands};
 
     ghost Value = { rules.Cluster };
 

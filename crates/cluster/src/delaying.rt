@@ -12,8 +12,7 @@ ghost use Rattle.cluster_turns.specs.Turns.{HandlesNewest, IsCome};
 use crate::cluster::Cluster;
 use cat_model::{Asked, Command, Draw, Memory};
 use cat_outside::Keeper;
-use cluster_parts::deferred;
-use open_requests::copy_asked;
+use cluster_parts::{answer_newest, deferred};
 use std::alloc::Global;
 
 impl<K: Keeper + Drop> Cluster<K> {
@@ -62,17 +61,7 @@ impl<K: Keeper + Drop> Cluster<K> {
         let number = self.requests.asked().checked_add(1).ok_or(Memory)?;
         let until = self.until(server, key)?;
         let now = self.servers.clock(server);
-        self.requests.prepare()?;
-        let copy = copy_asked(asked)?;
-        let reply = match deferred(alloc, number, command, key, until, now) {
-            Ok(reply) => reply,
-            Err(Memory) => {
-                drop(copy);
-                return Err(Memory);
-            }
-        };
-        self.requests.number(agent, copy, draw);
-        self.requests.give(reply);
-        Ok(())
+        let reply = deferred(alloc, number, command, key, until, now)?;
+        answer_newest(&mut self.requests, agent, asked, draw, reply)
     }
 }

@@ -6,12 +6,13 @@ ghost use Rattle.std.specs.Option.{option_copied};
 ghost use Rattle.cluster_rules.specs.Cluster.{node_of};
 ghost use Rattle.cluster_rules.specs.Reached.{IsServerNumber};
 ghost use Rattle.open_requests.specs.Contents.{stand_of};
-ghost use Rattle.cluster_parts.specs.Looking.{is_early, is_look_due, is_number_early, is_read_due, is_stand_due};
+ghost use Rattle.open_requests.specs.Held.{held_in, pending_of};
+ghost use Rattle.cluster_parts.specs.Looking.{is_early, is_look_due, is_number_early, is_read_due, is_stand_due, test_held};
 
 use crate::cluster::Cluster;
 use cat_model::{Asked, Query, Request};
 use cat_outside::Keeper;
-use open_requests::{Pending, Stand};
+use open_requests::{HeldSlot, Pending, Stand};
 use std::alloc::Global;
 
 impl<K: Keeper> Cluster<K> {
@@ -92,12 +93,34 @@ impl<K: Keeper> Cluster<K> {
         }
     }
 
-    // The first of these held requests.
-    fn first_early<'a>(&self, server: u32, held: &'a [Pending]) -> Option<&'a Pending>
+    // The same of the request of a slot.
+    fn is_slot_early(&self, server: u32, slot: &HeldSlot) -> bool
         requires { IsServerNumber self.now server }
-        ensures { option_copied result ≡ find (is_early self.now server) held.now }
+        ensures { result ≡ test_held (is_early self.now server) (pending_of slot.now) }
     {
-        held.iter().find(|h| self.is_early(server, h))
+        match slot.pending() {
+            Some(held) => self.is_early(server, held),
+            None => false,
+        }
+    }
+
+    // The first slot of such a request.
+    fn first_early_slot<'a>(&self, server: u32, slots: &'a [HeldSlot]) -> Option<&'a HeldSlot>
+        requires { IsServerNumber self.now server }
+        ensures { option_copied result ≡ find (λ s. test_held (is_early self.now server) (pending_of s)) slots.now }
+    {
+        slots.iter().find(|s| self.is_slot_early(server, s))
+    }
+
+    // The first of the held requests in these slots.
+    fn first_early<'a>(&self, server: u32, slots: &'a [HeldSlot]) -> Option<&'a Pending>
+        requires { IsServerNumber self.now server }
+        ensures { option_copied result ≡ find (is_early self.now server) (held_in slots.now) }
+    {
+        match self.first_early_slot(server, slots) {
+            Some(slot) => slot.pending(),
+            None => None,
+        }
     }
 
     // The number of the first of all that are held.

@@ -9,17 +9,18 @@ ghost use Rattle.cat_model.specs.declared.request.Request.TheVariants.{Write as 
 ghost use Rattle.request_rules.specs.Taken.{IsTakenAsked};
 ghost use Rattle.cluster_rules.specs.Cluster.{runs_leading};
 ghost use Rattle.cluster_rules.specs.Reached.{IsServerNumber};
-ghost use Rattle.cluster_rules.specs.Requests.{Goes, delayed_at, is_ready, is_stale_read, look_of};
-ghost use Rattle.cluster_turns.specs.Turns.{GoesBy, HandlesNewest, IsCome};
+ghost use Rattle.cluster_rules.specs.Requests.{delayed_at, is_ready, is_stale_read, look_of};
+ghost use Rattle.cluster_turns.specs.Turns.{HandlesNewest, IsCome};
 ghost use Rattle.cluster_parts.specs.Asking.{IsCopied, IsTakenWrite};
 
 use crate::cluster::Cluster;
-use cat_model::{Asked, Command, Draw, Memory, Mode, Request};
+use cat_model::{Asked, Command, Draw, Memory, Mode};
 use cat_outside::Keeper;
 use cluster_parts::{
-    Write, copied_question, copy_command, end_write, is_stale_read, see, wait_of, with_question,
+    Write, copied_question, copy_command, end_write, hold_newest, is_stale_read, refuse_newest,
+    see, wait_of, with_question,
 };
-use open_requests::{Plain, Stand, Start, copy_asked};
+use open_requests::Plain;
 use std::alloc::Global;
 
 impl<K: Keeper + Drop> Cluster<K> {
@@ -33,8 +34,8 @@ impl<K: Keeper + Drop> Cluster<K> {
         !(applied < self.servers.node(server).term())
     }
 
-    // A request goes on at a server that is ready, and a stale read anywhere.
-    fn may_go(&self, server: u32, asked: &Asked) -> bool
+    /// A request goes on at a server that is ready, and a stale read anywhere.
+    pub(crate) fn may_go(&self, server: u32, asked: &Asked) -> bool
         requires { IsServerNumber self.now server }
         ensures { result ≡ (is_stale_read asked.now || is_ready self.now server) }
     {
@@ -64,9 +65,9 @@ impl<K: Keeper + Drop> Cluster<K> {
         with_question(alloc, question, term, asked, command, entries, before)
     }
 
-    // Refuses a request at a server that is not ready.
+    /// Refuses a request at a server that is not ready.
     #[tactic(auto, using(crate::proofs::Numbers::is_number))]
-    fn refuse_unready(
+    pub(crate) fn refuse_unready(
         &mut self,
         server: u32,
         agent: u32,
@@ -80,16 +81,11 @@ impl<K: Keeper + Drop> Cluster<K> {
         ensures ok { OnOk result (HandlesNewest server agent asked.now draw self.old self.new) }
         ensures err { OnErr result (self.new ≡ self.old) }
     {
-        let number = self.requests.asked().checked_add(1).ok_or(Memory)?;
         let why = Plain::NotReady {
             term: self.servers.node(server).term(),
             applied_term: self.servers.last_term(server),
         };
-        self.requests.prepare()?;
-        let copy = copy_asked(asked)?;
-        self.requests.number(agent, copy, draw);
-        self.requests.refuse(number, why);
-        Ok(())
+        refuse_newest(&mut self.requests, agent, asked, draw, why)
     }
 
     // Holds a read that needs no round, to be looked for at once.
@@ -113,32 +109,19 @@ impl<K: Keeper + Drop> Cluster<K> {
         let applied = self.servers.applied(server);
         let now = self.servers.clock(server);
         let deadline = now.checked_add(wait_of(wait_ms)).ok_or(Memory)?;
-        let number = self.requests.asked().checked_add(1).ok_or(Memory)?;
-        self.requests.prepare()?;
-        let question = copied_question(number, agent, asked, draw)?;
-        let copy = match copy_asked(asked) {
-            Ok(copy) => copy,
-            Err(Memory) => {
-                drop(question);
-                return Err(Memory);
-            }
-        };
-        self.requests.number(agent, copy, draw);
-        let stand = Stand::ForIndex {
-            deadline,
-            looked: false,
-        };
-        let start = Start::Looked {
-            number,
+        hold_newest(
+            &mut self.requests,
             server,
+            agent,
+            asked,
+            draw,
+            deadline,
             applied,
-        };
-        self.requests.hold(question, server, stand, start);
-        Ok(())
+        )
     }
 
-    // Begins with a read: a consistent one waits for a round first.
-    fn begin_read(
+    /// Begins with a read: a consistent one waits for a round first.
+    pub(crate) fn begin_read(
         &mut self,
         alloc: Global,
         server: u32,
@@ -223,8 +206,8 @@ impl<K: Keeper + Drop> Cluster<K> {
         }
     }
 
-    // Enters a write, or answers that a lock delay refuses it.
-    fn write(
+    /// Enters a write, or answers that a lock delay refuses it.
+    pub(crate) fn write(
         &mut self,
         alloc: Global,
         server: u32,
@@ -245,41 +228,6 @@ impl<K: Keeper + Drop> Cluster<K> {
         match self.delayed(server, command) {
             Some(key) => self.defer(alloc, server, agent, asked, draw, command, key),
             None => self.enter(alloc, server, agent, asked, draw, command),
-        }
-    }
-
-    /// Gives the request that was noted last its number, and does the server's part for it.
-    #[tactic(auto, using(crate::proofs::Going::write_leads))]
-    pub(crate) fn handle(
-        &mut self,
-        alloc: Global,
-        server: u32,
-        agent: u32,
-        asked: &Asked,
-        draw: Draw,
-    ) -> Result<(), Memory>
-        requires server { IsServerNumber self.old server }
-        requires takes { IsTakenAsked asked.now }
-        requires come { IsCome agent asked.now draw self.old.past }
-        requires goes { GoesBy agent asked.now (Goes server) self.old }
-        ensures ok { OnOk result (HandlesNewest server agent asked.now draw self.old self.new) }
-        ensures err { OnErr result (self.new ≡ self.old) }
-    {
-        if !self.may_go(server, asked) {
-            return self.refuse_unready(server, agent, asked, draw);
-        }
-        match asked {
-            Asked::Good(Request::Write { command }) => {
-                self.write(alloc, server, agent, asked, draw, command)
-            }
-            Asked::Good(Request::Read { mode, wait_ms, .. }) => {
-                self.begin_read(alloc, server, agent, asked, draw, *mode, *wait_ms)
-            }
-            Asked::Good(Request::Execute { mode, .. }) => {
-                self.begin_read(alloc, server, agent, asked, draw, *mode, 0)
-            }
-            Asked::Good(Request::Renew { id }) => self.renew(server, agent, asked, draw, *id),
-            _ => unreachable!(),
         }
     }
 }

@@ -6,13 +6,14 @@ ghost use Rattle.std.specs.Option.{option_copied};
 ghost use Rattle.cluster_rules.specs.Due.{next_work};
 ghost use Rattle.cluster_rules.specs.Reached.{IsServerNumber};
 ghost use Rattle.open_requests.specs.Contents.{stand_of};
-ghost use Rattle.cluster_parts.specs.Looking.{is_early, is_late, is_number_late, is_round_over, is_stand_late};
+ghost use Rattle.open_requests.specs.Held.{held_in, pending_of};
+ghost use Rattle.cluster_parts.specs.Looking.{is_early, is_late, is_number_late, is_round_over, is_stand_late, test_held};
 ghost use Rattle.cluster_parts.specs.Working.{Finds};
 
 use crate::cluster::Cluster;
 use cat_outside::Keeper;
 use cluster_parts::{Work, past_round};
-use open_requests::{Pending, Stand};
+use open_requests::{HeldSlot, Pending, Stand};
 use raft_model::Round;
 
 impl<K: Keeper + Drop> Cluster<K> {
@@ -58,12 +59,34 @@ impl<K: Keeper + Drop> Cluster<K> {
         }
     }
 
-    // The first of these held requests of the server whose round is over.
-    fn first_late<'a>(&self, server: u32, held: &'a [Pending]) -> Option<&'a Pending>
+    // The same of the request of a slot.
+    fn is_slot_late(&self, server: u32, slot: &HeldSlot) -> bool
         requires { IsServerNumber self.now server }
-        ensures { option_copied result ≡ find (is_late self.now server) held.now }
+        ensures { result ≡ test_held (is_late self.now server) (pending_of slot.now) }
     {
-        held.iter().find(|h| self.is_late(server, h))
+        match slot.pending() {
+            Some(held) => self.is_late(server, held),
+            None => false,
+        }
+    }
+
+    // The first slot of such a request.
+    fn first_late_slot<'a>(&self, server: u32, slots: &'a [HeldSlot]) -> Option<&'a HeldSlot>
+        requires { IsServerNumber self.now server }
+        ensures { option_copied result ≡ find (λ s. test_held (is_late self.now server) (pending_of s)) slots.now }
+    {
+        slots.iter().find(|s| self.is_slot_late(server, s))
+    }
+
+    // The first of the held requests in these slots whose server is this one and whose round is over.
+    fn first_late<'a>(&self, server: u32, slots: &'a [HeldSlot]) -> Option<&'a Pending>
+        requires { IsServerNumber self.now server }
+        ensures { option_copied result ≡ find (is_late self.now server) (held_in slots.now) }
+    {
+        match self.first_late_slot(server, slots) {
+            Some(slot) => slot.pending(),
+            None => None,
+        }
     }
 
     // The number of the first of all that are held.

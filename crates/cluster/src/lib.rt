@@ -19,7 +19,6 @@ mod playing;
 mod probing;
 mod proposals;
 mod reading;
-mod refusing;
 mod remote_rows;
 mod renewing;
 mod resting;
@@ -28,9 +27,7 @@ mod stepping;
 mod syncing;
 mod taking;
 mod ticking;
-mod travelling;
 mod turning;
-mod way;
 mod working;
 
 pub use cluster::Cluster;

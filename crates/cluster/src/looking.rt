@@ -8,7 +8,7 @@ ghost use Rattle.cluster_rules.specs.Cluster.{AtPlace, applied_of};
 ghost use Rattle.cluster_rules.specs.Due.{Replies, due, early_stand, early_work, landed};
 ghost use Rattle.cluster_rules.specs.Reached.{IsServerNumber};
 ghost use Rattle.cluster_parts.specs.Looking.{IsAppliedLast, is_early, is_number_early};
-ghost use Rattle.cluster.specs.Standing.{IsAwaited};
+ghost use Rattle.cluster_parts.specs.Standing.{IsAwaited};
 ghost use Rattle.cluster_parts.specs.Working.{Finds, IsFound, IsWork};
 
 use crate::cluster::Cluster;

@@ -1,12 +1,11 @@
-//! The marks of events, and the outs that they give.
+//! The marks of events.
 
 ghost use Rattle.std.specs.Prelude.{◌≡◌, OnErr, OnOk};
 ghost use Rattle.cat_model.specs.declared.request.Event.{Event as SpecEvent};
 ghost use Rattle.cat_model.specs.declared.request.Event.TheVariants as event;
 ghost use Rattle.request_rules.specs.Taken.{IsTakenAsked};
 ghost use Rattle.cluster_rules.specs.Cluster.{Cluster as SpecCluster};
-ghost use Rattle.cluster_rules.specs.Step.{noted, shelved};
-ghost use Rattle.cluster_turns.specs.Pairs.{settled};
+ghost use Rattle.cluster_rules.specs.Step.{noted};
 
 use crate::cluster::Cluster;
 use cat_model::{Asked, Draw, Event, Memory};
@@ -43,20 +42,5 @@ impl<K: Keeper> Cluster<K> {
         ensures { (made : SpecEvent) (c : SpecCluster) → self.old ≡ noted made c → self.new ≡ c }
     {
         self.requests.forget();
-    }
-
-    /// Lets the event's outs join the tray.
-    pub(crate) fn shelve_outs(&mut self)
-        ensures { self.new ≡ shelved self.old }
-    {
-        self.requests.shelve();
-    }
-
-    /// Marks so many pairs of a delivery and the message's loss.
-    pub(crate) fn mark_settled(&mut self, pairs: u32) -> Result<(), Memory>
-        ensures ok { OnOk result (self.new ≡ settled pairs self.old) }
-        ensures err { OnErr result (self.new ≡ self.old) }
-    {
-        self.requests.settle(pairs)
     }
 }

@@ -1,8 +1,9 @@
 //! A cluster as what its events are made up of.
 
 use crate::cluster::Cluster;
-use cat_model::{Asked, Draw, Event, Memory, Refusal};
+use cat_model::{Asked, Draw, Event, Memory, Refusal, Request};
 use cat_outside::Keeper;
+use cluster_parts::{asked_server, copy_refusal, is_stale_read, way_from};
 use cluster_turns::{AgentEvent, Cut, Impulse, Parts, Way};
 use std::alloc::Global;
 
@@ -36,39 +37,63 @@ impl<K: Keeper + Drop> Parts for Cluster<K> {
     }
 
     fn act(&mut self, alloc: Global, server: u32, impulse: Impulse) -> Result<(), Cut> {
-        self.act(alloc, server, impulse)
+        match impulse {
+            Impulse::Timeout(_) => self.time_out(alloc, server),
+            Impulse::Beat(_) => self.beat(alloc, server),
+            Impulse::Deliver(number) => self.deliver(alloc, server, number),
+            Impulse::Restart(_) => self.restart(alloc, server),
+            Impulse::FailKeep(_, nth) => self.fail_keep(server, nth),
+        }
     }
 
+    #[tactic(auto, using(crate::proofs::Numbers::is_number))]
     fn tick(&mut self, server: u32, ms: u64) {
-        self.tick(server, ms);
+        self.servers.tick(server, ms);
     }
 
     fn tend(&mut self, alloc: Global, server: u32) -> Result<(), Memory> {
-        self.tend(alloc, server)
+        if !self.runs_leading(server) {
+            return Ok(());
+        }
+        match self.end_sessions(alloc, server) {
+            Ok(true) => self.reap(alloc, server),
+            Ok(false) => Err(Memory),
+            Err(Memory) => Err(Memory),
+        }
     }
 
     fn shelve(&mut self) {
-        self.shelve_outs();
+        self.requests.shelve();
     }
 
     fn receiver(&self, number: u64) -> u32 {
-        self.message_receiver(number)
+        match self.servers.receiver(number) {
+            Some(server) => server,
+            None => unreachable!(),
+        }
     }
 
     fn lose(&mut self, number: u64) {
-        self.lose_message(number);
+        self.servers.lose(number);
     }
 
     fn lowest(&self) -> Option<u64> {
-        self.lowest_message()
+        self.servers.lowest()
     }
 
     fn settled(&mut self, _alloc: Global, pairs: u32) -> Result<(), Memory> {
-        self.mark_settled(pairs)
+        self.requests.settle(pairs)
     }
 
+    #[tactic(auto, using(crate::proofs::Going::way_is, crate::proofs::Numbers::is_number, crate::proofs::Numbers::number_is))]
     fn way(&self, _alloc: Global, agent: u32, asked: &Asked) -> Result<Way, Memory> {
-        self.way_of(agent, asked)
+        match asked {
+            Asked::Good(_) => {
+                let stale = is_stale_read(asked);
+                Ok(way_from(&self.servers, asked_server(&self.servers, agent), stale))
+            }
+            Asked::Bad(why) => Ok(Way::Answers(copy_refusal(why)?)),
+        }
     }
 
     fn refuse(
@@ -79,9 +104,12 @@ impl<K: Keeper + Drop> Parts for Cluster<K> {
         draw: Draw,
         why: Refusal,
     ) -> Result<(), Memory> {
-        self.refuse_at_once(agent, asked, draw, &why)
+        let told = self.requests.come_refused(agent, asked, draw, &why);
+        drop(why);
+        told
     }
 
+    #[tactic(auto, using(crate::proofs::Going::write_leads))]
     fn handle(
         &mut self,
         alloc: Global,
@@ -90,15 +118,41 @@ impl<K: Keeper + Drop> Parts for Cluster<K> {
         asked: &Asked,
         draw: Draw,
     ) -> Result<(), Memory> {
-        self.handle(alloc, server, agent, asked, draw)
+        if !self.may_go(server, asked) {
+            return self.refuse_unready(server, agent, asked, draw);
+        }
+        match asked {
+            Asked::Good(Request::Write { command }) => {
+                self.write(alloc, server, agent, asked, draw, command)
+            }
+            Asked::Good(Request::Read { mode, wait_ms, .. }) => {
+                self.begin_read(alloc, server, agent, asked, draw, *mode, *wait_ms)
+            }
+            Asked::Good(Request::Execute { mode, .. }) => {
+                self.begin_read(alloc, server, agent, asked, draw, *mode, 0)
+            }
+            Asked::Good(Request::Renew { id }) => self.renew(server, agent, asked, draw, *id),
+            _ => unreachable!(),
+        }
     }
 
     fn sync_of(&self, event: &AgentEvent) -> Option<u32> {
-        self.sync_of(event)
+        match event {
+            AgentEvent::Sync { agent } => Some(*agent),
+            AgentEvent::Tick { agent, ms } => {
+                if self.agents.wants_sync(*agent, *ms) {
+                    Some(*agent)
+                } else {
+                    None
+                }
+            }
+            AgentEvent::Ask { agent, asked, .. } => self.sync_after(*agent, asked),
+        }
     }
 
+    #[tactic(auto, using(crate::proofs::Numbers::number_is))]
     fn leader_way(&self, agent: u32) -> Way {
-        self.leader_way(agent)
+        way_from(&self.servers, asked_server(&self.servers, agent), false)
     }
 
     fn do_alone(
@@ -107,11 +161,22 @@ impl<K: Keeper + Drop> Parts for Cluster<K> {
         event: &AgentEvent,
         leaderless: bool,
     ) -> Result<(), Memory> {
-        self.do_alone(alloc, event, leaderless)
+        self.mark_agents(event)?;
+        if self.do_noted(alloc, event, leaderless).is_err() {
+            self.forget_event();
+            return Err(Memory);
+        }
+        Ok(())
     }
 
     fn sync_at(&mut self, alloc: Global, server: u32, event: &AgentEvent) -> Result<(), Cut> {
-        self.sync_at(alloc, server, event)
+        if self.is_ready(server) {
+            return self.sync_ready(alloc, server, event);
+        }
+        match self.do_leaderless(alloc, event) {
+            Ok(()) => Ok(()),
+            Err(Memory) => Err(Cut::Before),
+        }
     }
 
     fn asked(&self) -> u64 {

@@ -20,7 +20,9 @@ impl ClusterInterface for Cluster<MemKeeper> {
     }
 
     fn step(&mut self, alloc: Global, event: Event) -> Result<(), Memory> {
-        self.step(alloc, &event)
+        let made = self.step(alloc, &event);
+        drop(event);
+        made
     }
 
     fn ask(&mut self, alloc: Global, agent: u32, asked: &Asked, draw: Draw) -> Result<u64, Memory> {
@@ -37,6 +39,10 @@ impl ClusterInterface for Cluster<MemKeeper> {
 
     fn collect(&mut self, number: u64) -> Collected {
         self.collect(number)
+    }
+
+    fn drop_syncs(&mut self) {
+        self.drop_syncs();
     }
 
     fn asked(&self) -> u64 {

@@ -9,7 +9,7 @@ ghost use Rattle.cluster_parts.specs.Proposing.{OneProposed};
 use crate::cluster::Cluster;
 use cat_model::{Command, Memory};
 use cat_outside::Keeper;
-use cluster_parts::{Proposed, copy_command, end_proposal, see};
+use cluster_parts::{Proposed, propose_one};
 use std::alloc::Global;
 
 impl<K: Keeper + Drop> Cluster<K> {
@@ -22,15 +22,13 @@ impl<K: Keeper + Drop> Cluster<K> {
         ensures leads { IfOk result (λ entered. entered ≡ true → runs_leading self.new.world server ≡ true) }
         ensures same { OnErr result (self.new ≡ self.old) }
     {
-        let copy = copy_command(command)?;
-        if self.requests.prepare().is_err() {
-            drop(copy);
-            return Err(Memory);
-        }
-        let before = see(&self.servers, server);
-        let proposed = self.servers.propose(alloc, server, 0, copy);
-        let now = see(&self.servers, server);
-        end_proposal(&mut self.requests, server, before, now, proposed)
+        propose_one(
+            &mut self.servers,
+            &mut self.requests,
+            alloc,
+            server,
+            command,
+        )
     }
 
     /// Proposes commands at a server that leads, in their order and for no request, up to the first that the log has no

@@ -10,8 +10,7 @@ ghost use Rattle.cluster_turns.specs.Turns.{HandlesNewest, IsCome};
 use crate::cluster::Cluster;
 use cat_model::{Asked, Draw, Memory};
 use cat_outside::Keeper;
-use cluster_parts::renewed;
-use open_requests::{Start, copy_asked};
+use cluster_parts::renew_newest;
 
 impl<K: Keeper + Drop> Cluster<K> {
     /// Renews a session, if it is there, so that its TTL begins anew, and answers with its row.
@@ -31,29 +30,14 @@ impl<K: Keeper + Drop> Cluster<K> {
         ensures ok { OnOk result (HandlesNewest server agent asked.now draw self.old self.new) }
         ensures err { OnErr result (self.new ≡ self.old) }
     {
-        let number = self.requests.asked().checked_add(1).ok_or(Memory)?;
-        let applied = self.servers.applied(server);
-        self.requests.prepare()?;
-        let copy = copy_asked(asked)?;
-        let reply = match renewed(number, applied, self.servers.session(server, id)) {
-            Ok(reply) => reply,
-            Err(Memory) => {
-                drop(copy);
-                return Err(Memory);
-            }
-        };
-        if self.servers.renew(server, id).is_err() {
-            drop(copy);
-            drop(reply);
-            return Err(Memory);
-        }
-        self.requests.number(agent, copy, draw);
-        self.requests.start(Start::Looked {
-            number,
+        renew_newest(
+            &mut self.servers,
+            &mut self.requests,
             server,
-            applied,
-        });
-        self.requests.give(reply);
-        Ok(())
+            agent,
+            asked,
+            draw,
+            id,
+        )
     }
 }

@@ -35,6 +35,7 @@ impl<K: Keeper + Drop> Cluster<K> {
                 return;
             };
             self.watch.sleep(alloc, server, number, &chans, deadline);
+            drop(chans);
         }
     }
 

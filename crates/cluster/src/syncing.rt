@@ -2,19 +2,20 @@
 
 ghost use Rattle.std.specs.Prelude.{◌≡◌, ◌<◌, ◌^◌, IfErr, IfOk, None, OnErr, OnOk, Some, length, true};
 ghost use Rattle.cat_model.specs.declared.row.ServiceRow.{ServiceRow as SpecServiceRow};
+ghost use Rattle.cat_model.specs.Syncs.{merged, plan};
 ghost use Rattle.request_rules.specs.Taken.{IsTakenAsked};
 ghost use Rattle.cluster_rules.specs.Cluster.{Cluster as SpecCluster, agent_of, runs_leading};
-ghost use Rattle.cluster_rules.specs.Proposals.{is_agents, synced, with_agent};
+ghost use Rattle.cluster_rules.specs.Proposals.{is_agents, remote_at, synced, with_agent};
 ghost use Rattle.cluster_rules.specs.Reached.{Fits, IsAgentNumber, IsServerNumber};
 ghost use Rattle.cluster_rules.specs.Requests.{is_ready};
 ghost use Rattle.cluster_rules.specs.Step.{noted};
-ghost use Rattle.cluster_turns.specs.AgentEvents.{IsAlone, IsNoted, SyncsAt, SyncsInPart, SyncsThere, agent_in, alone, event_of_agent};
+ghost use Rattle.cluster_turns.specs.AgentEvents.{IsNoted, SyncsAt, SyncsInPart, SyncsThere, agent_in, event_of_agent};
 ghost use Rattle.cluster_turns.specs.Turns.{IsTaken};
 ghost use Rattle.cluster.specs.Syncing.{IsPlan, PlansInPart, PlansWhole, cut_first, noted_alone, own_done};
 
 use crate::cluster::Cluster;
 use anti_entropy::{SyncPlan, plan_sync};
-use cat_model::{Asked, Event, List, Memory, Request, ServiceRow};
+use cat_model::{Asked, Event, List, Local, Memory, Remote, Request, ServiceRow};
 use cat_outside::Keeper;
 use cluster_turns::{AgentEvent, Cut};
 use std::alloc::Global;
@@ -33,9 +34,35 @@ fn cut_first(event: &AgentEvent) -> Cut
     }
 }
 
+// A plan that has fewer than 2^32 commands.
+fn few(plan: SyncPlan) -> Result<SyncPlan, Memory>
+    ensures { IfOk result (λ same. (same ≡ plan) × (length same.commands < 2 ^ 32)) }
+{
+    if plan.commands.len() > u32::MAX as usize {
+        drop(plan);
+        return Err(Memory);
+    }
+    Ok(plan)
+}
+
+// The sync of an agent with these rows, where these are the catalog's of its node. It answers Memory also for 2^32
+// commands.
+fn plan_between(alloc: Global, local: Local, remote: Remote) -> Result<SyncPlan, Memory>
+    ensures services { IfOk result (λ made. made.services ≡ (merged local remote).services) }
+    ensures commands { IfOk result (λ made. made.commands ≡ plan (merged local remote) remote) }
+    ensures few { IfOk result (λ made. length made.commands < 2 ^ 32) }
+{
+    let planned = plan_sync(alloc, local, &remote);
+    drop(remote);
+    match planned {
+        Ok(plan) => few(plan),
+        Err(Memory) => Err(Memory),
+    }
+}
+
 impl<K: Keeper + Drop> Cluster<K> {
-    // Marks an agent's event. A request gets its number later.
-    fn mark_agents(&mut self, event: &AgentEvent) -> Result<(), Memory>
+    /// Marks an agent's event. A request gets its number later.
+    pub(crate) fn mark_agents(&mut self, event: &AgentEvent) -> Result<(), Memory>
         requires { IsTaken IsTakenAsked (event_of_agent event.now) }
         ensures ok { OnOk result (self.new ≡ noted (event_of_agent event.now) self.old) }
         ensures err { OnErr result (self.new ≡ self.old) }
@@ -47,8 +74,8 @@ impl<K: Keeper + Drop> Cluster<K> {
         }
     }
 
-    // An agent does its own part in an event that was noted, and its sync finds no leader.
-    fn do_leaderless(&mut self, alloc: Global, event: &AgentEvent) -> Result<(), Memory>
+    /// An agent does its own part in an event that was noted, and its sync finds no leader.
+    pub(crate) fn do_leaderless(&mut self, alloc: Global, event: &AgentEvent) -> Result<(), Memory>
         requires fits { Fits self.old (event_of_agent event.now) }
         requires agents { is_agents (event_of_agent event.now) ≡ true }
         requires come { IsNoted (event_of_agent event.now) self.old.past }
@@ -64,8 +91,8 @@ impl<K: Keeper + Drop> Cluster<K> {
         Ok(())
     }
 
-    // The same, where a sync may be a part of it or not.
-    fn do_noted(
+    /// The same, where a sync may be a part of it or not.
+    pub(crate) fn do_noted(
         &mut self,
         alloc: Global,
         event: &AgentEvent,
@@ -84,26 +111,26 @@ impl<K: Keeper + Drop> Cluster<K> {
         }
     }
 
-    /// Marks an agent's event that goes to no server, a request with its number, and does the agent's own part.
-    /// `leaderless` says that a sync is a part of it, which finds no leader: its out says so.
-    pub(crate) fn do_alone(
-        &mut self,
+    // The same, with the catalog's rows of its node.
+    fn plan_with(
+        &self,
         alloc: Global,
-        event: &AgentEvent,
-        leaderless: bool,
-    ) -> Result<(), Memory>
-        requires fits { Fits self.old (event_of_agent event.now) }
-        requires agents { is_agents (event_of_agent event.now) ≡ true }
-        requires takes { IsTaken IsTakenAsked (event_of_agent event.now) }
-        ensures ok { OnOk result (self.new ≡ alone leaderless (event_of_agent event.now) self.old) }
-        ensures err { OnErr result (self.new ≡ self.old) }
+        server: u32,
+        agent: u32,
+        remote: Remote,
+    ) -> Result<SyncPlan, Memory>
+        requires agent { IsAgentNumber self.now agent }
+        requires remote { remote ≡ remote_at agent server self.now }
+        ensures plan { IfOk result (λ plan. IsPlan server agent self.now plan) }
+        ensures few { IfOk result (λ plan. length plan.commands < 2 ^ 32) }
     {
-        self.mark_agents(event)?;
-        if self.do_noted(alloc, event, leaderless).is_err() {
-            self.forget_event();
-            return Err(Memory);
+        match self.agents.local(alloc, agent) {
+            Ok(local) => plan_between(alloc, local, remote),
+            Err(Memory) => {
+                drop(remote);
+                Err(Memory)
+            }
         }
-        Ok(())
     }
 
     // What an agent takes over in a sync at a server, and what it proposes there. It answers Memory also for 2^32
@@ -114,13 +141,10 @@ impl<K: Keeper + Drop> Cluster<K> {
         ensures plan { IfOk result (λ plan. IsPlan server agent self.now plan) }
         ensures few { IfOk result (λ plan. length plan.commands < 2 ^ 32) }
     {
-        let remote = self.remote_rows(alloc, server, agent)?;
-        let local = self.agents.local(alloc, agent)?;
-        let plan = plan_sync(alloc, local, &remote)?;
-        if plan.commands.len() > u32::MAX as usize {
-            return Err(Memory);
+        match self.remote_rows(alloc, server, agent) {
+            Ok(remote) => self.plan_with(alloc, server, agent, remote),
+            Err(Memory) => Err(Memory),
         }
-        Ok(plan)
     }
 
     // Tells how many commands an agent's sync proposed, in the place of that it found no leader.
@@ -158,9 +182,12 @@ impl<K: Keeper + Drop> Cluster<K> {
     {
         let SyncPlan { services, commands } = plan;
         if self.tell_leaderless(agent).is_err() {
+            drop(services);
+            drop(commands);
             return Err(Cut::Before);
         }
         let proposed = self.propose_all(alloc, server, commands.as_slice());
+        drop(commands);
         if proposed.whole {
             self.count_proposed(agent, proposed.entered as u32);
             self.adopt(agent, services);
@@ -168,6 +195,7 @@ impl<K: Keeper + Drop> Cluster<K> {
         }
         self.take_back(agent);
         if proposed.entered == 0 {
+            drop(services);
             return Err(Cut::Before);
         }
         self.adopt(agent, services);
@@ -188,8 +216,13 @@ impl<K: Keeper + Drop> Cluster<K> {
         }
     }
 
-    // The same behind the agent's own part.
-    fn sync_ready(&mut self, alloc: Global, server: u32, event: &AgentEvent) -> Result<(), Cut>
+    /// The same behind the agent's own part.
+    pub(crate) fn sync_ready(
+        &mut self,
+        alloc: Global,
+        server: u32,
+        event: &AgentEvent,
+    ) -> Result<(), Cut>
         requires server { IsServerNumber self.old server }
         requires fits { Fits self.old (event_of_agent event.now) }
         requires agents { is_agents (event_of_agent event.now) ≡ true }
@@ -206,31 +239,6 @@ impl<K: Keeper + Drop> Cluster<K> {
             Ok(()) => Ok(()),
             Err(Cut::Before) => Err(cut_first(event)),
             Err(Cut::Within) => Err(Cut::Within),
-        }
-    }
-
-    /// Gives an agent's request that was marked last its number, does the agent's own part, and then its sync at the
-    /// server. Where the server is not ready the sync finds no leader.
-    pub(crate) fn sync_at(
-        &mut self,
-        alloc: Global,
-        server: u32,
-        event: &AgentEvent,
-    ) -> Result<(), Cut>
-        requires server { IsServerNumber self.old server }
-        requires fits { Fits self.old (event_of_agent event.now) }
-        requires agents { is_agents (event_of_agent event.now) ≡ true }
-        requires come { IsNoted (event_of_agent event.now) self.old.past }
-        requires goes { SyncsThere server (event_of_agent event.now) self.old }
-        ensures whole { OnOk result (SyncsAt server (event_of_agent event.now) self.old self.new true) }
-        ensures cut { IfErr result (λ cut. SyncsInPart server (event_of_agent event.now) cut self.old self.new) }
-    {
-        if self.is_ready(server) {
-            return self.sync_ready(alloc, server, event);
-        }
-        match self.do_leaderless(alloc, event) {
-            Ok(()) => Ok(()),
-            Err(Memory) => Err(Cut::Before),
         }
     }
 }

@@ -4,15 +4,29 @@ ghost use Rattle.std.specs.Prelude.{◌≡◌, ◌≤◌, ◌<◌, IfOk, length,
 ghost use Rattle.cluster_rules.specs.Cluster.{applied_of};
 ghost use Rattle.cluster_rules.specs.Reached.{IsServerNumber};
 ghost use Rattle.cluster_interface.specs.Interface.{TakesFirst};
-ghost use Rattle.cluster_interface.specs.Taking.{Collects};
+ghost use Rattle.cluster_interface.specs.Taking.{Collects, DropsSyncs};
+ghost use Rattle.open_requests.specs.Notes.{past_of};
 
 use crate::cluster::Cluster;
 use cat_model::{Entry, List, Memory};
 use cat_outside::Keeper;
 use cluster_interface::History;
 use cluster_parts::copy_entries;
-use open_requests::{Collected, Out};
+use open_requests::{Collected, Out, Requests};
 use std::alloc::Global;
+
+// The history of an agreed log and of what these requests have noted.
+fn history_of(alloc: Global, agreed: List<Entry>, requests: Requests) -> Result<History, Memory>
+    ensures { IfOk result (λ h. (h.agreed ≡ agreed) × (h.marks ≡ reverse (past_of agreed requests.notes))) }
+{
+    match requests.into_marks(alloc, agreed.as_slice()) {
+        Ok(marks) => Ok(History { agreed, marks }),
+        Err(Memory) => {
+            drop(agreed);
+            Err(Memory)
+        }
+    }
+}
 
 impl<K: Keeper> Cluster<K> {
     /// Takes the first out that waits, and marks that a request's was taken.
@@ -28,6 +42,13 @@ impl<K: Keeper> Cluster<K> {
         ensures { Collects number result self.old self.new }
     {
         self.requests.collect(number)
+    }
+
+    /// Lets go of the outs of syncs, for which no request waits. It takes no memory.
+    pub fn drop_syncs(&mut self)
+        ensures { DropsSyncs self.old self.new }
+    {
+        self.requests.drop_syncs();
     }
 
     /// How many entries of the agreed log a server has applied.
@@ -53,8 +74,22 @@ impl<K: Keeper + Drop> Cluster<K> {
         ensures agreed { IfOk result (λ h. h.agreed ≡ self.world.agreed) }
         ensures marks { IfOk result (λ h. h.marks ≡ reverse self.past) }
     {
-        let agreed = copy_entries(alloc, self.servers.agreed())?;
-        let marks = self.requests.into_marks(alloc, agreed.as_slice())?;
-        Ok(History { agreed, marks })
+        let Cluster {
+            servers,
+            agents,
+            requests,
+            watch,
+        } = self;
+        let agreed = copy_entries(alloc, servers.agreed());
+        drop(servers);
+        drop(agents);
+        drop(watch);
+        match agreed {
+            Ok(agreed) => history_of(alloc, agreed, requests),
+            Err(Memory) => {
+                drop(requests);
+                Err(Memory)
+            }
+        }
     }
 }

@@ -1,12 +1,10 @@
-//! The two acts of a tick: a server's clock goes on, and then it does what is due by it.
+//! What a server does that is due by its clock.
 
 ghost use Rattle.std.specs.Prelude.{◌≡◌, ◌&&◌, [], ◌∷◌, IfOk, OnErr, OnOk, false, map, true};
 ghost use Rattle.cat_model.specs.declared.command.Command.TheVariants.{Reap};
-ghost use Rattle.cat_model.specs.declared.request.Event.TheVariants as event;
 ghost use Rattle.cluster_rules.specs.Cluster.{runs_leading};
-ghost use Rattle.cluster_rules.specs.Proposals.{Proposals, Tends, looked, over_rows};
-ghost use Rattle.cluster_rules.specs.Reached.{Fits, IsServerNumber};
-ghost use Rattle.cluster_turns.specs.Turns.{TendsInPart, Ticks};
+ghost use Rattle.cluster_rules.specs.Proposals.{Proposals, looked, over_rows};
+ghost use Rattle.cluster_rules.specs.Reached.{IsServerNumber};
 ghost use Rattle.session_ttl.specs.Endings.{ending_of};
 ghost use Rattle.cluster.specs.Tending.{EndsProposed, ReapsProposed, is_reap_due};
 ghost use Rattle.cluster_parts.specs.Ending.{end_command};
@@ -14,18 +12,18 @@ ghost use Rattle.cluster_parts.specs.Ending.{end_command};
 use crate::cluster::Cluster;
 use cat_model::{Command, Memory};
 use cat_outside::Keeper;
-use cluster_parts::{Proposed, ends_of};
+use cluster_parts::{Proposed, ends_of, runs_leading};
 use session_ttl::Ending;
 use std::alloc::Global;
 
 impl<K: Keeper + Drop> Cluster<K> {
-    /// The clock of a server goes on by so many milliseconds.
+    /// The server runs and leads.
     #[tactic(auto, using(crate::proofs::Numbers::is_number))]
-    pub(crate) fn tick(&mut self, server: u32, milliseconds: u64)
-        requires { Fits self.old (event.Tick server milliseconds) }
-        ensures { Ticks server milliseconds self.old self.new }
+    pub(crate) fn runs_leading(&self, server: u32) -> bool
+        requires { IsServerNumber self.now server }
+        ensures { result ≡ runs_leading self.now.world server }
     {
-        self.servers.tick(server, milliseconds);
+        runs_leading(&self.servers, server)
     }
 
     // A server that leads has a reap to propose.
@@ -59,18 +57,33 @@ impl<K: Keeper + Drop> Cluster<K> {
         Ok(proposed.whole)
     }
 
-    // Proposes the ends of the sessions that are over by the clock of a server that leads, and says whether memory
-    // sufficed. They are not proposed again unless they are renewed.
+    /// Proposes the ends of the sessions that are over by the clock of a server that leads, and says whether memory
+    /// sufficed. They are not proposed again unless they are renewed.
     #[tactic(auto, using(crate::proofs::Numbers::is_number))]
-    fn end_sessions(&mut self, alloc: Global, server: u32) -> Result<bool, Memory>
+    pub(crate) fn end_sessions(&mut self, alloc: Global, server: u32) -> Result<bool, Memory>
         requires server { IsServerNumber self.old server }
         requires leads { runs_leading self.old.world server ≡ true }
         ensures told { IfOk result (λ whole. EndsProposed server self.old whole self.new) }
         ensures same { OnErr result (self.new ≡ self.old) }
     {
         let endings = self.servers.over(alloc, server)?;
-        let commands = ends_of(alloc, endings.as_slice())?;
-        self.propose_ends(alloc, server, endings.as_slice(), commands.as_slice())
+        match ends_of(alloc, endings.as_slice()) {
+            Ok(commands) => {
+                let told = self.propose_ends(
+                    alloc,
+                    server,
+                    endings.as_slice(),
+                    commands.as_slice(),
+                );
+                drop(endings);
+                drop(commands);
+                told
+            }
+            Err(Memory) => {
+                drop(endings);
+                Err(Memory)
+            }
+        }
     }
 
     // A server that leads has a reap to propose.
@@ -92,9 +105,9 @@ impl<K: Keeper + Drop> Cluster<K> {
         self.propose_all(alloc, server, &[Command::Reap])
     }
 
-    // A server proposes the reap that is due, if it leads, and looks for the next one later.
+    /// A server proposes the reap that is due, if it leads, and looks for the next one later.
     #[tactic(auto, using(crate::proofs::Numbers::is_number))]
-    fn reap(&mut self, alloc: Global, server: u32) -> Result<(), Memory>
+    pub(crate) fn reap(&mut self, alloc: Global, server: u32) -> Result<(), Memory>
         requires { IsServerNumber self.old server }
         ensures whole { OnOk result (ReapsProposed server self.old true self.new) }
         ensures cut { OnErr result (ReapsProposed server self.old false self.new) }
@@ -107,22 +120,5 @@ impl<K: Keeper + Drop> Cluster<K> {
         }
         self.servers.look(server);
         Ok(())
-    }
-
-    /// A server that leads proposes what is due by its clock: the ends of sessions whose TTL is over, and then a reap,
-    /// where its look is due and it has applied the removal of a key since the last one.
-    pub(crate) fn tend(&mut self, alloc: Global, server: u32) -> Result<(), Memory>
-        requires { IsServerNumber self.old server }
-        ensures whole { OnOk result (Tends server self.old self.new true) }
-        ensures cut { OnErr result (TendsInPart server self.old self.new) }
-    {
-        if !self.runs_leading(server) {
-            return Ok(());
-        }
-        match self.end_sessions(alloc, server) {
-            Ok(true) => self.reap(alloc, server),
-            Ok(false) => Err(Memory),
-            Err(Memory) => Err(Memory),
-        }
     }
 }

@@ -1,5 +1,12 @@
+pub mod Acts
 pub mod AgentPlaces
 pub mod Awake
+pub mod Carried
 pub mod Commands
 pub mod EmptyStores
 pub mod Executed
+pub mod Forgetting
+pub mod Marking
+pub mod ProposedOne
+pub mod Restarts
+pub mod Slots

@@ -1,5 +1,6 @@
 -- What becomes of a command that a server proposes for no request.
-use Rattle.std.specs.Prelude.{◌≡◌, ℕ, ◌⊎◌, Bool, true, false, Result, Ok, Err}
+use Rattle.std.specs.Prelude.{◌≡◌, ℕ, ◌⊎◌, Bool, true, false, List, IfOk, OnErr, Result, Ok, Err}
+use Rattle.agent_rules.specs.Agents.{Agent}
 use Rattle.cat_model.specs.declared.command.Command.{Command}
 use Rattle.cat_model.specs.declared.memory.Memory.{Memory}
 use Rattle.raft_model.specs.declared.message.Place.{Place}
@@ -7,11 +8,14 @@ use Rattle.raft_model.specs.Rules.{Propose, has_room}
 use Rattle.raft_model.specs.World.{World, Acts as NodeActs}
 use Rattle.raft_node.specs.declared.fault.ProposeFault.{ProposeFault}
 use Rattle.raft_node.specs.declared.fault.ProposeFault.TheVariants as fault
-use Rattle.cluster_rules.specs.Cluster.{Cluster, node_of, runs_leading}
+use Rattle.cluster_rules.specs.Cluster.{Cluster, Server, node_of, runs_leading}
 use Rattle.cluster_rules.specs.Requests.{moved}
-use Rattle.open_requests.specs.Requests.{Requests}
+use Rattle.cluster_servers.specs.Servers.{Servers}
+use Rattle.open_requests.specs.Requests.{Requests, cluster_of}
 use Rattle.cluster_parts.specs.declared.moving.Seen.{Seen}
 use Rattle.cluster_parts.specs.Moving.{MarksStep}
+use Rattle.cluster_parts.specs.Standing.{Stands}
+use Rattle.cluster_parts.specs.Watching.{Watching}
 
 -- A proposal that this answers: the step is marked, also where the proposal is refused.
 abbrev pub EndsProposal : Seen → Seen → ℕ → Result Place ProposeFault → Result Bool Memory → Requests → Requests → Type 0
@@ -43,3 +47,15 @@ pub record IsRefused (i : ℕ) (command : Command) (c c' : Cluster) : Type 0 whe
 abbrev pub OneProposed : ℕ → Command → Cluster → Bool → Cluster → Type 0
 OneProposed i command c true c' = IsEntered i command c c'
 OneProposed i command c false c' = IsRefused i command c c'
+
+-- From this cluster on one command was proposed, and the parts stand. Where there was no memory, the cluster is as before.
+pub record EndedOne (agents : List Agent) (watch : Watching) (i : ℕ) (command : Command) (c : Cluster) (w' : World) (servers : List Server) (r' : Requests) (result : Result Bool Memory) : Type 0 where
+  pub told : IfOk result (λ entered. OneProposed i command c entered (cluster_of w' servers agents r'))
+  pub leads : IfOk result (λ entered. entered ≡ true → runs_leading w' i ≡ true)
+  pub same : OnErr result (cluster_of w' servers agents r' ≡ c)
+  pub stands : Stands watch w' servers r'
+
+-- From parts that stand server i proposes this command so, whatever agents there are, and whichever requests are awake.
+abbrev pub ProposesOne : ℕ → Command → (old : Servers) → Requests → (new : Servers) → Requests → Result Bool Memory → Type 0
+ProposesOne i command old r new r' result =
+    (agents : List Agent) (watch : Watching) → Stands watch old.world old.servers r → EndedOne agents watch i command (cluster_of old.world old.servers agents r) new.world new.servers r' result

@@ -1,6 +1,7 @@
 //! A consistent read waits for a round of acknowledgements, which is begun for it.
 
-ghost use Rattle.std.specs.Prelude.{◌≡◌, ◌≤◌, IfOk};
+ghost use Rattle.std.specs.Prelude.{◌≡◌, ◌<◌, ◌≤◌, IfOk};
+ghost use Rattle.std.specs.List.{AllByRecursion as Each};
 ghost use Rattle.open_requests.specs.Notes.{IsMadeLast};
 ghost use Rattle.cluster_parts.specs.Asking.{EndsProbe, HoldsRead};
 
@@ -33,6 +34,7 @@ fn hold_read(
     requires room { 4 ≤ requests.old.room }
     requires made { IsMadeLast requests.old.notes }
     requires grown { before.agreed ≤ now.agreed }
+    requires last { Each (λ h. h.question.number < read.question.number) requests.old.held }
     ensures { HoldsRead read before now server deadline round requests.old requests.new }
 {
     let NewRead { asked, question } = read;
@@ -61,6 +63,7 @@ pub fn end_probe(
     requires room { 4 ≤ requests.old.room }
     requires made { IsMadeLast requests.old.notes }
     requires grown { before.agreed ≤ now.agreed }
+    requires last { Each (λ h. h.question.number < read.question.number) requests.old.held }
     ensures { EndsProbe read before now server deadline probed result requests.old requests.new }
 {
     match probed {

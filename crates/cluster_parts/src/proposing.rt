@@ -1,13 +1,19 @@
 //! What becomes of a command that a server proposes for no request.
 
-ghost use Rattle.std.specs.Prelude.{◌≤◌};
-ghost use Rattle.cluster_parts.specs.Proposing.{EndsProposal};
+ghost use Rattle.std.specs.Prelude.{◌≡◌, ◌≤◌, length, true};
+ghost use Rattle.raft_model.specs.World.{IsReached};
+ghost use Rattle.cluster_rules.specs.Cluster.{runs_leading};
+ghost use Rattle.cluster_parts.specs.Proposing.{EndsProposal, ProposesOne};
 
-use crate::moving::{Seen, mark_step};
-use cat_model::Memory;
+use crate::copying::copy_command;
+use crate::moving::{Seen, mark_step, see};
+use cat_model::{Command, Memory};
+use cat_outside::Keeper;
+use cluster_servers::Servers;
 use open_requests::Requests;
 use raft_model::Place;
 use raft_node::ProposeFault;
+use std::alloc::Global;
 
 /// How far proposals of commands came: so many were entered, and where it is not whole, memory ran out before the next
 /// one. A whole one stops early where the log has no room for the next one, or the server's store failed at it.
@@ -19,8 +25,8 @@ pub struct Proposed {
     pub whole: bool,
 }
 
-/// Marks what became of a proposal for no request, and says whether it was entered. No reply tells that it was refused.
-pub fn end_proposal(
+// Marks what became of a proposal for no request, and says whether it was entered. No reply tells that it was refused.
+fn end_proposal(
     requests: &mut Requests,
     server: u32,
     before: Seen,
@@ -42,4 +48,29 @@ pub fn end_proposal(
         }
         Err(ProposeFault::NotLeader | ProposeFault::Memory) => Err(Memory),
     }
+}
+
+/// Proposes a command at a server that leads, for no request, and says whether it was entered.
+pub fn propose_one<K: Keeper + Drop>(
+    servers: &mut Servers<K>,
+    requests: &mut Requests,
+    alloc: Global,
+    server: u32,
+    command: &Command,
+) -> Result<bool, Memory>
+    requires first { 1 ≤ server }
+    requires last { server ≤ length servers.old.servers }
+    requires reached { IsReached servers.old.world }
+    requires leads { runs_leading servers.old.world server ≡ true }
+    ensures { ProposesOne server command.now servers.old requests.old servers.new requests.new result }
+{
+    let copy = copy_command(command)?;
+    if requests.prepare().is_err() {
+        drop(copy);
+        return Err(Memory);
+    }
+    let before = see(servers, server);
+    let proposed = servers.propose(alloc, server, 0, copy);
+    let now = see(servers, server);
+    end_proposal(requests, server, before, now, proposed)
 }

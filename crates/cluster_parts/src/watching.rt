@@ -1,14 +1,15 @@
 //! Which of the requests that were asked may have something due, so that an event looks at those alone.
 
-ghost use Rattle.std.specs.Prelude.{◌≡◌, ◌⊎◌, ◌≢◌, ◌<◌, ◌≤◌, ℕ, IfOk, Contains, List, length, true, false};
+ghost use Rattle.std.specs.Prelude.{◌≡◌, ◌⊎◌, ◌≢◌, ◌<◌, ◌≤◌, [], ◌∷◌, ℕ, IfOk, Contains, List, length, true, false};
 ghost use Rattle.std.specs.List.{AllByRecursion as Each};
 ghost use Rattle.cat_model.specs.Reach.{is_on};
 ghost use Rattle.cat_model.specs.declared.query.Chan.{Chan as SpecChan};
+ghost use Rattle.open_requests.specs.Held.{held_in};
 ghost use Rattle.read_watch.specs.Watch.{IsServer};
 ghost use Rattle.cluster_parts.specs.Watching.{MayBeDue, Sleeps, StayAwake, nothing_watched};
 
 use cat_model::{Chan, List, Memory};
-use open_requests::Pending;
+use open_requests::HeldSlot;
 use read_watch::Watch;
 use std::alloc::Global;
 use std::marker::Model;
@@ -131,16 +132,31 @@ impl Watching {
     }
 }
 
-/// Something may be due of all that a server holds.
-pub fn wake_held(watch: &mut Watching, held: &[Pending], server: u32)
-    ensures woken { Each (λ h. h.server ≡ server → MayBeDue h.question.number watch.new) held.now }
+// Something may be due of the request of a slot, if a server holds it.
+fn wake_slot(watch: &mut Watching, slot: &HeldSlot, server: u32)
+    ensures woken { Each (λ h. h.server ≡ server → MayBeDue h.question.number watch.new) (held_in (slot.now ∷ [])) }
     ensures kept { StayAwake watch.old watch.new }
     ensures servers { watch.new.watch.servers ≡ watch.old.watch.servers }
     ensures seen { watch.new.seen ≡ watch.old.seen }
 {
-    for pending in held {
-        if pending.server() == server {
-            watch.wake(pending.number());
+    match slot.pending() {
+        Some(pending) => {
+            if pending.server() == server {
+                watch.wake(pending.number());
+            }
         }
+        None => {}
+    }
+}
+
+/// Something may be due of all that a server holds.
+pub fn wake_held(watch: &mut Watching, slots: &[HeldSlot], server: u32)
+    ensures woken { Each (λ h. h.server ≡ server → MayBeDue h.question.number watch.new) (held_in slots.now) }
+    ensures kept { StayAwake watch.old watch.new }
+    ensures servers { watch.new.watch.servers ≡ watch.old.watch.servers }
+    ensures seen { watch.new.seen ≡ watch.old.seen }
+{
+    for slot in slots {
+        wake_slot(watch, slot, server);
     }
 }

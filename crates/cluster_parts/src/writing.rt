@@ -1,6 +1,7 @@
 //! What becomes of a write whose proposal was answered.
 
-ghost use Rattle.std.specs.Prelude.{◌≡◌, ◌≤◌};
+ghost use Rattle.std.specs.Prelude.{◌≡◌, ◌<◌, ◌≤◌};
+ghost use Rattle.std.specs.List.{AllByRecursion as Each};
 ghost use Rattle.open_requests.specs.Notes.{IsMadeLast};
 ghost use Rattle.open_requests.specs.Plain.{refusal_of};
 ghost use Rattle.cluster_parts.specs.Asking.{EndsWrite, HoldsWrite, RefusesWrite};
@@ -43,8 +44,10 @@ fn refuse_write(
     let Write {
         asked,
         question,
+        entry,
         ..
     } = write;
+    drop(entry);
     let number = question.number();
     requests.number(question.agent(), asked, question.draw());
     mark_step(requests, server, before, now);
@@ -63,6 +66,7 @@ fn hold_write(
     requires room { 4 ≤ requests.old.room }
     requires made { IsMadeLast requests.old.notes }
     requires grown { before.agreed ≤ now.agreed }
+    requires last { Each (λ h. h.question.number < write.question.number) requests.old.held }
     ensures { HoldsWrite write before now server place requests.old requests.new }
 {
     let Write {
@@ -96,6 +100,7 @@ pub fn end_write(
     requires room { 4 ≤ requests.old.room }
     requires made { IsMadeLast requests.old.notes }
     requires grown { before.agreed ≤ now.agreed }
+    requires last { Each (λ h. h.question.number < write.question.number) requests.old.held }
     ensures { EndsWrite write before now server proposed result requests.old requests.new }
 {
     match proposed {

@@ -13,6 +13,7 @@ ghost use Rattle.catalog_store.specs.contracts.store.Store as store;
 ghost use Rattle.cat_model.specs.contracts.applied.Applied as applied;
 ghost use Rattle.lock_delay.specs.contracts.table.LockDelay as delays;
 ghost use Rattle.session_ttl.specs.contracts.office.Office as office;
+ghost use Rattle.session_ttl.specs.contracts.timers.SessionTimers as timers;
 ghost use Rattle.replica.specs.contracts.replica.Replica as replica;
 ghost use Rattle.agent_state.specs.contracts.agent.Agent as agent;
 ghost use Rattle.open_requests.specs.contracts.requests.Requests as requests;
@@ -40,7 +41,7 @@ use raft_world::World;
 use read_watch::Watch;
 use replica::Replica;
 use session_table::SessionTable;
-use session_ttl::Office;
+use session_ttl::{Office, SessionTimers};
 use table_index::TableIndex;
 use timer_wheel::TimerWheel;
 use watch_registry::WatchRegistry;
@@ -116,12 +117,26 @@ fn offices_send()
     sends::<Office>();
 }
 
+fn wheels_send()
+    ensures { IsSend wheel.the_row }
+{
+    sends::<TimerWheel>();
+}
+
+fn timers_send()
+    ensures { IsSend timers.the_row }
+{
+    wheels_send();
+    sends::<SessionTimers>();
+}
+
 fn replicas_send()
     ensures { IsSend replica.the_row }
 {
     stores_send();
     applieds_send();
     offices_send();
+    timers_send();
     delays_send();
     sends::<Replica>();
 }
@@ -142,12 +157,6 @@ fn registries_send()
     ensures { IsSend registry.the_row }
 {
     sends::<WatchRegistry>();
-}
-
-fn wheels_send()
-    ensures { IsSend wheel.the_row }
-{
-    sends::<TimerWheel>();
 }
 
 fn watches_send()

@@ -1,9 +1,9 @@
-use Rattle.std.proofs.Common.{◌≡◌, ◌<◌, ◌≤◌, ◌∙◌, ℕ, List, get_or, length, refl, false, sym, ap, subst, IfNone, Option, arith}
+use Rattle.std.proofs.Common.{◌≡◌, ◌<◌, ◌≤◌, ◌∙◌, ℕ, List, get_or, length, refl, false, sym, ap, subst, IfNone, arith}
 use Rattle.std.specs.List.{AllByRecursion as Each}
 use Rattle.cluster_rules.specs.Cluster.{Cluster, Pending, node_of}
 use Rattle.cluster_rules.proofs.Tools.{get_default}
 use Rattle.cluster_parts.specs.Looking.{is_early, is_number_early}
-use Rattle.cluster.specs.Standing.{Stands}
+use Rattle.cluster_parts.specs.Standing.{Stands}
 use Rattle.cluster.proofs.Finding.{early_none, none_more, none_passes}
 use Rattle.cluster.proofs.Watched.{looked_at}
 use Rattle.cluster.proofs.cluster.Cluster.early_number.Goals as goal

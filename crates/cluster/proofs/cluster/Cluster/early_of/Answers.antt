@@ -1,8 +1,8 @@
-use Rattle.std.proofs.Common.{◌≡◌, ℕ, ◌==◌, Bool, Err, None, Ok, Option, Result, Some, ap, sym, ◌∙◌}
+use Rattle.std.proofs.Common.{◌==◌, Some, ap, sym, ◌∙◌}
 use Rattle.std.specs.Option.{option_copied}
 use Rattle.cluster_rules.specs.Cluster.{Pending}
-use Rattle.cluster_parts.specs.Looking.{is_early, numbered_in}
-use Rattle.cluster.specs.Standing.{IsHeld}
+use Rattle.cluster_parts.specs.Looking.{is_early}
+use Rattle.cluster_parts.specs.Standing.{IsHeld}
 use Rattle.cluster.proofs.Finding.{awaited_here, early_behind_call, early_finds_call, early_is, held_each, passes, pending_in}
 use Rattle.cluster.proofs.Numbered.{each_one, one_found}
 use Rattle.cluster.proofs.cluster.Cluster.early_of.Goals as goal

@@ -1,6 +1,6 @@
 use Rattle.std.proofs.Common.{◌∙◌, ap, sym, subst}
 use Rattle.open_requests.specs.Requests.{Requests, cluster_of}
-use Rattle.cluster.specs.Standing.{Stands}
+use Rattle.cluster_parts.specs.Standing.{Stands}
 use Rattle.cluster.proofs.Notes.{forgotten_is, forgotten_stands, just_noted}
 use Rattle.cluster.proofs.cluster.Cluster.forget_event.Goals as goal
 

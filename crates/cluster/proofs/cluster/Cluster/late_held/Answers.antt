@@ -1,5 +1,6 @@
-use Rattle.std.proofs.Common.{None, Some, ap, sym, subst, ◌∙◌, ◌≡◌, ℕ, true}
+use Rattle.std.proofs.Common.{None, Some, ap, sym, subst, ◌≡◌, true}
 use Rattle.std.specs.Option.{option_copied}
+use Rattle.open_requests.specs.Held.{held_in}
 use Rattle.cluster_parts.specs.Looking.{is_late, numbered_in, test_held}
 use Rattle.cluster.proofs.Finding.{ascends_in, first_in, first_number}
 use Rattle.cluster.proofs.Numbered.{none_found}
@@ -8,7 +9,7 @@ use Rattle.cluster.proofs.cluster.Cluster.late_held.Goals as goal
 pub returns-in-Some-clause-some : goal.returns-in-Some-clause-some
 returns-in-Some-clause-some g c =
     let test = is_late c.args.self.now c.args.server in
-    let found = first_in c.self.inside.agents c.self.inside.watch test c.self.inside.servers.world c.self.inside.servers.servers c.self.inside.requests c.args.self.now c.held.result.now (option_copied c.first_late.result) (Some c.in-Some.held.now) c.self.view_is c.held.ensures c.first_late.ensures (ap option_copied c.in-Some.is) in
+    let found = first_in c.self.inside.agents c.self.inside.watch test c.self.inside.servers.world c.self.inside.servers.servers c.self.inside.requests c.args.self.now (held_in c.held.result.now) (option_copied c.first_late.result) (Some c.in-Some.held.now) c.self.view_is c.held.ensures c.first_late.ensures (ap option_copied c.in-Some.is) in
     subst (λ k. test_held test (numbered_in k c.args.self.now.held) ≡ true) (sym c.number.ensures)
     (first_number c.self.inside.agents c.self.inside.watch test c.args.self.now.held c.in-Some.held.now (ascends_in c.self.inside.agents c.self.inside.watch c.self.inside.servers.world c.self.inside.servers.servers c.self.inside.requests c.args.self.now c.self.invariant c.self.view_is) found)
 
@@ -16,4 +17,4 @@ pub returns-in-None-clause-none : goal.returns-in-None-clause-none
 returns-in-None-clause-none g c =
     let test = is_late c.args.self.now c.args.server in
     none_found test c.args.self.now.held
-    (first_in c.self.inside.agents c.self.inside.watch test c.self.inside.servers.world c.self.inside.servers.servers c.self.inside.requests c.args.self.now c.held.result.now (option_copied c.first_late.result) None c.self.view_is c.held.ensures c.first_late.ensures (ap option_copied c.in-None.is))
+    (first_in c.self.inside.agents c.self.inside.watch test c.self.inside.servers.world c.self.inside.servers.servers c.self.inside.requests c.args.self.now (held_in c.held.result.now) (option_copied c.first_late.result) None c.self.view_is c.held.ensures c.first_late.ensures (ap option_copied c.in-None.is))

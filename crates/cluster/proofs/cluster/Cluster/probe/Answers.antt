@@ -1,7 +1,10 @@
-use Rattle.std.proofs.Common.{◌≡◌, ◌<◌, ◌-◌, refl, rules, subst, sym}
+use Rattle.std.proofs.Common.{◌≡◌, ◌<◌, ◌+◌, ◌-◌, ◌∙◌, ap, refl, rules, subst, sym}
+use Rattle.std.specs.List.{AllByRecursion as Each}
 use Rattle.std.specs.Prelude.{◌^◌}
-use Rattle.cluster_rules.specs.Cluster.{Cluster, node_of}
-use Rattle.cluster.proofs.Handled.{made_last}
+use Rattle.cluster_rules.specs.Cluster.{Cluster, Pending, node_of}
+use Rattle.cluster_rules.specs.Replies.{Question}
+use Rattle.open_requests.specs.Requests.{Requests}
+use Rattle.cluster.proofs.Handled.{below_next, made_last}
 use Rattle.cluster.proofs.Rounds.{done_probe, read_probed, rounds_fit}
 use Rattle.cluster.proofs.cluster.Cluster.probe.Goals as goal
 
@@ -13,6 +16,13 @@ end_probe-requires-clause-made g c =
     let ready : c.prepare.new.self ≡ record c.self.inside.requests { room = 4 } = search rules in
     made_last c.self.inside.agents c.self.inside.watch c.self.inside.servers.world c.self.inside.servers.servers c.self.inside.requests c.args.self.now c.args.read.question.agent c.args.read.asked c.args.read.question.draw
     (record { stands = c.self.invariant; view = c.self.view_is; come = c.requires.come }) c.prepare.new.self ready
+
+pub end_probe-requires-clause-last : goal.end_probe-requires-clause-last
+end_probe-requires-clause-last g c =
+    let ready : c.prepare.new.self ≡ record c.self.inside.requests { room = 4 } = search rules in
+    let next : c.args.read.question.number ≡ c.self.inside.requests.asked + 1 = ap (λ (q : Question). q.number) c.requires.read.question ∙ ap (λ (z : Cluster). z.asked + 1) (sym c.self.view_is) in
+    subst (Each (λ (h : Pending). h.question.number < c.args.read.question.number)) (ap (λ (p : Requests). p.held) (sym ready))
+    (below_next c.self.inside.agents c.self.inside.watch c.self.inside.servers.world c.self.inside.servers.servers c.self.inside.requests c.args.read.question.number c.self.invariant next)
 
 pub invariant_of-self-2 : goal.invariant_of-self-2
 invariant_of-self-2 g c =

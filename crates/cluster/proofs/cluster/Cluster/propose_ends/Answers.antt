@@ -3,8 +3,8 @@ use Rattle.office_rules.specs.Offices.{ended_too}
 use Rattle.cluster_rules.specs.Cluster.{office_of, server_of}
 use Rattle.cluster_rules.specs.Proposals.{over_rows}
 use Rattle.cluster_servers.specs.Servers.{Servers}
-use Rattle.cluster.specs.Standing.{Stands}
-use Rattle.cluster.proofs.Acts.{stands_officed}
+use Rattle.cluster_parts.specs.Standing.{Stands}
+use Rattle.cluster_parts.proofs.Acts.{stands_officed}
 use Rattle.cluster.proofs.Tending.{ends_done, proposed_office}
 use Rattle.cluster.proofs.cluster.Cluster.propose_ends.Goals as goal
 

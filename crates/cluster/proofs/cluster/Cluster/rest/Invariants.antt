@@ -1,4 +1,4 @@
-use Rattle.std.proofs.Common.{◌≡◌, ℕ}
+use Rattle.std.proofs.Common.{◌≡◌}
 use Rattle.cluster.proofs.cluster.Cluster.rest.Given as goal
 
 abbrev pub invariant-loop-at : goal.invariant-loop-at

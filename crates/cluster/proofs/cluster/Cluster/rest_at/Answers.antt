@@ -1,4 +1,4 @@
-use Rattle.std.proofs.Common.{None, Some, ap, sym, ◌∙◌}
+use Rattle.std.proofs.Common.{ap, sym, ◌∙◌}
 use Rattle.std.specs.Option.{option_copied}
 use Rattle.cluster.proofs.Slept.{gone_stands, slept_stands}
 use Rattle.cluster.proofs.cluster.Cluster.rest_at.Goals as goal

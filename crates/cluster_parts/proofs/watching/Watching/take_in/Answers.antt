@@ -1,4 +1,4 @@
-use Rattle.std.proofs.Common.{◌≡◌, ◌+◌, ◌∙◌, subst, arith}
+use Rattle.std.proofs.Common.{◌+◌, ◌∙◌, subst, arith}
 use Rattle.cluster_parts.specs.Watching.{StayAwake, Watching}
 use Rattle.cluster_parts.proofs.Awake.{take_next, then_stay}
 use Rattle.cluster_parts.proofs.watching.Watching.take_in.Goals as goal

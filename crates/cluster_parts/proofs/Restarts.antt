@@ -1,0 +1,128 @@
+-- A restart: the server has applied nothing, and what it holds is to be closed.
+use Rattle.std.proofs.Common.{◌≡◌, inl, ℕ, ◌-◌, ◌<◌, ◌≤◌, Bool, true, false, cond, List, [], ◌∷◌, length, map, refl, sym, ◌∙◌, ap, subst, arith}
+use Rattle.std.specs.Prelude.{◌==◌}
+use Rattle.std.specs.List.{AllByRecursion as Each}
+use Rattle.cat_model.specs.declared.request.Event.TheVariants as event
+use Rattle.raft_model.proofs.Tests.{at_bool, eq_tells}
+use Rattle.raft_model.specs.Log.{Log}
+use Rattle.raft_model.specs.Node.{Node, set_server}
+use Rattle.raft_model.specs.World.{World, WorldStep, IsReached}
+use Rattle.raft_model.specs.World as world
+use Rattle.raft_world.specs.Steps.{KeepsAgreement}
+use Rattle.cluster_rules.specs.Cluster.{Cluster, Ended, Pending, Server, no_node, no_server, node_of, server_of}
+use Rattle.cluster_rules.specs.Sound.{Ascends, ServerIsSound}
+use Rattle.cluster_rules.specs.Step.{begun_anew, ended, restarts}
+use Rattle.cluster_rules.proofs.Grows.{GoesTo, goes_by}
+use Rattle.cluster_rules.proofs.Tools.{eq_tells_not, is_place, item_other, item_same, length_set_server}
+use Rattle.open_requests.proofs.Lifting.{ends_by}
+use Rattle.open_requests.specs.Notes.{events_noted}
+use Rattle.open_requests.specs.Requests.{Requests, cluster_of as whole_of, ended_all}
+use Rattle.cluster_parts.specs.declared.moving.Seen.{Seen}
+use Rattle.cluster_parts.specs.Moving.{IsMarked, seen_of}
+use Rattle.cluster_parts.specs.Standing as standing
+use Rattle.cluster_parts.proofs.Acts.{ActedWhole, whole_with}
+use Rattle.cluster_parts.proofs.Carried.{AreSound, Carries, held_same, server_later, sound_with}
+use Rattle.cluster_parts.proofs.Marking.{cluster_marked, stands_marked, with_room}
+use Rattle.agent_rules.specs.Agents.{Agent}
+use Rattle.cluster_parts.specs.Watching.{Watching, MayBeDue}
+
+module _ (gs : List Agent) (wt : Watching) where
+  -- the cluster of these parts, with these agents
+  abbrev cluster_of : World → List Server → Requests → Cluster
+  cluster_of w servers r = whole_of w servers gs r
+
+  abbrev Stands : World → List Server → Requests → Type 0
+  Stands w servers r = standing.Stands wt w servers r
+
+  abbrev IsHeld : World → List Server → ℕ → Pending → Type 0
+  IsHeld w servers asked h = standing.IsHeld wt w servers asked h
+
+  number_kept : (i made : ℕ) (h : Pending) → (ended i made h).question.number ≡ h.question.number
+  number_kept i made h = at_bool (λ b. (cond b (record h { stand = Ended made }) h).question.number ≡ h.question.number) (h.server == i) (λ _. refl) (λ _. refl)
+
+  above_kept : (i made n m : ℕ) (held : List Pending) → m ≡ n → Each (λ (g : Pending). n < g.question.number) held → Each (λ (g : Pending). m < g.question.number) (map (ended i made) held)
+  above_kept i made n m [] e all = tt
+  above_kept i made n m (h ∷ held) e all = (omega (arith, e, all.0, number_kept i made h), above_kept i made n m held e all.1)
+
+  ascends_kept : (i made : ℕ) (held : List Pending) → Ascends held → Ascends (map (ended i made) held)
+  ascends_kept i made [] a = tt
+  ascends_kept i made (h ∷ held) a = (above_kept i made h.question.number (ended i made h).question.number held (number_kept i made h) a.0, ascends_kept i made held a.1)
+
+  -- where all that it holds may have something due
+  abbrev AreAwake : ℕ → List Pending → Type 0
+  AreAwake i held = Each (λ (h : Pending). h.server ≡ i → MayBeDue h.question.number wt) held
+
+  is_held : (w : World) (servers : List Server) (i made asked : ℕ) (h : Pending) → (h.server ≡ i → MayBeDue h.question.number wt) → IsHeld w servers asked h → IsHeld w (set_server servers i no_server) asked (ended i made h)
+  is_held w servers i made asked h awake s = at_bool (λ b. IsHeld w (set_server servers i no_server) asked (cond b (record h { stand = Ended made }) h)) (h.server == i)
+      (λ e. record { numbered = s.numbered; taken = s.taken; awaited = tt; watched = inl (awake (eq_tells h.server i e)) })
+      (λ e. held_same wt w servers (set_server servers i no_server) asked h (ap (λ (x : Server). x.applied) (item_other no_server servers i h.server no_server (eq_tells_not h.server i e))) s)
+
+  held_kept : (w : World) (servers : List Server) (i made asked : ℕ) (held : List Pending) → AreAwake i held → Each (IsHeld w servers asked) held → Each (IsHeld w (set_server servers i no_server) asked) (map (ended i made) held)
+  held_kept w servers i made asked [] awake all = tt
+  held_kept w servers i made asked (h ∷ held) awake all = (is_held w servers i made asked h awake.0 all.0, held_kept w servers i made asked held awake.1 all.1)
+
+  nothing_sound : (agreed : Log) (commit : ℕ) → ServerIsSound agreed commit no_server
+  nothing_sound agreed commit = record { front = refl; within = omega arith; clocks = refl }
+
+  -- what server i holds is to be closed
+  abbrev ended_with : ℕ → ℕ → Requests → Requests
+  ended_with i made r = record r { held = map (ended i made) r.held }
+
+  -- the parts of a server that begins again stand
+  stands_ended : (i made : ℕ) (w : World) (servers : List Server) (r : Requests) → AreAwake i r.held → Stands w servers r → Stands w (set_server servers i no_server) (ended_with i made r)
+  stands_ended i made w servers r awake s = record {
+    reached = s.reached;
+    some = omega (arith, s.some, length_set_server servers i no_server);
+    count = length_set_server servers i no_server ∙ s.count;
+    watching = (s.watching.0 ∙ sym (length_set_server servers i no_server), s.watching.1);
+    sound = sound_with w servers i no_server s.sound (nothing_sound w.agreed (node_of w i).commit);
+    joined = s.joined;
+    proposed = s.proposed;
+    ascends = ascends_kept i made r.held s.ascends;
+    held = held_kept w servers i made r.asked r.held awake s.held;
+  }
+
+  ended_marked : (failed : Bool) (i made count : ℕ) (r r' : Requests) → IsMarked failed i count r r' → IsMarked failed i count (ended_with i made r) (ended_with i made r')
+  ended_marked true i made count r r' m = ap (ended_with i made) m
+  ended_marked false i made count r r' m = ap (ended_with i made) m
+
+  -- No other server's commit fell.
+  restart_carries : (w w' : World) (servers : List Server) (i : ℕ) → IsReached w → length servers ≡ length w.nodes → AreSound w servers → WorldStep w (world.Restarts i) w' → Carries w w' (set_server servers i no_server)
+  restart_carries w w' servers i reached many sound step = record { on = on; count = ap (λ (v : World). length v.nodes) step.4 ∙ length_set_server w.nodes i step.1; sound = each }
+    where
+      on : GoesTo w w'
+      on = goes_by w w' (world.Restarts i) reached step
+
+      place : (0 < i) × (i ≤ length w.nodes)
+      place = is_place w i step.0 step.2
+
+      begun : server_of (set_server servers i no_server) i ≡ no_server
+      begun = item_same no_server servers i no_server place.0 (omega (arith, place.1, many))
+
+      each : AreSound w' (set_server servers i no_server)
+      each j = at_bool (λ b. (j == i) ≡ b → ServerIsSound w'.agreed (node_of w' j).commit (server_of (set_server servers i no_server) j)) (j == i)
+          (λ _ e. subst (λ (x : Server). ServerIsSound w'.agreed (node_of w' j).commit x) (sym (ap (λ k. server_of (set_server servers i no_server) k) (eq_tells j i e) ∙ begun)) (nothing_sound w'.agreed (node_of w' j).commit))
+          (λ _ e. let other = eq_tells_not j i e in
+          let commit : (node_of w' j).commit ≡ (node_of w j).commit = ap (λ (n : Node). n.commit) (ap (λ (v : World). node_of v j) step.4 ∙ item_other no_node w.nodes i j step.1 other) in
+          subst (λ (x : Server). ServerIsSound w'.agreed (node_of w' j).commit x) (sym (item_other no_server servers i j no_server other))
+          (server_later w w' on (node_of w j).commit (node_of w' j).commit (server_of servers j) (omega (arith, commit)) (sound j))) refl
+
+  restart_stands : (failed : Bool) (i : ℕ) (w w' : World) (servers : List Server) (r r' : Requests) → AreAwake i r.held → Stands w servers r → KeepsAgreement w w' → WorldStep w (world.Restarts i) w'
+      → IsMarked failed i (length w'.agreed - length w.agreed) r r' → Stands w' (set_server servers i no_server) (ended_all i r')
+  restart_stands failed i w w' servers r r' awake s k step m =
+      let made = events_noted r'.notes in
+      stands_marked gs wt failed i w w' (set_server servers i no_server) (ended_with i made r) (ended_with i made r') (stands_ended i made w servers r awake s) k
+      (restart_carries w w' servers i s.reached s.count s.sound step) (ap (λ (v : World). v.greatest) step.4) (ended_marked failed i made (length w'.agreed - length w.agreed) r r' m)
+
+  pub restart_acts : (i : ℕ) (w w' : World) (servers servers' : List Server) (r r₁ r₂ r' : Requests) (c : Cluster) (before now : Seen) (room : ℕ) → AreAwake i r.held → Stands w servers r → cluster_of w servers r ≡ c → r₁ ≡ record r { room = room } → KeepsAgreement w w'
+      → servers' ≡ set_server servers i no_server → WorldStep w (world.Restarts i) w' → before ≡ seen_of w i → now ≡ seen_of w' i → IsMarked now.halted i (now.agreed - before.agreed) r₁ r₂ → r' ≡ ended_all i r₂ → ActedWhole gs wt i (event.Restart i) c w' servers' r'
+  restart_acts i w w' servers servers' r r₁ r₂ r' c before now room awake s view ready k same step was seen m e =
+      let p = with_room gs wt w servers r r₁ room s ready in
+      let failed = (node_of w' i).halted in
+      let marks : IsMarked failed i (length w'.agreed - length w.agreed) r₁ r₂ = subst (λ (z : Seen). IsMarked failed i (length w'.agreed - z.agreed) r₁ r₂) was (subst (λ (z : Seen). IsMarked z.halted i (z.agreed - before.agreed) r₁ r₂) seen m) in
+      let awake₁ : AreAwake i r₁.held = subst (λ (q : Requests). AreAwake i q.held) (sym ready) awake in
+      let stands = restart_stands failed i w w' servers r₁ r₂ awake₁ p.0 k step marks in
+      let moves = cluster_marked gs wt failed i w w' servers r₁ r₂ p.0 k marks in
+      let is : cluster_of w' (set_server servers i no_server) (ended_all i r₂) ≡ begun_anew i (cluster_of w' servers r₂) = ends_by w' (set_server servers i no_server) gs r₂ i in
+      let whole : ActedWhole gs wt i (event.Restart i) (cluster_of w servers r₁) w' (set_server servers i no_server) (ended_all i r₂) = record { stands = stands; whole = (restarts w' refl refl step (is ∙ ap (begun_anew i) moves), tt) } in
+      subst (λ (q : Requests). ActedWhole gs wt i (event.Restart i) c w' servers' q) (sym e) (whole_with gs wt i (event.Restart i) (cluster_of w servers r₁) c w' (set_server servers i no_server) servers' (ended_all i r₂) (p.1 ∙ view) same whole)

@@ -1,0 +1,121 @@
+//! What the events do at their servers that are no requests.
+
+ghost use Rattle.std.specs.Prelude.{◌≡◌, ◌≤◌, Some, length};
+ghost use Rattle.cat_model.specs.declared.request.Event.TheVariants as event;
+ghost use Rattle.raft_model.specs.World.{IsReached, numbered};
+ghost use Rattle.cluster_rules.specs.Step.{receiver};
+ghost use Rattle.cluster_parts.specs.Acting.{ActsFrom, RestartsFrom};
+
+use crate::moving::{end, mark, mark_step, prepare, seat, see};
+use cat_model::Memory;
+use cat_outside::Keeper;
+use cluster_servers::Servers;
+use cluster_turns::Cut;
+use open_requests::Requests;
+use std::alloc::Global;
+
+/// The election timeout of a server is over.
+pub fn time_out<K: Keeper + Drop>(
+    servers: &mut Servers<K>,
+    requests: &mut Requests,
+    alloc: Global,
+    server: u32,
+) -> Result<(), Cut>
+    requires first { 1 ≤ server }
+    requires last { server ≤ length servers.old.servers }
+    requires reached { IsReached servers.old.world }
+    ensures { ActsFrom server (event.Timeout server) servers.old requests.old servers.new requests.new result }
+{
+    prepare(requests)?;
+    let before = see(servers, server);
+    let made = servers.timeout(alloc, server);
+    let now = see(servers, server);
+    seat(servers, server, before, now);
+    end(requests, server, before, now, made)
+}
+
+/// A server that leads sends its heartbeat.
+pub fn beat<K: Keeper + Drop>(
+    servers: &mut Servers<K>,
+    requests: &mut Requests,
+    alloc: Global,
+    server: u32,
+) -> Result<(), Cut>
+    requires first { 1 ≤ server }
+    requires last { server ≤ length servers.old.servers }
+    requires reached { IsReached servers.old.world }
+    ensures { ActsFrom server (event.Beat server) servers.old requests.old servers.new requests.new result }
+{
+    prepare(requests)?;
+    let before = see(servers, server);
+    let made = servers.beat(alloc, server);
+    let now = see(servers, server);
+    seat(servers, server, before, now);
+    end(requests, server, before, now, made)
+}
+
+/// A message reaches the server to which it goes.
+pub fn deliver<K: Keeper + Drop>(
+    servers: &mut Servers<K>,
+    requests: &mut Requests,
+    alloc: Global,
+    server: u32,
+    number: u64,
+) -> Result<(), Cut>
+    requires first { 1 ≤ server }
+    requires last { server ≤ length servers.old.servers }
+    requires reached { IsReached servers.old.world }
+    requires goes { receiver (numbered number servers.old.world.bag.packets) ≡ Some server }
+    ensures { ActsFrom server (event.Deliver number) servers.old requests.old servers.new requests.new result }
+{
+    prepare(requests)?;
+    let before = see(servers, server);
+    let made = servers.deliver(alloc, number);
+    let now = see(servers, server);
+    seat(servers, server, before, now);
+    end(requests, server, before, now, made)
+}
+
+/// A call of a server's durable store is to fail.
+pub fn fail_keep<K: Keeper + Drop>(
+    servers: &mut Servers<K>,
+    requests: &mut Requests,
+    server: u32,
+    nth: u32,
+) -> Result<(), Cut>
+    requires first { 1 ≤ server }
+    requires last { server ≤ length servers.old.servers }
+    requires reached { IsReached servers.old.world }
+    ensures { ActsFrom server (event.FailKeep server nth) servers.old requests.old servers.new requests.new result }
+{
+    prepare(requests)?;
+    let before = see(servers, server);
+    servers.fail_keep(server, nth);
+    let now = see(servers, server);
+    mark_step(requests, server, before, now);
+    Ok(())
+}
+
+/// A server stops and begins again. Its store failed exactly where it is halted then, also where it was before.
+pub fn restart<K: Keeper + Drop>(
+    servers: &mut Servers<K>,
+    requests: &mut Requests,
+    alloc: Global,
+    server: u32,
+) -> Result<(), Cut>
+    requires first { 1 ≤ server }
+    requires last { server ≤ length servers.old.servers }
+    requires reached { IsReached servers.old.world }
+    ensures { RestartsFrom server (event.Restart server) servers.old requests.old servers.new requests.new result }
+{
+    prepare(requests)?;
+    let before = see(servers, server);
+    match servers.restart(alloc, server) {
+        Ok(()) => {}
+        Err(Memory) => return Err(Cut::Before),
+    }
+    let now = see(servers, server);
+    mark(requests, server, now.halted, now.agreed - before.agreed);
+    requests.end_all_of(server);
+    Ok(())
+}
