@@ -33,7 +33,9 @@ fn links_in_memory(rt: HostRuntime) -> Result<(), Fail> {
     scripts.push(script(alloc, b"hello", 3, calls(alloc, &[3, 4])?)?)?;
     scripts.push(script(alloc, b"", 0, List::new(alloc))?)?;
     let mut listener = MemListener::new(alloc, scripts, calls(alloc, &[3])?)?;
+    assert_eq!(rt; listener.port(), None);
     assert_eq!(rt; listener.listen(8500), Ok(()));
+    assert_eq!(rt; listener.port(), Some(8500));
     let mut room = [0u8; 16];
 
     let mut first = listener.accept()?;

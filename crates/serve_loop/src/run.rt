@@ -174,6 +174,7 @@ where
     ensures ours { IsOurs (arc_value server.now.board) pass.new }
     ensures given { L.given listener.new ≡ L.given listener.old }
     ensures faults { L.faults listener.new ≡ L.faults listener.old }
+    ensures port { L.listens_on listener.new ≡ L.listens_on listener.old }
     ensures kept { IfSome result (IsKept ⟦<NoteOf<ServeJob<R, Served<C>, Cl, G, L::Link>> as Promise<Finished<L::Link, Served<C>>>>⟧.kept_by) }
     ensures job { IfSome result (λ task. (note_of task).0.value ≡ job) }
     ensures turned { MatchOption result
@@ -279,6 +280,7 @@ where
         (λ why. TurnedAway (L.closed listener.old) (L.closed listener.new) (Sp.faults spawner.old) (Sp.faults spawner.new + lacking (Err why)) (lacking (Err why))) }
     ensures counted { L.faults listener.old ≤ L.faults listener.new }
     ensures cause { IfErr result (λ why. why ≡ stops.Listener → Rose (L.faults listener.old) (L.faults listener.new)) }
+    ensures port { L.listens_on listener.new ≡ L.listens_on listener.old }
 {
     let Ok(link) = listener.accept() else {
         return Err(Stop::Listener);
@@ -325,6 +327,7 @@ where
     ensures starts { Starts (L.closed listener.old) (L.closed listener.new) (Sp.faults spawner.old) (Sp.faults spawner.new) (L.given listener.old) (L.given listener.new) (length tasks.old.items) (length tasks.new.items) result }
     ensures counted { L.faults listener.old ≤ L.faults listener.new }
     ensures cause { IfErr result (λ why. why ≡ stops.Listener → Rose (L.faults listener.old) (L.faults listener.new)) }
+    ensures port { L.listens_on listener.new ≡ L.listens_on listener.old }
 {
     match tasks.reserve(1) {
         Ok(()) => {
@@ -371,6 +374,7 @@ where
     ensures tasks { AllTasks tasks.new.items ⟦<NoteOf<ServeJob<R, Served<C>, Cl, G, L::Link>> as Promise<Finished<L::Link, Served<C>>>>⟧.kept_by (λ p. IsStarted (arc_value server.now.board) C.agents (W.draws words.new) L.Link.state p.0.value) }
     ensures starts { Starts (L.closed listener.old) (L.closed listener.new) (Sp.faults spawner.old) (Sp.faults spawner.new) (L.given listener.old) (L.given listener.new) (length tasks.old.items) (length tasks.new.items) result }
     ensures cause { IfErr result (λ why. why ≡ stops.Listener → Rose (L.faults listener.old) (L.faults listener.new)) }
+    ensures port { L.listens_on listener.new ≡ L.listens_on listener.old }
 {
     let mut n = 0;
     while n < count {
@@ -407,6 +411,7 @@ where
     ensures told { (seen : List SpecMark) → IsAmong seen (known pass.old).told → IsAmong seen (known pass.new).told }
     ensures given { L.given listener.new ≡ L.given listener.old }
     ensures faults { L.faults listener.new ≡ L.faults listener.old }
+    ensures port { L.listens_on listener.new ≡ L.listens_on listener.old }
     ensures served { ServesOne C.shows C.agents (W.draws words.now) (λ seen. IsAmong seen (known pass.new).told) (L.closed listener.old) (L.closed listener.new) result }
 {
     let Finished {
@@ -443,6 +448,7 @@ where
     ensures ours { IsOurs (arc_value server.now.board) pass.new }
     ensures given { L.given listener.new ≡ L.given listener.old }
     ensures faults { L.faults listener.new ≡ L.faults listener.old }
+    ensures port { L.listens_on listener.new ≡ L.listens_on listener.old }
     ensures served { AllServed C.shows C.agents (W.draws words.now) (λ seen. IsAmong seen (known pass.new).told) (L.closed listener.old) (L.closed listener.new) (length tasks.old.items) result }
 {
     let mut short = false;
@@ -488,6 +494,7 @@ where
     ensures links { HandsBack C.shows C.agents (W.draws words.new) (λ seen. IsFront seen (C.marks result.0)) (L.closed listener.old) (L.closed listener.new) (Sp.faults spawner.old) (Sp.faults spawner.new) (L.given listener.new) result.1 }
     ensures kept { AreKept (C.marks result.0) }
     ensures cause { IfErr result.1 (λ why. why ≡ stops.Listener → Rose (L.faults listener.old) (L.faults listener.new)) }
+    ensures port { L.listens_on listener.new ≡ L.listens_on listener.old }
 {
     let mut tasks: Vec<TaskOf<R, C, Cl, G, L::Link>> = Vec::new(server.alloc);
     let started = start_tasks(

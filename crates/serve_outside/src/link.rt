@@ -1,4 +1,4 @@
-ghost use Rattle.std.specs.Prelude.{◌≡◌, ℕ, ◌+◌, List, [], ◌∷◌, ◌++◌, false, IfOk, MatchResult};
+ghost use Rattle.std.specs.Prelude.{◌≡◌, ℕ, ◌+◌, List, [], ◌∷◌, ◌++◌, false, IfOk, MatchResult, Option, Some};
 ghost use Rattle.cat_outside.specs.Causes.{HasCause};
 ghost use Rattle.serve_outside.specs.Links.{LinkState, IsNew, Reads, Writes, Shuts};
 
@@ -37,8 +37,12 @@ pub trait Listener {
     /// What the connections told that were handed back, in order.
     ghost closed: { Self → List LinkState };
 
+    /// The port that was asked for, once it listens.
+    ghost listens_on: { Self → Option ℕ };
+
     /// Listens on 127.0.0.1. Port 0 is a free port.
     fn listen(&mut self, port: u16) -> Result<(), Failed>
+        ensures listens { MatchResult result (λ _. listens_on self.new ≡ Some port) (λ _. listens_on self.new ≡ listens_on self.old) }
         ensures cause { HasCause (faults self.old) (faults self.new) result }
         ensures given { given self.new ≡ given self.old }
         ensures closed { closed self.new ≡ closed self.old };
@@ -48,11 +52,13 @@ pub trait Listener {
         ensures new { IfOk result (λ link. IsNew (given self.new) (Self.Link.state link)) }
         ensures given { MatchResult result (λ _. given self.new ≡ given self.old + 1) (λ _. given self.new ≡ given self.old) }
         ensures cause { HasCause (faults self.old) (faults self.new) result }
-        ensures closed { closed self.new ≡ closed self.old };
+        ensures closed { closed self.new ≡ closed self.old }
+        ensures listens { listens_on self.new ≡ listens_on self.old };
 
     /// Takes a connection back. It takes no memory.
     fn close(&mut self, link: Self::Link)
         ensures closed { closed self.new ≡ closed self.old ++ Self.Link.state link ∷ [] }
         ensures given { given self.new ≡ given self.old }
-        ensures faults { faults self.new ≡ faults self.old };
+        ensures faults { faults self.new ≡ faults self.old }
+        ensures listens { listens_on self.new ≡ listens_on self.old };
 }

@@ -1,4 +1,4 @@
-ghost use Rattle.std.specs.Prelude.{◌≡◌, ◌↔◌, ◌⊎◌, ◌-◌, ◌+◌, ◌<◌, ◌≤◌, ◌^◌, ◌∷◌, ◌++◌, [], length, map, vec_len, IfOk, OnOk, OnErr, IsErr, IsTrue, MatchResult};
+ghost use Rattle.std.specs.Prelude.{◌≡◌, ◌↔◌, ◌⊎◌, ◌-◌, ◌+◌, ◌<◌, ◌≤◌, ◌^◌, ◌∷◌, ◌++◌, [], length, map, vec_len, IfOk, OnOk, OnErr, IsErr, IsTrue, MatchResult, None, Some};
 ghost use Rattle.std.specs.Vec.{vec_capacity};
 ghost use Rattle.cat_outside.specs.Causes.{counted, HasCause};
 ghost use Rattle.cat_outside.specs.InMemory.{is_listed};
@@ -19,6 +19,7 @@ pub struct MemListener {
     alloc: Global,
     scripts: Vec<Script>,
     failing: List<u64>,
+    port: Option<u16>,
     calls: u64,
     faults: u64,
     given: u64,
@@ -37,12 +38,14 @@ impl MemListener {
         ensures calls { IfOk result (λ l. (l.calls ≡ 0) × (l.faults ≡ 0)) }
         ensures scripts { IfOk result (λ l. (l.scripts ≡ scripts) × (l.failing ≡ failing)) }
         ensures room { IfOk result (λ l. (l.kept.items ≡ []) × (vec_len scripts ≤ vec_capacity l.kept)) }
+        ensures port { IfOk result (λ l. l.port ≡ None) }
     {
         let kept = Vec::with_capacity(alloc, scripts.len())?;
         Ok(MemListener {
             alloc,
             scripts,
             failing,
+            port: None,
             calls: 0,
             faults: 0,
             given: 0,
@@ -56,6 +59,13 @@ impl MemListener {
         ensures { result.now ≡ self.now.kept.items }
     {
         self.kept.as_slice()
+    }
+
+    /// The port that was asked for, once it listens.
+    pub fn port(&self) -> Option<u16>
+        ensures { result ≡ self.now.port }
+    {
+        self.port
     }
 
     // Counts a call that fails.
@@ -90,16 +100,20 @@ impl Listener for MemListener {
 
     ghost closed = { λ l. map (λ p. told p.0) l.closed.items };
 
-    fn listen(&mut self, _port: u16) -> Result<(), Failed>
+    ghost listens_on = { λ l. l.port };
+
+    fn listen(&mut self, port: u16) -> Result<(), Failed>
+        ensures listens { MatchResult result (λ _. self.new.port ≡ Some port) (λ _. self.new.port ≡ self.old.port) }
         ensures cause { HasCause self.old.faults self.new.faults result }
         ensures given { self.new.given ≡ self.old.given }
         ensures closed { map (λ p. told p.0) self.new.closed.items ≡ map (λ p. told p.0) self.old.closed.items }
         ensures fails { IsErr result ↔ IsTrue (is_listed self.old.failing (counted self.old.calls)) }
-        ensures rest { self.new ≡ record self.old { calls = counted self.old.calls; faults = self.new.faults } }
+        ensures rest { self.new ≡ record self.old { port = self.new.port; calls = counted self.old.calls; faults = self.new.faults } }
     {
         if self.is_failing() {
             return self.fail();
         }
+        self.port = Some(port);
         Ok(())
     }
 
@@ -108,6 +122,7 @@ impl Listener for MemListener {
         ensures given { MatchResult result (λ _. self.new.given ≡ self.old.given + 1) (λ _. self.new.given ≡ self.old.given) }
         ensures cause { HasCause self.old.faults self.new.faults result }
         ensures closed { map (λ p. told p.0) self.new.closed.items ≡ map (λ p. told p.0) self.old.closed.items }
+        ensures listens { self.new.port ≡ self.old.port }
 
         // The listed calls fail, and those for which there is no script; the others follow the next one.
         ensures listed { IsTrue (is_listed self.old.failing (counted self.old.calls)) → IsErr result }
@@ -127,6 +142,7 @@ impl Listener for MemListener {
         ensures closed { map (λ p. told p.0) self.new.closed.items ≡ map (λ p. told p.0) self.old.closed.items ++ told link ∷ [] }
         ensures given { self.new.given ≡ self.old.given }
         ensures faults { self.new.faults ≡ self.old.faults }
+        ensures listens { self.new.port ≡ self.old.port }
         ensures kept { vec_len self.old.kept < vec_capacity self.old.kept → self.new.kept.items ≡ self.old.kept.items ++ link ∷ [] }
         ensures room { vec_capacity self.new.kept ≡ vec_capacity self.old.kept }
     {

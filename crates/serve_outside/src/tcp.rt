@@ -74,6 +74,8 @@ impl Link for TcpLink {
 pub struct TcpLinks<R> {
     rt: R,
     listener: Option<TcpListener>,
+    // The port that it was told to listen on: for clauses alone.
+    port: Option<u16>,
     given: u64,
     faults: u64,
     closed: Log<TcpLink, ()>,
@@ -89,6 +91,7 @@ impl<R: Net<Listener = TcpListener, Stream = TcpStream>> TcpLinks<R> {
         TcpLinks {
             rt,
             listener: None,
+            port: None,
             given: 0,
             faults: 0,
             closed: Log::new(),
@@ -122,10 +125,13 @@ impl<R: Net<Listener = TcpListener, Stream = TcpStream>> Listener for TcpLinks<R
 
     ghost closed = { λ l. map (λ p. ⟦<TcpLink as Link>⟧.state p.0) l.closed.items };
 
+    ghost listens_on = { λ l. l.port };
+
     fn listen(&mut self, port: u16) -> Result<(), Failed> {
         match self.rt.bind(SocketAddr::from((Ipv4Addr::LOCALHOST, port))) {
             Ok(listener) => {
                 self.listener = Some(listener);
+                self.port = Some(port);
                 Ok(())
             }
             Err(_) => {

@@ -1,5 +1,5 @@
 -- How a server ends, from its parts.
-use Rattle.std.proofs.Common.{◌≡◌, ℕ, List, Option, Result, Ok, Err, reverse, refl, sym, ap, ◌∙◌, subst}
+use Rattle.std.proofs.Common.{◌≡◌, ℕ, List, Option, Some, Result, Ok, Err, reverse, refl, sym, ap, ◌∙◌, subst}
 use Rattle.std.specs.Prelude.{IfErr, IfOk, OnErr, OnOk}
 use Rattle.std.specs.Io.KnownBytes.{Appends}
 use Rattle.std.proofs.KnownBytes.{Appends-trans}
@@ -36,20 +36,21 @@ module _ (o : Options) (size : Size) (e : size ≡ size_of o) (draws : Option (L
   pub back_of : Serves size c → HandsBack Shows size.agents draws (λ seen. IsFront seen (reverse c.past)) closed₁ closed' faults faults' given ended → GivesBack o draws closed closed' faults faults' given
   back_of serves links = all_back c ended (serves_of serves) (links_of links)
 
-  pub served_of : (held mid held' : Option (List ℕ)) (r : Result Report Stop) → Serves size c
+  pub served_of : (port : Option ℕ) → port ≡ Some o.port → (held mid held' : Option (List ℕ)) (r : Result Report Stop) → Serves size c
       → HandsBack Shows size.agents draws (λ seen. IsFront seen (reverse c.past)) closed₁ closed' faults faults' given ended
       → OnOk ended (given ≡ o.connections) → Appends held mid (listening_text o.port) → OnOk r (Appends mid held' (last_text Whole c)) → IfOk r (IsReportOf c (events_in (reverse c.past))) → OnOk r (ended ≡ Ok tt)
-      → IfOk r (Served o draws closed closed' faults faults' given held held')
-  served_of held mid held' (Ok report) serves links count first text tells whole = record {
+      → IfOk r (Served o draws closed closed' faults faults' given port held held')
+  served_of port at held mid held' (Ok report) serves links count first text tells whole = record {
     reached = c;
     serves = serves_of serves;
     holds = holds (size_of o) c (serves_of serves);
     links = subst (λ (z : Result Unit loop.Stop). Serve o draws c closed closed' faults faults' given z) whole (links_of links);
     count = subst (λ (z : Result Unit loop.Stop). OnOk z (given ≡ o.connections)) whole count;
+    listens = at;
     written = Appends-trans held mid held' (listening_text o.port) (last_text Whole c) first text;
     tells = tells;
   }
-  served_of held mid held' (Err why) serves links count first text tells whole = tt
+  served_of port at held mid held' (Err why) serves links count first text tells whole = tt
 
   pub front_of : (held mid held' : Option (List ℕ)) (r : Result Report Stop) → Serves size c → Appends held mid (listening_text o.port) → OnErr r (WritesPart mid held' (last_text Whole c)) → OnErr r (WritesFront o held held')
   front_of held mid held' (Ok report) serves first part = tt

@@ -1,5 +1,5 @@
 -- What a server did.
-use Rattle.std.specs.Prelude.{◌≡◌, ℕ, ◌+◌, Bool, true, false, List, [], ◌∷◌, reverse, Option, Result, Ok, Err}
+use Rattle.std.specs.Prelude.{◌≡◌, ℕ, ◌+◌, Bool, true, false, List, [], ◌∷◌, reverse, Option, Some, Result, Ok, Err}
 use Rattle.std.specs.Io.KnownBytes.{Appends}
 use Rattle.cat_model.specs.declared.request.Draw.{Draw}
 use Rattle.cat_model.specs.declared.reply.Mark.{Mark}
@@ -45,14 +45,15 @@ abbrev pub Serve : Options → Option (List Draw) → Cluster → List LinkState
 Serve options draws c closed closed' faults faults' given result =
     HandsBack Shows options.agents draws (λ seen. IsFront seen (reverse c.past)) closed closed' faults faults' given result
 
--- Status 0: so many connections were served as asked, by a cluster of which all that must holds, and this is reported of
--- it.
-pub record Served (options : Options) (draws : Option (List Draw)) (closed closed' : List LinkState) (faults faults' given : ℕ) (held held' : Option (List ℕ)) (report : Report) : Type 0 where
+-- Status 0: so many connections were served at the port as asked, by a cluster of which all that must holds, and this is
+-- reported of it.
+pub record Served (options : Options) (draws : Option (List Draw)) (closed closed' : List LinkState) (faults faults' given : ℕ) (port : Option ℕ) (held held' : Option (List ℕ)) (report : Report) : Type 0 where
   pub reached : Cluster
   pub serves : Serves (size_of options) reached
   pub holds : Holds reached
   pub links : Serve options draws reached closed closed' faults faults' given (Ok tt)
   pub count : given ≡ options.connections
+  pub listens : port ≡ Some options.port
   pub written : Appends held held' (served_text options.port reached)
   pub tells : IsReportOf reached (events_in (reverse reached.past)) report
 

@@ -101,6 +101,7 @@ fn listen<Si: Sink, L: Listener>(
     ensures given { L.given listener.new ≡ L.given listener.old }
     ensures closed { L.closed listener.new ≡ L.closed listener.old }
     ensures faults { OnOk result (L.faults listener.new ≡ L.faults listener.old) }
+    ensures port { OnOk result (L.listens_on listener.new ≡ Some port) }
 {
     match listener.listen(port) {
         Ok(()) => say_listening(alloc, sink, port),
@@ -154,6 +155,7 @@ where
     ensures links { IfOk result (λ r. HandsBack C.shows C.agents (W.draws words.new) (λ seen. IsFront seen (C.marks r.0)) (L.closed listener.old) (L.closed listener.new) (Sp.faults spawner.old) (Sp.faults spawner.new) (L.given listener.new) r.1) }
     ensures count { IfOk result (λ r. OnOk r.1 (L.given listener.new ≡ options.now.connections)) }
     ensures cause { IfOk result (λ r. IfErr r.1 (λ why. why ≡ loop.Listener → Rose (L.faults listener.old) (L.faults listener.new))) }
+    ensures port { IfOk result (λ r. L.listens_on listener.new ≡ L.listens_on listener.old) }
     ensures none { OnErr result ((listener.new ≡ listener.old) × (words.new ≡ words.old) × (spawner.new ≡ spawner.old)) }
 {
     let now = machine.clock.now_ms();
@@ -278,7 +280,7 @@ where
     requires size { J.size ≡ spec.size_of options.now }
     requires bounds { IsWithin options.now }
     requires fresh { (L.given listener.old ≡ 0) × HasDrawn (W.draws words.old) 0 }
-    ensures served { IfOk result (spec.Served options.now (W.draws words.new) (L.closed listener.old) (L.closed listener.new) (Sp.faults spawner.old) (Sp.faults spawner.new) (L.given listener.new) (Si.held sink.old) (Si.held sink.new)) }
+    ensures served { IfOk result (spec.Served options.now (W.draws words.new) (L.closed listener.old) (L.closed listener.new) (Sp.faults spawner.old) (Sp.faults spawner.new) (L.given listener.new) (L.listens_on listener.new) (Si.held sink.old) (Si.held sink.new)) }
     ensures back { spec.GivesBack options.now (W.draws words.new) (L.closed listener.old) (L.closed listener.new) (Sp.faults spawner.old) (Sp.faults spawner.new) (L.given listener.new) }
     ensures part { OnErr result (spec.WritesFront options.now (Si.held sink.old) (Si.held sink.new)) }
     ensures lined { IfErr result (λ why. why ≡ Stop.Listener → spec.WritesWhole options.now (Si.held sink.old) (Si.held sink.new)) }
@@ -327,7 +329,7 @@ where
     L::Link: Send + 'static,
     requires bounds { IsWithin options.now }
     requires fresh { (L.given listener.old ≡ 0) × HasDrawn (W.draws words.old) 0 }
-    ensures served { IfOk result (spec.Served options.now (W.draws words.new) (L.closed listener.old) (L.closed listener.new) (Sp.faults spawner.old) (Sp.faults spawner.new) (L.given listener.new) (Si.held sink.old) (Si.held sink.new)) }
+    ensures served { IfOk result (spec.Served options.now (W.draws words.new) (L.closed listener.old) (L.closed listener.new) (Sp.faults spawner.old) (Sp.faults spawner.new) (L.given listener.new) (L.listens_on listener.new) (Si.held sink.old) (Si.held sink.new)) }
     ensures back { spec.GivesBack options.now (W.draws words.new) (L.closed listener.old) (L.closed listener.new) (Sp.faults spawner.old) (Sp.faults spawner.new) (L.given listener.new) }
     ensures part { OnErr result (spec.WritesFront options.now (Si.held sink.old) (Si.held sink.new)) }
     ensures lined { IfErr result (λ why. why ≡ Stop.Listener → spec.WritesWhole options.now (Si.held sink.old) (Si.held sink.new)) }

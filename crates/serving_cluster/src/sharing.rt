@@ -1,6 +1,7 @@
 //! The cluster as its users' turns see it.
 
 ghost use Rattle.std.specs.Prelude.{◌≡◌, IfOk, OnErr, reverse};
+ghost use Rattle.cluster_interface.specs.Taking.{DropsSyncs};
 ghost use Rattle.serve_loop.specs.Collects.{Collects};
 ghost use Rattle.serve_loop.specs.Marks.{AddsAsked, AddsCut, AddsQuiet, TicksBy, TicksNone};
 ghost use Rattle.serve_loop.specs.Turns.{MayAsk};
@@ -115,6 +116,13 @@ impl<J: ClusterSize, S: ClusterInterface> ServingCluster<J, S> {
         self.cluster.ask(alloc, ask.agent, &ask.asked, ask.draw)
     }
 
+    // Lets go of the outs of syncs, which nobody takes here.
+    fn drop_syncs(&mut self)
+        ensures { DropsSyncs self.old self.new }
+    {
+        self.cluster.drop_syncs();
+    }
+
     // Takes a request's reply, if it is there. No request is closed, since no server restarts.
     fn take_reply(&mut self, number: u64) -> Collected
         ensures { Collects Shows number result (reverse self.old.past) (reverse self.new.past) }
@@ -157,6 +165,7 @@ impl<J: ClusterSize, S: ClusterInterface> SharedCluster for ServingCluster<J, S>
     }
 
     fn collect(&mut self, number: u64) -> Collected {
+        self.drop_syncs();
         self.take_reply(number)
     }
 }

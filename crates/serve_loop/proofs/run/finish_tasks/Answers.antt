@@ -18,6 +18,7 @@ loop-task-init g c =
       omega arith,
       served_none g.C.SharedCluster.shows g.C.SharedCluster.agents draws knows (g.L.Listener.closed c.args.listener.now) (length c.args.tasks.now.items),
       c.requires.tasks,
+      refl,
     )
 
 pub finish_one-one-requires-clause-kept : goal.finish_one-one-requires-clause-kept
@@ -35,7 +36,7 @@ finish_one-one-requires-clause-started g c κs within =
 pub loop-task-preserved : goal.loop-task-preserved
 loop-task-preserved g c =
     let shows = g.C.SharedCluster.shows in let agents = g.C.SharedCluster.agents in let draws = g.W.Words.draws c.args.words.now in
-    let given = g.L.Listener.given in let faults = g.L.Listener.faults in
+    let given = g.L.Listener.given in let faults = g.L.Listener.faults in let port = g.L.Listener.listens_on in
     let xs = c.pop.new.self.items in let ys = c.loop-task.tasks.items in let x = c.in-Some.task in let are = c.in-Some.ensures.items in let i = c.loop-task.invariant in
     let fewer = below_last xs ys x are in (
       c.finish_one-one.ensures.ours,
@@ -45,4 +46,5 @@ loop-task-preserved g c =
       served_pop shows agents draws (λ seen. IsAmong seen c.loop-task.pass.seat.me.0.told) (λ seen. IsAmong seen c.finish_one-one.new.pass.seat.me.0.told) c.finish_one-one.ensures.told (g.L.Listener.closed c.args.listener.now) (g.L.Listener.closed c.loop-task.listener) (g.L.Listener.closed c.finish_one-one.new.listener)
           (length c.args.tasks.now.items) c.loop-task.short c.finish_one-one.result c.either-short.result xs ys x are i.3 i.4 c.finish_one-one.ensures.served c.either-short.ensures,
       tasks_before xs ys x (λ p d. HasEnded shows g.L.Link.Link.state p.0.value d) (λ p. IsStarted (arc_value c.args.server.now.board) agents draws g.L.Link.Link.state p.0.value) are i.5,
+      ◌∙◌ {a = port c.finish_one-one.new.listener} c.finish_one-one.ensures.port i.6,
     )

@@ -17,6 +17,7 @@ invariant-loop-n g l =
     × AllTasks l.tasks.items
     (λ p d. HasEnded g.C.SharedCluster.shows g.L.Link.Link.state p.0.value d)
     (λ p. IsStarted (arc_value l.server.board) g.C.SharedCluster.agents (g.W.Words.draws l.words) g.L.Link.Link.state p.0.value)
+    × (g.L.Listener.listens_on l.listener ≡ g.L.Listener.listens_on l.fn.listener)
 
 abbrev pub decreases-loop-n : goal.decreases-loop-n
 decreases-loop-n g l = l.count - l.n
