@@ -1,23 +1,22 @@
 //! A server over TCP and threads, and its clients, all at once.
 
-use cat_model::{Bytes, List};
-use cat_outside::{MemSink, MemSource};
-use catalog_top::{Machine, run};
-use serve_outside::{MachineClock, SeededWords, SleepGate, TcpLinks, ThreadSpawner};
+use crate::over_tcp::{FOUND, connect, free_port, hears, serve};
 use std::alloc::Global;
 use std::io::{Read, Write};
-use std::net::{Ipv4Addr, Net, Shutdown, SocketAddr, TcpListener, TcpStream};
+use std::net::{Net, Shutdown, TcpListener, TcpStream};
 use std::process::Abort;
 use std::sync::Wait;
 use std::test::Fail;
 use std::thread::Threads;
-use std::time::Duration;
 use std::{thread, time};
 
 // How many clients put and get keys, and how many keys each.
 const CLIENTS: u32 = 8;
 
 const KEYS: u32 = 1000;
+
+// How many connections all clients make.
+const CONNECTIONS: u32 = 12;
 
 // What goes on at once: the server, and its clients.
 #[derive(Clone, Copy, Drop)]
@@ -33,54 +32,6 @@ enum Part {
     // Ends in the midst of a body, which nobody finds later.
     EndsEarly,
 }
-
-// The address of a port of 127.0.0.1.
-fn local(port: u16) -> SocketAddr {
-    SocketAddr::from((Ipv4Addr::LOCALHOST, port))
-}
-
-// A connection to the server, which is waited for ten seconds.
-fn connect<R: time::Clock + Net<Listener = TcpListener, Stream = TcpStream>>(
-    rt: &R,
-    port: u16,
-) -> Option<TcpStream> {
-    for _ in 0..1000 {
-        if let Ok(stream) = TcpStream::connect(rt, local(port)) {
-            return Some(stream);
-        }
-        thread::sleep(rt, Duration::from_millis(10));
-    }
-    None
-}
-
-// The most pieces in which a reply comes, were each a byte.
-const MOST_PIECES: u32 = 512;
-
-// Whether a reply comes with this front and this end. At most so many bytes are read at once, so that one byte reads
-// nothing of the next reply.
-fn hears(
-    alloc: Global,
-    stream: &mut TcpStream,
-    most: usize,
-    front: &[u8],
-    end: &[u8],
-) -> Option<bool> {
-    let mut got: Vec<u8> = Vec::new(alloc);
-    let mut room = [0u8; 512];
-    for _ in 0..MOST_PIECES {
-        if got.as_slice().ends_with(end) {
-            return Some(got.as_slice().starts_with(front));
-        }
-        let count = stream.read(&mut room[..most.min(512)]).ok()?;
-        if count == 0 {
-            return Some(false);
-        }
-        got.extend_from_slice(&room[..count]).ok()?;
-    }
-    Some(false)
-}
-
-const FOUND: &[u8] = b"HTTP/1.1 200 OK\r\n";
 
 const NOT_FOUND: &[u8] = b"HTTP/1.1 404 Not Found\r\n";
 
@@ -148,40 +99,6 @@ fn find_nothing(alloc: Global, mut stream: TcpStream) -> Option<bool> {
     hears(alloc, &mut stream, 512, NOT_FOUND, b"\r\n\r\n")
 }
 
-// Whether a server of three servers and two agents serves the clients' twelve connections to their end.
-fn serve<
-    R: Threads
-        + Wait
-        + time::Clock
-        + Net<Listener = TcpListener, Stream = TcpStream>
-        + Copy
-        + Send
-        + Drop
-        + 'static,
->(rt: R, alloc: Global, port: u16) -> Option<bool> {
-    let text = format!(in alloc;
-        "serve --servers 3 --agents 2 --port {port} --connections 12"
-    ).ok()?;
-    let words: Vec<&str> = text.as_str().split(' ').collect(alloc).ok()?;
-    let machine = Machine {
-        rt,
-        alloc,
-        clock: MachineClock::new(rt),
-        gate: SleepGate::new(rt),
-    };
-    let mut sink = MemSink::new(alloc, List::new(alloc));
-    let outcome = run(
-        machine,
-        &words,
-        &mut MemSource::new(Bytes::new(alloc, b"").ok()?, List::new(alloc)),
-        &mut sink,
-        &mut TcpLinks::new(rt),
-        &mut SeededWords::new(&rt),
-        &mut ThreadSpawner::new(),
-    );
-    Some(outcome.status == 0 && sink.bytes().ends_with(b" open 0\n"))
-}
-
 impl Part {
     // Whether all went as it should. It is none where a connection fails, or memory is not there.
     fn play<
@@ -195,7 +112,7 @@ impl Part {
             + 'static,
     >(self, rt: R, alloc: Global, port: u16) -> Option<bool> {
         match self {
-            Part::Serves => serve(rt, alloc, port),
+            Part::Serves => serve(rt, alloc, port, CONNECTIONS),
             Part::PutsAndGets { number } => { put_and_get_all(alloc, connect(&rt, port)?, number) }
             Part::SendsBytes => send_bytes(alloc, connect(&rt, port)?),
             Part::SendsTwo => send_two(alloc, connect(&rt, port)?),
@@ -204,12 +121,6 @@ impl Part {
             ),
         }
     }
-}
-
-// A port on which nothing listens.
-fn free_port<R: Net<Listener = TcpListener, Stream = TcpStream>>(rt: &R) -> Option<u16> {
-    let listener = rt.bind(local(0)).ok()?;
-    Some(listener.local_addr().ok()?.port())
 }
 
 #[test]

@@ -1,0 +1,107 @@
+//! What tests of a server over TCP have in common.
+
+use cat_model::{Bytes, List};
+use cat_outside::{MemSink, MemSource};
+use catalog_top::{Machine, run};
+use serve_outside::{MachineClock, SeededWords, SleepGate, TcpLinks, ThreadSpawner};
+use std::alloc::Global;
+use std::io::Read;
+use std::net::{Ipv4Addr, Net, SocketAddr, TcpListener, TcpStream};
+use std::sync::Wait;
+use std::thread::Threads;
+use std::time::Duration;
+use std::{thread, time};
+
+// The address of a port of 127.0.0.1.
+fn local(port: u16) -> SocketAddr {
+    SocketAddr::from((Ipv4Addr::LOCALHOST, port))
+}
+
+// A connection to the server, which is waited for ten seconds.
+pub fn connect<R: time::Clock + Net<Listener = TcpListener, Stream = TcpStream>>(
+    rt: &R,
+    port: u16,
+) -> Option<TcpStream> {
+    for _ in 0..1000 {
+        if let Ok(stream) = TcpStream::connect(rt, local(port)) {
+            return Some(stream);
+        }
+        thread::sleep(rt, Duration::from_millis(10));
+    }
+    None
+}
+
+// The most pieces in which a reply comes, were each a byte.
+const MOST_PIECES: u32 = 512;
+
+// The reply that comes, up to this end or to the end of the connection. At most so many bytes are read at once, so that
+// one byte reads nothing of the next reply.
+pub fn hear(alloc: Global, stream: &mut TcpStream, most: usize, end: &[u8]) -> Option<Vec<u8>> {
+    let mut got: Vec<u8> = Vec::new(alloc);
+    let mut room = [0u8; 512];
+    for _ in 0..MOST_PIECES {
+        if got.as_slice().ends_with(end) {
+            return Some(got);
+        }
+        let count = stream.read(&mut room[..most.min(512)]).ok()?;
+        if count == 0 {
+            return Some(got);
+        }
+        got.extend_from_slice(&room[..count]).ok()?;
+    }
+    Some(got)
+}
+
+// Whether a reply comes with this front and this end.
+pub fn hears(
+    alloc: Global,
+    stream: &mut TcpStream,
+    most: usize,
+    front: &[u8],
+    end: &[u8],
+) -> Option<bool> {
+    let got = hear(alloc, stream, most, end)?;
+    Some(got.as_slice().starts_with(front) && got.as_slice().ends_with(end))
+}
+
+pub const FOUND: &[u8] = b"HTTP/1.1 200 OK\r\n";
+
+// Whether a server of three servers and two agents serves so many connections to their end.
+pub fn serve<
+    R: Threads
+        + Wait
+        + time::Clock
+        + Net<Listener = TcpListener, Stream = TcpStream>
+        + Copy
+        + Send
+        + Drop
+        + 'static,
+>(rt: R, alloc: Global, port: u16, connections: u32) -> Option<bool> {
+    let text = format!(in alloc;
+        "serve --servers 3 --agents 2 --port {port} --connections {connections}"
+    ).ok()?;
+    let words: Vec<&str> = text.as_str().split(' ').collect(alloc).ok()?;
+    let machine = Machine {
+        rt,
+        alloc,
+        clock: MachineClock::new(rt),
+        gate: SleepGate::new(rt),
+    };
+    let mut sink = MemSink::new(alloc, List::new(alloc));
+    let outcome = run(
+        machine,
+        &words,
+        &mut MemSource::new(Bytes::new(alloc, b"").ok()?, List::new(alloc)),
+        &mut sink,
+        &mut TcpLinks::new(rt),
+        &mut SeededWords::new(&rt),
+        &mut ThreadSpawner::new(),
+    );
+    Some(outcome.status == 0 && sink.bytes().ends_with(b" open 0\n"))
+}
+
+// A port on which nothing listens.
+pub fn free_port<R: Net<Listener = TcpListener, Stream = TcpStream>>(rt: &R) -> Option<u16> {
+    let listener = rt.bind(local(0)).ok()?;
+    Some(listener.local_addr().ok()?.port())
+}
