@@ -36,7 +36,7 @@ use Rattle.office_rules.specs.Offices.{Office, renew_in}
 use Rattle.cluster_servers.specs.Servers.{Servers, officed}
 use Rattle.cluster_parts.proofs.Acts.{stands_officed}
 use Rattle.cluster_parts.proofs.Carried.{all_more}
-use Rattle.cluster.proofs.Kept.{answer_stands}
+use Rattle.cluster_parts.proofs.Kept.{answer_stands}
 use Rattle.cluster.proofs.Notes.{come_made, joined_placed, numbers_by}
 use Rattle.cluster.proofs.Taken.{delayed_as_asked}
 use Rattle.agent_rules.specs.Agents.{Agent}
@@ -102,7 +102,7 @@ module _ (gs : List Agent) (wt : Watching) where
 
   pub refusal_stands : (w : World) (servers : List Server) (r new : Requests) (number : ℕ) (why : Refusal) → Stands w servers r → new ≡ used (answered_with number (Refused why) false 0 (Says why) r) → Stands w servers new
   refusal_stands w servers r new number why s e =
-      let a = answer_stands gs wt w servers r number (Refused why) false 0 (Says why) s in
+      let a = answer_stands wt w servers r number (Refused why) false 0 (Says why) s in
       subst (Stands w servers) (sym e) (record { reached = a.reached; some = a.some; count = a.count; watching = a.watching; sound = a.sound; joined = a.joined; proposed = a.proposed; ascends = a.ascends; held = a.held })
 
   pub unready_handles : (w : World) (servers : List Server) (r r' : Requests) (c : Cluster) (i agent : ℕ) (asked : Asked) (draw : Draw) (number term applied : ℕ) → Comes w servers r c agent asked draw → (is_stale_read asked || is_ready c i) ≡ false
@@ -175,7 +175,7 @@ module _ (gs : List Agent) (wt : Watching) where
 
   answer_leaves : (w : World) (servers : List Server) (r new : Requests) (number : ℕ) (kind : Kind) (content : Content) → Stands w servers r → new ≡ used (answered_with number kind false 0 content r) → Stands w servers new
   answer_leaves w servers r new number kind content s e =
-      let a = answer_stands gs wt w servers r number kind false 0 content s in
+      let a = answer_stands wt w servers r number kind false 0 content s in
       subst (Stands w servers) (sym e) (record { reached = a.reached; some = a.some; count = a.count; watching = a.watching; sound = a.sound; joined = a.joined; proposed = a.proposed; ascends = a.ascends; held = a.held })
 
   -- what a write shows that a lock delay refuses

@@ -17,7 +17,7 @@ use Rattle.open_requests.specs.declared.note.Note.TheVariants.{Marked}
 use Rattle.open_requests.specs.Requests.{Requests, answered_with, came_with, cluster_of as whole_of}
 use Rattle.cluster_parts.specs.Standing as standing
 use Rattle.cluster_parts.proofs.Carried.{all_more}
-use Rattle.cluster.proofs.Kept.{answer_stands, call_stands}
+use Rattle.cluster_parts.proofs.Kept.{answer_stands, call_stands}
 use Rattle.agent_rules.specs.Agents.{Agent}
 use Rattle.cluster_parts.specs.Watching.{Watching}
 
@@ -59,8 +59,8 @@ module _ (gs : List Agent) (wt : Watching) where
   pub refused_stands : {A B : Type 0} (w : World) (servers : List Server) (r new : Requests) (agent : ℕ) (asked : Asked) (draw : Draw) (why : Refusal) (result : Result A B) → Stands w servers r
       → OnOk result (new ≡ with_refused agent asked draw why r) → OnErr result (new ≡ r) → Stands w servers new
   refused_stands w servers r new agent asked draw why result s ok err =
-      call_stands gs wt w servers r (with_refused agent asked draw why r) new result s
-      (answer_stands gs wt w servers (came_with agent asked draw r) (r.asked + 1) (Refused why) false 0 (Says why) (came_stands w servers r agent asked draw s)) ok err
+      call_stands wt w servers r (with_refused agent asked draw why r) new result s
+      (answer_stands wt w servers (came_with agent asked draw r) (r.asked + 1) (Refused why) false 0 (Says why) (came_stands w servers r agent asked draw s)) ok err
 
   pub refused_done : {A B : Type 0} (w : World) (servers : List Server) (r new : Requests) (c : Cluster) (agent : ℕ) (asked : Asked) (draw : Draw) (why : Refusal) (result : Result A B) → cluster_of w servers r ≡ c
       → OnOk result (new ≡ with_refused agent asked draw why r) → OnOk result (cluster_of w servers new ≡ refused_new agent asked draw why c)

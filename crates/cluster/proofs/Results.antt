@@ -1,15 +1,12 @@
 -- What follows from a call that may lack memory, and from one that is told of a cluster's parts.
-use Rattle.std.proofs.Common.{◌≡◌, ℕ, Bool, List, Result, Ok, Err, OnOk, OnErr, subst}
+use Rattle.std.proofs.Common.{◌≡◌, ℕ, List, Result, Ok, Err, OnOk, OnErr, subst}
 use Rattle.agent_rules.specs.Agents.{Agent}
-use Rattle.cat_model.specs.declared.command.Command.{Command}
-use Rattle.cat_model.specs.declared.memory.Memory.{Memory}
 use Rattle.cat_model.specs.declared.request.Event.{Event}
 use Rattle.raft_model.specs.World.{World}
 use Rattle.cluster_rules.specs.Cluster.{Cluster, Server}
 use Rattle.cluster_turns.specs.declared.cut.Cut.{Cut}
 use Rattle.open_requests.specs.Requests.{Requests}
 use Rattle.cluster_parts.specs.Acting.{Acted}
-use Rattle.cluster_parts.specs.Proposing.{EndedOne}
 use Rattle.cluster_parts.specs.Watching.{Watching}
 
 -- what follows where it was done
@@ -33,7 +30,3 @@ err_both P Q (Err b) p q = (p, q)
 -- an act from the cluster that is seen so
 pub acted_as : {gs : List Agent} {wt : Watching} {i : ℕ} {made : Event} {d c : Cluster} {w' : World} {servers' : List Server} {r' : Requests} {result : Result Unit Cut} → d ≡ c → Acted gs wt i made d w' servers' r' result → Acted gs wt i made c w' servers' r' result
 acted_as {gs} {wt} {i} {made} {w' = w'} {servers' = servers'} {r' = r'} {result = result} e t = subst (λ (x : Cluster). Acted gs wt i made x w' servers' r' result) e t
-
--- a proposal from the cluster that is seen so
-pub ended_as : {gs : List Agent} {wt : Watching} {i : ℕ} {command : Command} {d c : Cluster} {w' : World} {servers : List Server} {r' : Requests} {result : Result Bool Memory} → d ≡ c → EndedOne gs wt i command d w' servers r' result → EndedOne gs wt i command c w' servers r' result
-ended_as {gs} {wt} {i} {command} {w' = w'} {servers = servers} {r' = r'} {result = result} e t = subst (λ (x : Cluster). EndedOne gs wt i command x w' servers r' result) e t

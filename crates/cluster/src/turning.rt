@@ -9,10 +9,12 @@ ghost use Rattle.cluster_turns.specs.Turns.{Turned};
 use crate::cluster::Cluster;
 use cat_model::Memory;
 use cat_outside::Keeper;
+use cluster_parts::turn;
 use std::alloc::Global;
 
 impl<K: Keeper + Drop> Cluster<K> {
     /// Does something that is due at a server, and says whether there was something. It lacks memory only where there is.
+    #[tactic(auto, using(crate::proofs::Numbers::is_number))]
     pub(crate) fn turn(&mut self, alloc: Global, server: u32) -> Result<bool, Memory>
         requires { IsServerNumber self.old server }
         ensures turned { IfOk result (λ was. Turned server was self.old self.new) }
@@ -20,18 +22,12 @@ impl<K: Keeper + Drop> Cluster<K> {
         ensures same { OnErr result (self.new ≡ self.old) }
         ensures behind { OnErr result (due server self.old ≢ None) }
     {
-        // That less is left follows from what holds between the parts.
-        let _ = &self.servers;
-        match self.find(alloc, server) {
-            Ok(Some(work)) => match self.perform(alloc, server, work) {
-                Ok(()) => Ok(true),
-                Err(Memory) => Err(Memory),
-            },
-            Ok(None) => {
-                self.rest(alloc, server);
-                Ok(false)
-            }
-            Err(Memory) => Err(Memory),
-        }
+        turn(
+            &mut self.servers,
+            &mut self.requests,
+            &mut self.watch,
+            alloc,
+            server,
+        )
     }
 }

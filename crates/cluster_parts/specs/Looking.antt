@@ -1,4 +1,4 @@
--- Which of the held requests has something due before the next position is applied.
+-- Which of the held requests has something due at a server, by the servers of the cluster.
 use Rattle.std.specs.Prelude.{◌≡◌, ℕ, ◌-◌, nat_le, nat_lt, ◌==◌, not, ◌&&◌, ◌||◌, if◌then◌else◌, Bool, true, false, List, length, take, Option, None, Some}
 use Rattle.std.specs.List.{find}
 use Rattle.cat_model.specs.declared.command.Command.{Command}
@@ -17,42 +17,51 @@ use Rattle.raft_model.specs.Rules.{is_confirmed}
 use Rattle.replica.specs.States.{last_reply}
 use Rattle.cluster_rules.specs.Lasting.{IsWrite}
 use Rattle.cluster_rules.specs.Replies.{Question, entered}
-use Rattle.cluster_rules.specs.Cluster.{Cluster, Pending, Stand, AtPlace, InRound, ForIndex, Ended, applied_of, clock_of, node_of}
+use Rattle.cluster_rules.specs.Cluster.{Cluster, Pending, Stand, AtPlace, InRound, ForIndex, Ended, clock_of, node_of, server_of}
 use Rattle.cluster_rules.specs.Due.{Work, Replies, Holds}
+use Rattle.cluster_servers.specs.Servers.{Servers}
+
+-- what a server has applied
+abbrev pub applied_at : Servers → ℕ → Log
+applied_at s i = (server_of s.servers i).applied
+
+-- the servers of a cluster
+abbrev pub servers_of : Cluster → Servers
+servers_of c = record { world = c.world; servers = c.servers }
 
 -- It was not looked for yet, or its time is over, or its index is above the one given.
-abbrev pub is_read_due : Cluster → ℕ → ℕ → Bool → Query → ℕ → Bool
-is_read_due c i deadline looked query least = not looked || (nat_le deadline (clock_of c.world i) || nat_lt least (index_of query (commands_of (applied_of c i))))
+abbrev pub is_read_due : Servers → ℕ → ℕ → Bool → Query → ℕ → Bool
+is_read_due s i deadline looked query least = not looked || (nat_le deadline (clock_of s.world i) || nat_lt least (index_of query (commands_of (applied_at s i))))
 
 -- What waits for an index is a read, or an execution, which waits for nothing.
-abbrev pub is_look_due : Cluster → ℕ → ℕ → Bool → Asked → Bool
-is_look_due c i deadline looked (Good (Read query mode least wait raw)) = is_read_due c i deadline looked query least
-is_look_due c i deadline looked (Good (Execute name limit mode)) = true
-is_look_due c i deadline looked other = false
+abbrev pub is_look_due : Servers → ℕ → ℕ → Bool → Asked → Bool
+is_look_due s i deadline looked (Good (Read query mode least wait raw)) = is_read_due s i deadline looked query least
+is_look_due s i deadline looked (Good (Execute name limit mode)) = true
+is_look_due s i deadline looked other = false
 
 -- By what it waits for.
-abbrev pub is_stand_due : Cluster → ℕ → Asked → Stand → Bool
-is_stand_due c i asked (Ended event) = true
-is_stand_due c i asked (AtPlace index term) = nat_le index (length (applied_of c i))
-is_stand_due c i asked (InRound round deadline) = nat_lt round.term (node_of c.world i).term
-is_stand_due c i asked (ForIndex deadline looked) = is_look_due c i deadline looked asked
+abbrev pub is_stand_due : Servers → ℕ → Asked → Stand → Bool
+is_stand_due s i asked (Ended event) = true
+is_stand_due s i asked (AtPlace index term) = nat_le index (length (applied_at s i))
+is_stand_due s i asked (InRound round deadline) = nat_lt round.term (node_of s.world i).term
+is_stand_due s i asked (ForIndex deadline looked) = is_look_due s i deadline looked asked
 
 -- A halted server lets go of all that it holds.
-abbrev pub is_early : Cluster → ℕ → Pending → Bool
-is_early c i h = h.server == i && ((node_of c.world i).halted || is_stand_due c i h.question.asked h.stand)
+abbrev pub is_early : Servers → ℕ → Pending → Bool
+is_early s i h = h.server == i && ((node_of s.world i).halted || is_stand_due s i h.question.asked h.stand)
 
 -- A round that is confirmed at a server that runs, with its commit applied.
-abbrev pub is_round_over : Cluster → ℕ → Round → Bool
-is_round_over c i round = not (node_of c.world i).halted && (is_confirmed (node_of c.world i) round && nat_le round.commit (length (applied_of c i)))
+abbrev pub is_round_over : Servers → ℕ → Round → Bool
+is_round_over s i round = not (node_of s.world i).halted && (is_confirmed (node_of s.world i) round && nat_le round.commit (length (applied_at s i)))
 
 -- what waits for a round that is over
-abbrev pub is_stand_late : Cluster → ℕ → Stand → Bool
-is_stand_late c i (InRound round deadline) = is_round_over c i round
-is_stand_late c i other = false
+abbrev pub is_stand_late : Servers → ℕ → Stand → Bool
+is_stand_late s i (InRound round deadline) = is_round_over s i round
+is_stand_late s i other = false
 
 -- the same of a held request of server i
-abbrev pub is_late : Cluster → ℕ → Pending → Bool
-is_late c i h = h.server == i && is_stand_late c i h.stand
+abbrev pub is_late : Servers → ℕ → Pending → Bool
+is_late s i h = h.server == i && is_stand_late s i h.stand
 
 -- of the held request with this number, if there is one
 abbrev pub test_held : (Pending → Bool) → Option Pending → Bool
@@ -62,11 +71,11 @@ test_held test (Some h) = test h
 abbrev pub numbered_in : ℕ → List Pending → Option Pending
 numbered_in number held = find (λ h. h.question.number == number) held
 
-abbrev pub is_number_early : Cluster → ℕ → ℕ → Bool
-is_number_early c i number = test_held (is_early c i) (numbered_in number c.held)
+abbrev pub is_number_early : Servers → List Pending → (server number : ℕ) → Bool
+is_number_early s held i number = test_held (is_early s i) (numbered_in number held)
 
-abbrev pub is_number_late : Cluster → ℕ → ℕ → Bool
-is_number_late c i number = test_held (is_late c i) (numbered_in number c.held)
+abbrev pub is_number_late : Servers → List Pending → (server number : ℕ) → Bool
+is_number_late s held i number = test_held (is_late s i) (numbered_in number held)
 
 -- A new query whose index is not above the one given waits, or is refused where 4,096 wait already.
 abbrev pub waits_on : Pending → ℕ → ℕ → Option Work

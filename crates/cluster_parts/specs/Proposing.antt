@@ -1,4 +1,4 @@
--- What becomes of a command that a server proposes for no request.
+-- What becomes of commands that a server proposes for no request.
 use Rattle.std.specs.Prelude.{◌≡◌, ℕ, ◌⊎◌, Bool, true, false, List, IfOk, OnErr, Result, Ok, Err}
 use Rattle.agent_rules.specs.Agents.{Agent}
 use Rattle.cat_model.specs.declared.command.Command.{Command}
@@ -9,10 +9,12 @@ use Rattle.raft_model.specs.World.{World, Acts as NodeActs}
 use Rattle.raft_node.specs.declared.fault.ProposeFault.{ProposeFault}
 use Rattle.raft_node.specs.declared.fault.ProposeFault.TheVariants as fault
 use Rattle.cluster_rules.specs.Cluster.{Cluster, Server, node_of, runs_leading}
+use Rattle.cluster_rules.specs.Proposals.{Proposals}
 use Rattle.cluster_rules.specs.Requests.{moved}
 use Rattle.cluster_servers.specs.Servers.{Servers}
 use Rattle.open_requests.specs.Requests.{Requests, cluster_of}
 use Rattle.cluster_parts.specs.declared.moving.Seen.{Seen}
+use Rattle.cluster_parts.specs.declared.proposing.Proposed.{Proposed}
 use Rattle.cluster_parts.specs.Moving.{MarksStep}
 use Rattle.cluster_parts.specs.Standing.{Stands}
 use Rattle.cluster_parts.specs.Watching.{Watching}
@@ -59,3 +61,13 @@ pub record EndedOne (agents : List Agent) (watch : Watching) (i : ℕ) (command 
 abbrev pub ProposesOne : ℕ → Command → (old : Servers) → Requests → (new : Servers) → Requests → Result Bool Memory → Type 0
 ProposesOne i command old r new r' result =
     (agents : List Agent) (watch : Watching) → Stands watch old.world old.servers r → EndedOne agents watch i command (cluster_of old.world old.servers agents r) new.world new.servers r' result
+
+-- From this cluster on commands were proposed, so many were entered, and the parts stand.
+pub record EndedAll (agents : List Agent) (watch : Watching) (i : ℕ) (commands : List Command) (c : Cluster) (w' : World) (servers : List Server) (r' : Requests) (result : Proposed) : Type 0 where
+  pub proposals : Proposals i commands c result.entered (cluster_of w' servers agents r') result.whole
+  pub stands : Stands watch w' servers r'
+
+-- From parts that stand server i proposes these commands so, whatever agents there are, and whichever requests are awake.
+abbrev pub ProposesAll : ℕ → List Command → (old : Servers) → Requests → (new : Servers) → Requests → Proposed → Type 0
+ProposesAll i commands old r new r' result =
+    (agents : List Agent) (watch : Watching) → Stands watch old.world old.servers r → EndedAll agents watch i commands (cluster_of old.world old.servers agents r) new.world new.servers r' result

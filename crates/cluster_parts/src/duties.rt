@@ -3,10 +3,11 @@
 ghost use Rattle.std.specs.Prelude.{◌≡◌, ℕ, true};
 ghost use Rattle.cat_model.specs.declared.reply.Kind.TheVariants as kinds;
 ghost use Rattle.cat_model.specs.declared.reply.Refusal.TheVariants as refusals;
+ghost use Rattle.raft_model.specs.Log.{Log};
 ghost use Rattle.cluster_rules.specs.Cluster as rules;
 ghost use Rattle.cluster_rules.specs.Due.{Replies, late_work};
 ghost use Rattle.cluster_rules.specs.Replies as replies;
-ghost use Rattle.cluster_parts.specs.Looking.{is_late};
+ghost use Rattle.cluster_parts.specs.Looking.{is_late, servers_of};
 ghost use Rattle.cluster_parts.specs.Working.{IsFound, IsWork};
 
 use crate::work::Work;
@@ -16,7 +17,7 @@ use open_requests::{Content, Pending, Stand};
 /// A halted server refuses a request.
 #[tactic(auto, unfolding(cluster_rules::specs::Replies::shown))]
 pub fn halted(number: u64, server: u32) -> Work
-    ensures { (c : rules.Cluster) (q : replies.Question) → number ≡ q.number → IsWork c server result (Replies q (kinds.Refused (refusals.Halted server))) }
+    ensures { (log : Log) (q : replies.Question) → number ≡ q.number → IsWork log result (Replies q (kinds.Refused (refusals.Halted server))) }
 {
     Work::Answer {
         number,
@@ -28,7 +29,7 @@ pub fn halted(number: u64, server: u32) -> Work
 /// Another entry stands where a write was proposed, or another term came while a read waited for its round.
 #[tactic(auto, unfolding(cluster_rules::specs::Replies::shown))]
 pub fn lost(number: u64, entered: u64, found: u64) -> Work
-    ensures { (c : rules.Cluster) (i : ℕ) (q : replies.Question) → number ≡ q.number → IsWork c i result (Replies q (kinds.Refused (refusals.Lost entered found))) }
+    ensures { (log : Log) (q : replies.Question) → number ≡ q.number → IsWork log result (Replies q (kinds.Refused (refusals.Lost entered found))) }
 {
     Work::Answer {
         number,
@@ -40,7 +41,7 @@ pub fn lost(number: u64, entered: u64, found: u64) -> Work
 /// So many wait already.
 #[tactic(auto, unfolding(cluster_rules::specs::Replies::shown))]
 pub fn too_many(number: u64, waiting: u32) -> Work
-    ensures { (c : rules.Cluster) (i : ℕ) (q : replies.Question) → number ≡ q.number → IsWork c i result (Replies q (kinds.Refused (refusals.TooMany waiting))) }
+    ensures { (log : Log) (q : replies.Question) → number ≡ q.number → IsWork log result (Replies q (kinds.Refused (refusals.TooMany waiting))) }
 {
     Work::Answer {
         number,
@@ -51,7 +52,7 @@ pub fn too_many(number: u64, waiting: u32) -> Work
 
 /// A request whose round is over is looked for from now on.
 pub fn past_round(held: &Pending) -> Option<Work>
-    ensures { (c : rules.Cluster) (i : ℕ) → is_late c i held.now ≡ true → IsFound c i (late_work c i held.now) result }
+    ensures { (c : rules.Cluster) (i : ℕ) → is_late (servers_of c) i held.now ≡ true → IsFound (rules.applied_of c i) (late_work c i held.now) result }
 {
     match held.stand() {
         Stand::InRound { deadline, .. } => Some(Work::Hold {

@@ -1,9 +1,11 @@
-//! What becomes of a command that a server proposes for no request.
+//! What becomes of commands that a server proposes for no request.
 
 ghost use Rattle.std.specs.Prelude.{◌≡◌, ◌≤◌, length, true};
 ghost use Rattle.raft_model.specs.World.{IsReached};
 ghost use Rattle.cluster_rules.specs.Cluster.{runs_leading};
-ghost use Rattle.cluster_parts.specs.Proposing.{EndsProposal, ProposesOne};
+ghost use Rattle.cluster_parts.specs.Proposing.{EndsProposal, ProposesAll, ProposesOne};
+ghost use Rattle.cluster_parts.specs.Standing.{Stands};
+ghost use Rattle.cluster_parts.specs.Watching.{Watching};
 
 use crate::copying::copy_command;
 use crate::moving::{Seen, mark_step, see};
@@ -50,8 +52,8 @@ fn end_proposal(
     }
 }
 
-/// Proposes a command at a server that leads, for no request, and says whether it was entered.
-pub fn propose_one<K: Keeper + Drop>(
+// Proposes a command at a server that leads, for no request, and says whether it was entered.
+fn propose_one<K: Keeper + Drop>(
     servers: &mut Servers<K>,
     requests: &mut Requests,
     alloc: Global,
@@ -73,4 +75,45 @@ pub fn propose_one<K: Keeper + Drop>(
     let proposed = servers.propose(alloc, server, 0, copy);
     let now = see(servers, server);
     end_proposal(requests, server, before, now, proposed)
+}
+
+/// Proposes commands at a server that leads, in their order and for no request, up to the first that the log has no
+/// room for or at which the server's store fails.
+pub fn propose_all<K: Keeper + Drop>(
+    servers: &mut Servers<K>,
+    requests: &mut Requests,
+    alloc: Global,
+    server: u32,
+    commands: &[Command],
+) -> Proposed
+    requires first { 1 ≤ server }
+    requires last { server ≤ length servers.old.servers }
+    requires stands { (watch : Watching) × Stands watch servers.old.world servers.old.servers requests.old }
+    requires leads { runs_leading servers.old.world server ≡ true }
+    ensures proposals { ProposesAll server commands.now servers.old requests.old servers.new requests.new result }
+    ensures count { result.entered ≤ length commands.now }
+    ensures servers { servers.new.servers ≡ servers.old.servers }
+{
+    let mut entered = 0;
+    for command in commands {
+        match propose_one(servers, requests, alloc, server, command) {
+            Ok(true) => entered += 1,
+            Ok(false) => {
+                return Proposed {
+                    entered,
+                    whole: true,
+                };
+            }
+            Err(Memory) => {
+                return Proposed {
+                    entered,
+                    whole: false,
+                };
+            }
+        }
+    }
+    Proposed {
+        entered,
+        whole: true,
+    }
 }

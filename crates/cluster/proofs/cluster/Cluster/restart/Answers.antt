@@ -2,7 +2,7 @@ use Rattle.std.proofs.Common.{List, subst, arith}
 use Rattle.cluster_rules.specs.Cluster.{Pending}
 use Rattle.cluster_parts.specs.Acting.{AreAwake}
 use Rattle.cluster.proofs.Results.{acted_as}
-use Rattle.cluster.proofs.Watched.{woken_stands}
+use Rattle.cluster_parts.proofs.Watched.{woken_stands}
 use Rattle.cluster.proofs.cluster.Cluster.restart.Goals as goal
 
 pub invariant_of-self : goal.invariant_of-self

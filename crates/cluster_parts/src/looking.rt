@@ -1,0 +1,193 @@
+//! What is due at a server.
+
+ghost use Rattle.std.specs.Prelude.{◌≡◌, ◌≢◌, ◌≤◌, None, Some, false, true, IfOk, OnErr, is_some, length};
+ghost use Rattle.std.specs.List.{AllByRecursion as Each};
+ghost use Rattle.cat_model.specs.declared.reply.Kind.TheVariants as kinds;
+ghost use Rattle.raft_world.specs.Steps.{IsNumber};
+ghost use Rattle.request_rules.specs.Taken.{IsTakenAsked};
+ghost use Rattle.cluster_rules.specs.Cluster.{AtPlace, node_of, server_of};
+ghost use Rattle.cluster_rules.specs.Due.{Replies, due, early_stand, early_work, landed};
+ghost use Rattle.cluster_rules.specs.Sound.{ServerIsSound};
+ghost use Rattle.cluster_parts.specs.Looking.{IsAppliedLast, applied_at, is_early, is_number_early};
+ghost use Rattle.cluster_parts.specs.Standing.{IsAwaited, Stands};
+ghost use Rattle.cluster_parts.specs.Watching.{Watching as SpecWatching};
+ghost use Rattle.cluster_parts.specs.Working.{Finds, IsFound, IsWork, whole};
+
+use crate::duties::{halted, lost};
+use crate::early::{early_number, is_halted};
+use crate::late::late_due;
+use crate::reading::read_due;
+use crate::replying::written;
+use crate::waiting::is_ended;
+use crate::watching::Watching;
+use crate::work::Work;
+use cat_model::{Kind, Memory};
+use cat_outside::Keeper;
+use cluster_servers::Servers;
+use open_requests::{Pending, Question, Requests, Stand};
+use std::alloc::Global;
+
+// A write stands where it was proposed, and was applied last: the last reply is its own.
+#[tactic(auto, using(crate::proofs::LastReply::written_shown))]
+fn acked<K: Keeper>(
+    servers: &Servers<K>,
+    alloc: Global,
+    server: u32,
+    question: &Question,
+    position: u64,
+) -> Result<Work, Memory>
+    requires server { IsNumber server servers.now.world }
+    requires taken { IsTakenAsked question.now.asked }
+    requires last { IsAppliedLast question.now position (applied_at servers.now server) }
+    ensures { IfOk result (λ work. IsWork (applied_at servers.now server) work (Replies question.now (kinds.Acked position))) }
+{
+    match servers.reply(alloc, server)? {
+        Some(applied) => Ok(Work::Answer {
+            number: question.number(),
+            kind: Kind::Acked { position },
+            content: written(alloc, question, applied)?,
+        }),
+        None => unreachable!(),
+    }
+}
+
+// What is due of a request whose position is applied.
+fn write_due<K: Keeper>(
+    servers: &Servers<K>,
+    alloc: Global,
+    server: u32,
+    question: &Question,
+    index: u64,
+    term: u64,
+) -> Result<Work, Memory>
+    requires server { IsNumber server servers.now.world }
+    requires taken { IsTakenAsked question.now.asked }
+    requires sound { ServerIsSound servers.now.world.agreed (node_of servers.now.world server).commit (server_of servers.now.servers server) }
+    requires awaited { IsAwaited servers.now.world (length (applied_at servers.now server)) question.now (AtPlace index term) }
+    requires applied { index ≤ length (applied_at servers.now server) }
+    ensures { IfOk result (λ work. IsWork (applied_at servers.now server) work (Replies question.now (landed index term (applied_at servers.now server)))) }
+{
+    let found = servers.term_at(server, index);
+    if found == term {
+        acked(servers, alloc, server, question, index)
+    } else {
+        Ok(lost(question.number(), term, found))
+    }
+}
+
+// What is due of a held request by what it waits for.
+fn stand_due<K: Keeper>(
+    servers: &Servers<K>,
+    requests: &Requests,
+    alloc: Global,
+    server: u32,
+    held: &Pending,
+) -> Result<Work, Memory>
+    requires server { IsNumber server servers.now.world }
+    requires taken { IsTakenAsked held.now.question.asked }
+    requires sound { ServerIsSound servers.now.world.agreed (node_of servers.now.world server).commit (server_of servers.now.servers server) }
+    requires awaited { IsAwaited servers.now.world (length (applied_at servers.now server)) held.now.question held.now.stand }
+    requires early { is_some (early_stand (whole servers.now requests.now) server held.now held.now.stand) ≡ true }
+    ensures { IfOk result (λ work. IsFound (applied_at servers.now server) (early_stand (whole servers.now requests.now) server held.now held.now.stand) (Some work)) }
+{
+    match held.stand() {
+        Stand::Ended { event } => Ok(Work::Close {
+            number: held.number(),
+            event,
+        }),
+        Stand::AtPlace { index, term } => {
+            write_due(servers, alloc, server, held.question(), index, term)
+        }
+        Stand::ForIndex { deadline, looked } => {
+            read_due(servers, requests, alloc, server, held, deadline, looked)
+        }
+        Stand::InRound { round, .. } => {
+            let found = servers.node(server).term();
+            Ok(lost(held.number(), round.term, found))
+        }
+    }
+}
+
+// What is due of a held request before the next position is applied.
+fn early_due<K: Keeper>(
+    servers: &Servers<K>,
+    requests: &Requests,
+    alloc: Global,
+    server: u32,
+    held: &Pending,
+) -> Result<Work, Memory>
+    requires server { IsNumber server servers.now.world }
+    requires taken { IsTakenAsked held.now.question.asked }
+    requires sound { ServerIsSound servers.now.world.agreed (node_of servers.now.world server).commit (server_of servers.now.servers server) }
+    requires awaited { IsAwaited servers.now.world (length (applied_at servers.now server)) held.now.question held.now.stand }
+    requires early { is_some (early_work (whole servers.now requests.now) server held.now) ≡ true }
+    ensures { IfOk result (λ work. IsFound (applied_at servers.now server) (early_work (whole servers.now requests.now) server held.now) (Some work)) }
+{
+    if is_halted(servers, server) && !is_ended(held.stand()) {
+        Ok(halted(held.number(), server))
+    } else {
+        stand_due(servers, requests, alloc, server, held)
+    }
+}
+
+// What is due of the held request with this number.
+fn early_of<K: Keeper>(
+    servers: &Servers<K>,
+    requests: &Requests,
+    alloc: Global,
+    server: u32,
+    number: u64,
+) -> Result<Work, Memory>
+    requires server { IsNumber server servers.now.world }
+    requires stands { (watch : SpecWatching) × Stands watch servers.now.world servers.now.servers requests.now }
+    requires early { is_number_early servers.now requests.now.held server number ≡ true }
+    ensures found { IfOk result (λ work. Finds (whole servers.now requests.now) server (Some work)) }
+    ensures behind { OnErr result (due server (whole servers.now requests.now) ≢ None) }
+{
+    match requests.pending(number) {
+        Some(held) => early_due(servers, requests, alloc, server, held),
+        None => unreachable!(),
+    }
+}
+
+// The next position, where more is committed than applied, or a round that is confirmed once there is none.
+fn later_due<K: Keeper + Drop>(
+    servers: &Servers<K>,
+    requests: &Requests,
+    watch: &Watching,
+    server: u32,
+) -> Option<Work>
+    requires server { IsNumber server servers.now.world }
+    requires stands { Stands watch.now servers.now.world servers.now.servers requests.now }
+    requires none { Each (λ h. is_early servers.now server h ≡ false) requests.now.held }
+    ensures { Finds (whole servers.now requests.now) server result }
+{
+    if servers.has_next(server) {
+        Some(Work::Apply)
+    } else {
+        late_due(servers, requests, watch, server)
+    }
+}
+
+/// Something that is due at a server, if anything is. It lacks memory only where there is something.
+pub(crate) fn find<K: Keeper + Drop>(
+    servers: &Servers<K>,
+    requests: &Requests,
+    watch: &mut Watching,
+    alloc: Global,
+    server: u32,
+) -> Result<Option<Work>, Memory>
+    requires server { IsNumber server servers.now.world }
+    requires stands { Stands watch.old servers.now.world servers.now.servers requests.now }
+    ensures stands { Stands watch.new servers.now.world servers.now.servers requests.now }
+    ensures found { IfOk result (Finds (whole servers.now requests.now) server) }
+    ensures behind { OnErr result (due server (whole servers.now requests.now) ≢ None) }
+{
+    match early_number(servers, requests, watch, alloc, server) {
+        Some(number) => match early_of(servers, requests, alloc, server, number) {
+            Ok(work) => Ok(Some(work)),
+            Err(Memory) => Err(Memory),
+        },
+        None => Ok(later_due(servers, requests, watch, server)),
+    }
+}

@@ -1,0 +1,51 @@
+//! One turn of a server's making up.
+
+ghost use Rattle.std.specs.Prelude.{◌≡◌, ◌≢◌, ◌<◌, List, None, true, IfOk, OnErr};
+ghost use Rattle.agent_rules.specs.Agents.{Agent};
+ghost use Rattle.raft_world.specs.Steps.{IsNumber};
+ghost use Rattle.cluster_rules.specs.Due.{due};
+ghost use Rattle.cluster_rules.specs.Left.{left};
+ghost use Rattle.cluster_turns.specs.Turns.{Turned};
+ghost use Rattle.open_requests.specs.Requests.{cluster_of};
+ghost use Rattle.cluster_parts.specs.Standing.{Stands};
+ghost use Rattle.cluster_parts.specs.Working.{whole};
+
+use crate::looking::find;
+use crate::resting::rest;
+use crate::watching::Watching;
+use crate::working::perform;
+use cat_model::Memory;
+use cat_outside::Keeper;
+use cluster_servers::Servers;
+use open_requests::Requests;
+use std::alloc::Global;
+
+/// Does something that is due at a server, and says whether there was something. It lacks memory only where there is.
+pub fn turn<K: Keeper + Drop>(
+    servers: &mut Servers<K>,
+    requests: &mut Requests,
+    watch: &mut Watching,
+    alloc: Global,
+    server: u32,
+) -> Result<bool, Memory>
+    requires server { IsNumber server servers.old.world }
+    requires stands { Stands watch.old servers.old.world servers.old.servers requests.old }
+    ensures stands { Stands watch.new servers.new.world servers.new.servers requests.new }
+    ensures turned { (agents : List Agent) → IfOk result (λ was. Turned server was (cluster_of servers.old.world servers.old.servers agents requests.old) (cluster_of servers.new.world servers.new.servers agents requests.new)) }
+    ensures left { IfOk result (λ was. was ≡ true → left server (whole servers.new requests.new) < left server (whole servers.old requests.old)) }
+    ensures servers { OnErr result (servers.new ≡ servers.old) }
+    ensures requests { OnErr result (requests.new ≡ requests.old) }
+    ensures behind { OnErr result (due server (whole servers.old requests.old) ≢ None) }
+{
+    match find(servers, requests, watch, alloc, server) {
+        Ok(Some(work)) => match perform(servers, requests, watch, alloc, server, work) {
+            Ok(()) => Ok(true),
+            Err(Memory) => Err(Memory),
+        },
+        Ok(None) => {
+            rest(servers, requests, watch, alloc, server);
+            Ok(false)
+        }
+        Err(Memory) => Err(Memory),
+    }
+}
