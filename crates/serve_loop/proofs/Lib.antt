@@ -5,3 +5,4 @@ pub mod Written
 pub mod Exchanges
 pub mod Tasks
 pub mod Runs
+pub mod Complete

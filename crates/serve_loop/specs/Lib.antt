@@ -9,3 +9,4 @@ pub mod Stages
 pub mod Services
 pub mod Jobs
 pub mod Runs
+pub mod Complete

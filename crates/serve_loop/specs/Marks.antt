@@ -1,5 +1,5 @@
 -- What marks ask, take and answer, and what calls put behind them. Marks stand the first one first.
-use Rattle.std.specs.Prelude.{◌≡◌, ℕ, ◌<◌, ◌≤◌, List, [], ◌∷◌, ◌++◌, Option, Some, None}
+use Rattle.std.specs.Prelude.{◌≡◌, ◌⊎◌, ℕ, ◌+◌, ◌^◌, ◌<◌, ◌≤◌, true, List, [], ◌∷◌, ◌++◌, Option, Some, None}
 use Rattle.std.specs.List.{AllByRecursion}
 use Rattle.cat_model.specs.declared.request.Event.TheVariants as event
 use Rattle.cat_model.specs.declared.reply.Mark.{Mark}
@@ -71,6 +71,20 @@ pub record TicksBy (ms : ℕ) (old new : List Mark) : Type 0 where
   pub are : new ≡ old ++ rest
   pub once : EachOnce (numbers ticks rest)
   pub by_ms : AllByRecursion (λ n. n ≡ ms) (numbers ticks_by rest)
+
+-- Each of so many servers' clocks went on, but for those that would have passed their end, 2 ^ 53 milliseconds. `clock` tells
+-- how they stood before.
+pub record TicksAll (servers : ℕ) (clock : ℕ → ℕ) (ms : ℕ) (old new : List Mark) : Type 0 where
+  pub rest : List Mark
+  pub are : new ≡ old ++ rest
+  pub each : (s : ℕ) → 0 < s → s ≤ servers → Among s (numbers ticks rest) ⊎ (2 ^ 53 < clock s + ms)
+
+-- so many messages were delivered: the most that may be, or all of them, so that none is under way
+pub record Delivers (most : ℕ) (idle : Type 0) (count : ℕ) (old new : List Mark) : Type 0 where
+  pub rest : List Mark
+  pub are : new ≡ old ++ rest
+  pub told : IsAmong (mark.Settled count true) rest
+  pub enough : (count ≡ most) ⊎ ((count ≤ most) × idle)
 
 -- no clock went on
 pub record TicksNone (old new : List Mark) : Type 0 where

@@ -1,11 +1,11 @@
 -- What a turn does.
-use Rattle.std.specs.Prelude.{◌≡◌, ℕ, ◌+◌, ◌-◌, min, List, Option, Some, None}
+use Rattle.std.specs.Prelude.{◌≡◌, ℕ, ◌+◌, ◌-◌, ◌<◌, min, List, Option, Some, None}
 use Rattle.cat_model.specs.declared.reply.Mark.{Mark}
 use Rattle.request_rules.specs.Taken.{IsTakenAsked}
 use Rattle.cluster_rules.specs.Replies.{Reply}
 use Rattle.serve_loop.specs.declared.cluster.Ask.{Ask}
 use Rattle.serve_loop.specs.declared.served.Turned.{Turned}
-use Rattle.serve_loop.specs.Marks.{AddsAsked, AddsQuiet, Fits, TicksBy, TicksNone}
+use Rattle.serve_loop.specs.Marks.{AddsAsked, AddsQuiet, Delivers, Fits, TicksAll, TicksBy, TicksNone}
 use Rattle.serve_loop.specs.Collects.{Collects}
 
 -- the agent is one of the cluster's, and the cluster takes what is asked
@@ -20,6 +20,13 @@ passed last now = min (now - last) 86400000
 -- the clocks went on by as much, once
 abbrev pub GoesOn : ℕ → ℕ → ℕ → List Mark → List Mark → Type 0
 GoesOn last last' now old new = (last' ≡ last + passed last now) × TicksBy (passed last now) old new
+
+-- The clocks did go on where time had passed, and messages were delivered. `servers` and `clock` tell of the clocks before
+-- the turn, and `idle` that no message is under way behind it.
+pub record GetsOn (servers : ℕ) (clock : ℕ → ℕ) (last now : ℕ) (idle : Type 0) (old new : List Mark) : Type 0 where
+  pub all : 0 < passed last now → TicksAll servers clock (passed last now) old new
+  pub count : ℕ
+  pub delivered : Delivers 4096 idle count old new
 
 -- the clocks stood still
 abbrev pub StandsStill : ℕ → ℕ → List Mark → List Mark → Type 0

@@ -1,11 +1,11 @@
 //! The cluster as the turns use it.
 
-ghost use Rattle.std.specs.Prelude.{ℕ, List, IfOk, OnErr};
+ghost use Rattle.std.specs.Prelude.{ℕ, ◌<◌, List, IfOk, OnErr, OnOk};
 ghost use Rattle.cat_model.specs.declared.reply.Mark.{Mark as SpecMark};
 ghost use Rattle.cluster_rules.specs.Replies.{Reply as SpecReply};
 ghost use Rattle.serve_loop.specs.declared.cluster.Ask.{Ask as SpecAsk};
 ghost use Rattle.serve_loop.specs.Collects.{Collects};
-ghost use Rattle.serve_loop.specs.Marks.{AddsAsked, AddsCut, AddsQuiet, AreKept, TicksBy, TicksNone};
+ghost use Rattle.serve_loop.specs.Marks.{AddsAsked, AddsCut, AddsQuiet, AreKept, Delivers, TicksAll, TicksBy, TicksNone};
 ghost use Rattle.serve_loop.specs.Turns.{MayAsk};
 
 use cat_model::{Asked, Draw, Memory};
@@ -38,6 +38,15 @@ pub trait SharedCluster: Drop {
     /// How many agents there are.
     ghost agents: { ℕ };
 
+    /// How many servers there are, the first one 1.
+    ghost servers: { Self → ℕ };
+
+    /// How many milliseconds a server's clock has gone on.
+    ghost clock: { Self → ℕ → ℕ };
+
+    /// No message is under way between servers.
+    ghost idle: { Self → Type 0 };
+
     /// The reply to the request with this number shows what it asks for and its kind give over the log that these marks
     /// tell.
     ghost shows: { ℕ → SpecAsk → SpecReply → List SpecMark → Type 0 };
@@ -47,11 +56,12 @@ pub trait SharedCluster: Drop {
     fn kept(&self)
         ensures { AreKept (marks self.now) };
 
-    /// All clocks go on by so many milliseconds, but for those that are at their end, and what is due by then happens. No
-    /// request is asked or taken.
+    /// All clocks go on by so many milliseconds, but for those that would pass their end, and what is due by then happens.
+    /// No request is asked or taken.
     fn advance(&mut self, alloc: Global, ms: u64) -> Result<(), Memory>
         ensures quiet { AddsQuiet (marks self.old) (marks self.new) }
-        ensures ticks { TicksBy ms (marks self.old) (marks self.new) };
+        ensures ticks { TicksBy ms (marks self.old) (marks self.new) }
+        ensures all { OnOk result (0 < ms → TicksAll (servers self.old) (clock self.old) ms (marks self.old) (marks self.new)) };
 
     /// Asks an agent, and gives the request's number, which was never given before. The reply comes later. An ask that
     /// finds no memory may have put its mark.
@@ -61,13 +71,15 @@ pub trait SharedCluster: Drop {
         ensures cut { OnErr result (AddsCut (marks self.old) (marks self.new)) }
         ensures unticked { TicksNone (marks self.old) (marks self.new) };
 
-    /// Delivers the messages between servers, those that were sent first before others, at most so many, and says how
-    /// many. Requests are answered on the way; none is asked or taken.
+    /// Delivers the messages between servers, those that were sent first before others, until none is left, at most so
+    /// many, and says how many. Requests are answered on the way; none is asked or taken.
     fn settle(&mut self, alloc: Global, most: u32) -> Result<u32, Memory>
         ensures quiet { AddsQuiet (marks self.old) (marks self.new) }
-        ensures unticked { TicksNone (marks self.old) (marks self.new) };
+        ensures unticked { TicksNone (marks self.old) (marks self.new) }
+        ensures delivered { IfOk result (λ count. Delivers most (idle self.new) count (marks self.old) (marks self.new)) };
 
     /// Takes the reply to the request with this number, where there is one. Else nothing happens.
     fn collect(&mut self, number: u64) -> Collected
-        ensures { Collects shows number result (marks self.old) (marks self.new) };
+        ensures got { Collects shows number result (marks self.old) (marks self.new) }
+        ensures idle { idle self.old → idle self.new };
 }

@@ -3,17 +3,21 @@
 
 mod cause;
 mod cluster;
+mod connections;
+mod finishing;
 mod job;
 mod replies;
 mod run;
 mod served;
 mod serving;
+mod starting;
 mod turning;
 mod writing;
 
 pub use cause::Cause;
 pub use cluster::{Ask, Collected, SharedCluster};
+pub use connections::serve_all;
 pub use job::{Finished, ServeJob, serve_connection};
-pub use run::{Server, Stop, serve_all};
+pub use run::{Server, Stop};
 pub use served::{Served, Turned};
 pub use serving::Board;

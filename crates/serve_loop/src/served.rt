@@ -1,10 +1,10 @@
 //! What the turns lend: a cluster, and the time up to which its clocks have gone on.
 
-ghost use Rattle.std.specs.Prelude.{MatchResult};
+ghost use Rattle.std.specs.Prelude.{ℕ, ◌<◌, IfOk, MatchResult, OnOk};
 ghost use Rattle.std.specs.Option.{ForSome};
 ghost use Rattle.serve_loop.specs.Collects.{Collects};
-ghost use Rattle.serve_loop.specs.Marks.{AddsCut, AddsQuiet, AreKept, opens, takes};
-ghost use Rattle.serve_loop.specs.Turns.{GoesOn, Makes, MayAsk, StandsStill, Turns};
+ghost use Rattle.serve_loop.specs.Marks.{AddsCut, AddsQuiet, AreKept, Delivers, TicksAll, opens, takes};
+ghost use Rattle.serve_loop.specs.Turns.{GetsOn, GoesOn, Makes, MayAsk, StandsStill, Turns, passed};
 
 use crate::cluster::{Ask, Collected, SharedCluster};
 use cat_model::{Mark, Memory};
@@ -48,6 +48,7 @@ impl<C: SharedCluster> Served<C> {
     fn advance(&mut self, alloc: Global, now: u64) -> Result<(), Memory>
         ensures quiet { AddsQuiet (C.marks self.old.cluster) (C.marks self.new.cluster) }
         ensures time { GoesOn self.old.last_ms self.new.last_ms now (C.marks self.old.cluster) (C.marks self.new.cluster) }
+        ensures all { OnOk result (0 < passed self.old.last_ms now → TicksAll (C.servers self.old.cluster) (C.clock self.old.cluster) (passed self.old.last_ms now) (C.marks self.old.cluster) (C.marks self.new.cluster)) }
     {
         let ms = now.saturating_sub(self.last_ms).min(MOST_MS);
         if ms == 0 {
@@ -74,6 +75,7 @@ impl<C: SharedCluster> Served<C> {
     fn settle(&mut self, alloc: Global) -> Result<u32, Memory>
         ensures quiet { AddsQuiet (C.marks self.old.cluster) (C.marks self.new.cluster) }
         ensures still { StandsStill self.old.last_ms self.new.last_ms (C.marks self.old.cluster) (C.marks self.new.cluster) }
+        ensures delivered { IfOk result (λ count. Delivers 4096 (C.idle self.new.cluster) count (C.marks self.old.cluster) (C.marks self.new.cluster)) }
     {
         self.cluster.settle(alloc, MOST)
     }
@@ -81,6 +83,7 @@ impl<C: SharedCluster> Served<C> {
     fn collect(&mut self, number: u64) -> Collected
         ensures got { Collects C.shows number result (C.marks self.old.cluster) (C.marks self.new.cluster) }
         ensures still { StandsStill self.old.last_ms self.new.last_ms (C.marks self.old.cluster) (C.marks self.new.cluster) }
+        ensures idle { C.idle self.old.cluster → C.idle self.new.cluster }
     {
         self.cluster.collect(number)
     }
@@ -92,6 +95,7 @@ impl<C: SharedCluster> Served<C> {
             (λ n. Makes ask number n (C.marks self.old.cluster) (C.marks self.new.cluster))
             (λ _. AddsCut (C.marks self.old.cluster) (C.marks self.new.cluster)) }
         ensures still { StandsStill self.old.last_ms self.new.last_ms (C.marks self.old.cluster) (C.marks self.new.cluster) }
+        ensures delivered { OnOk result ((count : ℕ) × Delivers 4096 (C.idle self.new.cluster) count (C.marks self.old.cluster) (C.marks self.new.cluster)) }
     {
         match self.make(alloc, ask, number) {
             Ok(number) => match self.settle(alloc) {
@@ -115,6 +119,7 @@ impl<C: SharedCluster> Served<C> {
             (λ n. Makes ask number n (C.marks self.old.cluster) (C.marks self.new.cluster))
             (λ _. AddsCut (C.marks self.old.cluster) (C.marks self.new.cluster)) }
         ensures time { GoesOn self.old.last_ms self.new.last_ms now (C.marks self.old.cluster) (C.marks self.new.cluster) }
+        ensures gets_on { OnOk result (GetsOn (C.servers self.old.cluster) (C.clock self.old.cluster) self.old.last_ms now (C.idle self.new.cluster) (C.marks self.old.cluster) (C.marks self.new.cluster)) }
     {
         match self.advance(alloc, now) {
             Ok(()) => self.go_on(alloc, ask, number),
@@ -138,6 +143,7 @@ impl<C: SharedCluster> Served<C> {
             (λ t. Turns C.shows ask number t (C.marks self.old.cluster) (C.marks self.new.cluster))
             (λ _. AddsCut (C.marks self.old.cluster) (C.marks self.new.cluster)) }
         ensures time { GoesOn self.old.last_ms self.new.last_ms now (C.marks self.old.cluster) (C.marks self.new.cluster) }
+        ensures gets_on { OnOk result (GetsOn (C.servers self.old.cluster) (C.clock self.old.cluster) self.old.last_ms now (C.idle self.new.cluster) (C.marks self.old.cluster) (C.marks self.new.cluster)) }
     {
         match self.work(alloc, now, ask, number) {
             Ok(number) => {
@@ -162,6 +168,7 @@ impl<C: SharedCluster> Served<C> {
             (λ t. Turns C.shows ask number t (C.marks self.old.cluster) (C.marks self.new.cluster))
             (λ _. AddsCut (C.marks self.old.cluster) (C.marks self.new.cluster)) }
         ensures time { GoesOn self.old.last_ms self.new.last_ms now (C.marks self.old.cluster) (C.marks self.new.cluster) }
+        ensures gets_on { OnOk result (GetsOn (C.servers self.old.cluster) (C.clock self.old.cluster) self.old.last_ms now (C.idle self.new.cluster) (C.marks self.old.cluster) (C.marks self.new.cluster)) }
         ensures before { AreKept (C.marks self.old.cluster) }
         ensures after { AreKept (C.marks self.new.cluster) }
     {

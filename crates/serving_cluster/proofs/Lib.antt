@@ -1,3 +1,4 @@
 pub mod Reverses
 pub mod Marks
 pub mod Steps
+pub mod Clocks

@@ -116,6 +116,20 @@ ticked_event more server ms old new e q =
       );
     }
 
+-- this server's clock went on
+pub record Went (server : ℕ) (old new : List Mark) : Type 0 where
+  pub rest : List Mark
+  pub are : new ≡ old ++ rest
+  pub went : Among server (numbers ticks rest)
+
+pub went_event : (more : List Mark) (server ms : ℕ) (old new : List Mark) → new ≡ more ++ mark.Made (event.Tick server ms) ∷ old → moves_of more ≡ [] → Went server (reverse old) (reverse new)
+went_event more server ms old new e q =
+    let m : Mark = mark.Made (event.Tick server ms) in record {
+      rest = reverse (more ++ m ∷ []);
+      are = behind (more ++ m ∷ []) old new (grown more m old new e);
+      went = subst (Among server) (sym (numbers_reverse ticks (more ++ m ∷ []) ∙ ap (λ (l : List ℕ). reverse l) (of_own ticks more m (unticked more q)))) (inl refl);
+    }
+
 -- the numbers that marks ask, answer and take
 opens_are : (xs : List Mark) → numbers opens xs ≡ past.asked_of xs
 opens_are [] = refl

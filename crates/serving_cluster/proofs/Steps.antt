@@ -33,9 +33,9 @@ use Rattle.turn_lock.proofs.Lists.{numbers_append}
 use Rattle.serve_loop.specs.declared.cluster.Ask.{Ask}
 use Rattle.serve_loop.specs.declared.cluster.Collected.TheVariants as collected
 use Rattle.serve_loop.specs.Collects.{Collects, IsGiven}
-use Rattle.serve_loop.specs.Marks.{AddsAsked, AddsCut, AddsQuiet, AreKept, TicksBy, TicksNone, answered_mark, asked_mark, opens, takes, ticks, ticks_by}
+use Rattle.serve_loop.specs.Marks.{AddsAsked, AddsCut, AddsQuiet, AreKept, Delivers, TicksBy, TicksNone, answered_mark, asked_mark, opens, takes, ticks, ticks_by}
 use Rattle.serve_loop.proofs.Clocks.{by_none, none_none, ticks_none}
-use Rattle.serve_loop.proofs.MarkLists.{append_none, joined, quiet_cut, quiet_none, quiet_quiet}
+use Rattle.serve_loop.proofs.MarkLists.{append_none, in_right, joined, quiet_cut, quiet_none, quiet_quiet}
 use Rattle.serving_rules.specs.Keeping.{Keeps}
 use Rattle.serving_rules.specs.Serving.{IsSized, Serves, Size}
 use Rattle.serving_rules.proofs.Keeping.{step_keeps}
@@ -43,7 +43,7 @@ use Rattle.serving_cluster.specs.Shared.{IsOpen, shared_of}
 use Rattle.serving_cluster.specs.Ticks.{Ticked, TicksOne, TicksUpTo}
 use Rattle.serving_rules.proofs.Serving.{agent_ticked_on, asked_on, elected, is_sound, none_closed, partly_on, settled_on, taken_on, ticked_on}
 use Rattle.serving_cluster.specs.Shown.{Shows, log_of, question}
-use Rattle.serving_cluster.proofs.Marks.{Silent, are_kept, asked_event, cut_event, opened, quiet_event, quietly, ticked_event, took, unticked_event}
+use Rattle.serving_cluster.proofs.Marks.{Silent, Went, are_kept, asked_event, cut_event, opened, quiet_event, quietly, ticked_event, took, unticked_event, went_event}
 use Rattle.serving_cluster.proofs.Reverses.{among_or_not, in_back, in_reverse, once_last, reverse_cons}
 
 abbrev marks : Cluster → List Mark
@@ -91,6 +91,13 @@ one_step c c' server ms whole s = either (step_keeps c c' (event.Tick server ms)
     either : Keeps (marked (event.Tick server ms) c) c' ⊎ (Keeps (noted (event.Tick server ms) c) c' × (whole ≡ false)) → TicksOne server ms (marks c) (marks c')
     either (inl k) = ticked_event k.more server ms c.past c'.past (k.past ∙ ap (λ (l : List Mark). k.more ++ l) (plain_tick c server ms).past) k.quiet
     either (inr k) = ticked_event k.0.more server ms c.past c'.past k.0.past k.0.quiet
+
+pub ticked_mark : (c c' : Cluster) (server ms : ℕ) (whole : Bool) → ClusterStep c (event.Tick server ms) c' whole → Went server (marks c) (marks c')
+ticked_mark c c' server ms whole s = either (step_keeps c c' (event.Tick server ms) whole s)
+  where
+    either : Keeps (marked (event.Tick server ms) c) c' ⊎ (Keeps (noted (event.Tick server ms) c) c' × (whole ≡ false)) → Went server (marks c) (marks c')
+    either (inl k) = went_event k.more server ms c.past c'.past (k.past ∙ ap (λ (l : List Mark). k.more ++ l) (plain_tick c server ms).past) k.quiet
+    either (inr k) = went_event k.0.more server ms c.past c'.past k.0.past k.0.quiet
 
 pub one_none : (server ms : ℕ) (old : List Mark) → TicksOne server ms old old
 one_none server ms old = record { rest = []; are = sym (append-nil old); ticked = inr refl }
@@ -271,6 +278,21 @@ settles_still most c c' (Ok pairs) (mid, all, is, few, stops) cut =
     subst (λ (z : Cluster). TicksNone (marks c) (marks z)) (sym is) (none_none (marks c) (marks mid) (marks (settled pairs mid)) (pairs_still pairs c mid all) (mark_still pairs mid))
 settles_still most c c' (Err why) whole (pairs, few, (mid, all, part)) = none_none (marks c) (marks mid) (marks c') (pairs_still pairs c mid all) (part_still mid c' part)
 
+-- so many were delivered, of which the last mark tells
+pub settles_all : (most : ℕ) (c c' : Cluster) (r : Result ℕ Memory) → IfOk r (SettlesTo most c c') → IfOk r (λ count. Delivers most (c'.world.bag.packets ≡ []) count (marks c) (marks c'))
+settles_all most c c' (Ok pairs) (mid, all, is, few, stops) =
+    let x = pairs_quiet pairs c mid all in record {
+      rest = x.rest ++ mark.Settled pairs true ∷ [];
+      are = joined (marks c) (marks mid) (marks c') x.rest (mark.Settled pairs true ∷ []) x.are (ap (λ (z : Cluster). marks z) is ∙ reverse_cons (mark.Settled pairs true) mid.past);
+      told = in_right (mark.Settled pairs true) x.rest (mark.Settled pairs true ∷ []) (inl refl);
+      enough = enough stops;
+    }
+  where
+    enough : (pairs ≡ most) ⊎ (mid.world.bag.packets ≡ []) → (pairs ≡ most) ⊎ ((pairs ≤ most) × (c'.world.bag.packets ≡ []))
+    enough (inl e) = inl e
+    enough (inr e) = inr (few, ap (λ (z : Cluster). z.world.bag.packets) is ∙ e)
+settles_all most c c' (Err why) whole = whole
+
 pub settle_serves : (size : Size) (most : ℕ) (c c' : Cluster) (r : Result ℕ Memory) → Serves size c → IfOk r (SettlesTo most c c') → OnErr r (IsPartlySettled most c c') → Serves size c'
 settle_serves size most c c' (Ok pairs) s (mid, all, is, few, stops) cut = settled_on size pairs c mid c' s all is
 settle_serves size most c c' (Err why) s whole cut = partly_on size most c c' s cut
@@ -331,6 +353,13 @@ collects size number c c' (from_cluster.TheVariants.Ready reply) s t = collects_
 collects size number c c' (from_cluster.TheVariants.Closed at) s t = absurd (never_closed size number at c c' s t)
 collects size number c c' (from_cluster.TheVariants.NotYet wanted) s t = ap (λ (z : Cluster). marks z) t.0
 collects size number c c' from_cluster.TheVariants.Gone s t = collects_gone size number c c' s t
+
+-- whatever was collected, the world is as it was
+pub collect_leaves : (number : ℕ) (c c' : Cluster) (r : from_cluster.Collected) → taking.Collects number r c c' → c'.world ≡ c.world
+collect_leaves number c c' (from_cluster.TheVariants.Ready reply) t = ap (λ (z : Cluster). z.world) t.0.is
+collect_leaves number c c' (from_cluster.TheVariants.Closed at) t = ap (λ (z : Cluster). z.world) t.is
+collect_leaves number c c' (from_cluster.TheVariants.NotYet wanted) t = ap (λ (z : Cluster). z.world) t.0
+collect_leaves number c c' from_cluster.TheVariants.Gone t = ap (λ (z : Cluster). z.world) t.0
 
 pub collect_serves : (size : Size) (number : ℕ) (c c' : Cluster) (r : from_cluster.Collected) → Serves size c → taking.Collects number r c c' → Serves size c'
 collect_serves size number c c' (from_cluster.TheVariants.Ready reply) s t = reply_serves size number c c' reply s t

@@ -1,13 +1,14 @@
 //! The cluster as its users' turns see it.
 
-ghost use Rattle.std.specs.Prelude.{◌≡◌, IfOk, OnErr, reverse};
+ghost use Rattle.std.specs.Prelude.{◌≡◌, IfOk, OnErr, OnOk, length, reverse};
 ghost use Rattle.cluster_interface.specs.Taking.{DropsSyncs};
+ghost use Rattle.cluster_rules.specs.Cluster.{clock_of};
 ghost use Rattle.serve_loop.specs.Collects.{Collects};
-ghost use Rattle.serve_loop.specs.Marks.{AddsAsked, AddsCut, AddsQuiet, TicksBy, TicksNone};
+ghost use Rattle.serve_loop.specs.Marks.{AddsAsked, AddsCut, AddsQuiet, TicksAll, TicksBy, TicksNone};
 ghost use Rattle.serve_loop.specs.Turns.{MayAsk};
 ghost use Rattle.serving_cluster.specs.Shown.{Shows};
 ghost use Rattle.serving_cluster.specs.Shared.{IsOpen, shared_of};
-ghost use Rattle.serving_cluster.specs.Ticks.{TicksOne};
+ghost use Rattle.serving_cluster.specs.Ticks.{TicksOne, TicksWholly};
 
 use crate::serving::{ClusterSize, ServingCluster};
 use cat_model::{Asked, Event, Memory};
@@ -33,6 +34,7 @@ impl<J: ClusterSize, S: ClusterInterface> ServingCluster<J, S> {
     fn tick(&mut self, alloc: Global, server: u32, ms: u64) -> Result<(), Memory>
         ensures quiet { AddsQuiet (reverse self.old.past) (reverse self.new.past) }
         ensures ticks { TicksOne server ms (reverse self.old.past) (reverse self.new.past) }
+        ensures wholly { OnOk result (TicksWholly server ms self.old self.new) }
     {
         let tick = Event::Tick(server, ms);
         let fits = self.cluster.fits(&tick);
@@ -49,6 +51,7 @@ impl<J: ClusterSize, S: ClusterInterface> ServingCluster<J, S> {
     fn tick_all(&mut self, alloc: Global, ms: u64) -> Result<(), Memory>
         ensures quiet { AddsQuiet (reverse self.old.past) (reverse self.new.past) }
         ensures ticks { TicksBy ms (reverse self.old.past) (reverse self.new.past) }
+        ensures all { OnOk result (TicksAll (length self.old.servers) (λ s. clock_of self.old.world s) ms (reverse self.old.past) (reverse self.new.past)) }
     {
         let last = self.cluster.servers();
         let mut server = 0;
@@ -99,6 +102,7 @@ impl<J: ClusterSize, S: ClusterInterface> ServingCluster<J, S> {
     fn go_on(&mut self, alloc: Global, ms: u64) -> Result<(), Memory>
         ensures quiet { AddsQuiet (reverse self.old.past) (reverse self.new.past) }
         ensures ticks { TicksBy ms (reverse self.old.past) (reverse self.new.past) }
+        ensures all { OnOk result (TicksAll (length self.old.servers) (λ s. clock_of self.old.world s) ms (reverse self.old.past) (reverse self.new.past)) }
     {
         match self.tick_all(alloc, ms) {
             Ok(()) => self.tick_agents(alloc, ms),
@@ -125,7 +129,8 @@ impl<J: ClusterSize, S: ClusterInterface> ServingCluster<J, S> {
 
     // Takes a request's reply, if it is there. No request is closed, since no server restarts.
     fn take_reply(&mut self, number: u64) -> Collected
-        ensures { Collects Shows number result (reverse self.old.past) (reverse self.new.past) }
+        ensures got { Collects Shows number result (reverse self.old.past) (reverse self.new.past) }
+        ensures world { self.new.world ≡ self.old.world }
     {
         let collected = self.cluster.collect(number);
         shared(collected)
@@ -133,12 +138,19 @@ impl<J: ClusterSize, S: ClusterInterface> ServingCluster<J, S> {
 }
 
 impl<J: ClusterSize, S: ClusterInterface> SharedCluster for ServingCluster<J, S> {
-    ghost use Rattle.std.specs.Prelude.{reverse};
+    ghost use Rattle.std.specs.Prelude.{◌≡◌, [], length, reverse};
+    ghost use Rattle.cluster_rules.specs.Cluster.{clock_of};
     ghost use Rattle.serving_cluster.specs.Shown.{Shows};
 
     ghost marks = { λ c. reverse c.past };
 
     ghost agents = { J.size.agents };
+
+    ghost servers = { λ c. length c.servers };
+
+    ghost clock = { λ c s. clock_of c.world s };
+
+    ghost idle = { λ c. c.world.bag.packets ≡ [] };
 
     ghost shows = { Shows };
 

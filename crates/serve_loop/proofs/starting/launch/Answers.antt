@@ -1,7 +1,7 @@
 use Rattle.std.proofs.Common.{sym, subst}
 use Rattle.serve_outside.specs.Links.{IsNew}
 use Rattle.serve_loop.proofs.Runs.{turned_none, turned_one}
-use Rattle.serve_loop.proofs.run.launch.Goals as goal
+use Rattle.serve_loop.proofs.starting.launch.Goals as goal
 
 pub returns-in-Ok-clause-turned : goal.returns-in-Ok-clause-turned
 returns-in-Ok-clause-turned g c = turned_none (g.L.Listener.closed c.args.listener.now) (g.Sp.Spawner.faults c.args.spawner.now) (g.Sp.Spawner.faults c.start.new.spawner) c.in-Ok.ensures.counted.0

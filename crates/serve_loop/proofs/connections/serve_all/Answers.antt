@@ -2,7 +2,7 @@ use Rattle.std.proofs.Common.{List, ap, length}
 use Rattle.cluster_rules.specs.Sound.{IsAmong}
 use Rattle.turn_lock.specs.Lists.{IsFront}
 use Rattle.serve_loop.proofs.Runs.{given_all, hands_back, has_cause, served_known, told_fronts}
-use Rattle.serve_loop.proofs.run.serve_all.Goals as goal
+use Rattle.serve_loop.proofs.connections.serve_all.Goals as goal
 
 pub returns-clause-given : goal.returns-clause-given
 returns-clause-given g c =

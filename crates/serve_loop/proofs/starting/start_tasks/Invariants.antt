@@ -3,7 +3,7 @@ use Rattle.std.specs.Arc.{arc_value}
 use Rattle.serve_loop.specs.Boards.{IsOurs}
 use Rattle.serve_loop.specs.Jobs.{AllTasks, HasEnded}
 use Rattle.serve_loop.specs.Runs.{HasDrawn, IsStarted, Starts}
-use Rattle.serve_loop.proofs.run.start_tasks.Given as goal
+use Rattle.serve_loop.proofs.starting.start_tasks.Given as goal
 
 -- so many connections have come, and what is known of their tasks
 abbrev pub invariant-loop-n : goal.invariant-loop-n

@@ -6,7 +6,7 @@ use Rattle.serve_loop.specs.Jobs.{HasEnded}
 use Rattle.serve_loop.specs.Runs.{IsStarted}
 use Rattle.serve_loop.proofs.Runs.{last_task, served_none, served_pop, tasks_before}
 use Rattle.serve_loop.proofs.Tasks.{below_last}
-use Rattle.serve_loop.proofs.run.finish_tasks.Goals as goal
+use Rattle.serve_loop.proofs.finishing.finish_tasks.Goals as goal
 
 pub loop-task-init : goal.loop-task-init
 loop-task-init g c =

@@ -4,7 +4,7 @@ use Rattle.serve_outside.specs.Tasks.{note_of}
 use Rattle.serve_loop.specs.Boards.{known}
 use Rattle.serve_loop.specs.Jobs.{connection_of}
 use Rattle.serve_loop.proofs.Runs.{is_served, told_before, told_now}
-use Rattle.serve_loop.proofs.run.finish_one.Goals as goal
+use Rattle.serve_loop.proofs.finishing.finish_one.Goals as goal
 
 pub returns-clause-told : goal.returns-clause-told
 returns-clause-told g c =

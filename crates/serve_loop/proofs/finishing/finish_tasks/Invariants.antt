@@ -4,7 +4,7 @@ use Rattle.cluster_rules.specs.Sound.{IsAmong}
 use Rattle.serve_loop.specs.Boards.{IsOurs}
 use Rattle.serve_loop.specs.Jobs.{AllTasks, HasEnded}
 use Rattle.serve_loop.specs.Runs.{AllServed, IsStarted}
-use Rattle.serve_loop.proofs.run.finish_tasks.Given as goal
+use Rattle.serve_loop.proofs.finishing.finish_tasks.Given as goal
 
 -- the links of the tasks that are gone, and what is known of those that are left
 abbrev pub invariant-loop-task : goal.invariant-loop-task

@@ -6,7 +6,7 @@ use Rattle.serve_loop.specs.declared.run.Stop.TheVariants as stops
 use Rattle.serve_loop.specs.Jobs.{HasEnded}
 use Rattle.serve_loop.specs.Runs.{HasDrawn}
 use Rattle.serve_loop.proofs.Runs.{has_drawn, started_more, starts_none}
-use Rattle.serve_loop.proofs.run.start_next.Goals as goal
+use Rattle.serve_loop.proofs.starting.start_next.Goals as goal
 
 pub returns-in-Ok-Some-clause-tasks : goal.returns-in-Ok-Some-clause-tasks
 returns-in-Ok-Some-clause-tasks g c =

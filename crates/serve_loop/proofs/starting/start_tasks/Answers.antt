@@ -1,7 +1,7 @@
 use Rattle.std.proofs.Common.{◌∙◌, arith, length, refl, Ok, Err}
 use Rattle.serve_loop.proofs.Runs.{starts_none, starts_on}
 use Rattle.serve_loop.proofs.Written.{rose_from}
-use Rattle.serve_loop.proofs.run.start_tasks.Goals as goal
+use Rattle.serve_loop.proofs.starting.start_tasks.Goals as goal
 
 pub loop-n-init : goal.loop-n-init
 loop-n-init g c =

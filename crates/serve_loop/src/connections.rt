@@ -1,0 +1,86 @@
+//! All connections of a run: they are accepted, each is served by a job of its own, and all jobs are waited for.
+
+ghost use Rattle.std.specs.Prelude.{◌≡◌, ◌<◌, IfErr, OnOk};
+ghost use Rattle.std.specs.Arc.{arc_value};
+ghost use Rattle.cat_outside.specs.Causes.{Rose};
+ghost use Rattle.serve_loop.specs.declared.run.Stop.TheVariants as stops;
+ghost use Rattle.serve_loop.specs.Boards.{IsOurs, known};
+ghost use Rattle.serve_loop.specs.Marks.{AreKept};
+ghost use Rattle.serve_loop.specs.Runs.{HandsBack, HasDrawn, outcome_of};
+ghost use Rattle.turn_lock.specs.Lists.{AreFronts, IsFront};
+
+use crate::cluster::SharedCluster;
+use crate::finishing::finish_tasks;
+use crate::run::{Server, Stop, TaskOf};
+use crate::served::Served;
+use crate::starting::start_tasks;
+use serve_outside::{Clock, Gate, Listener, Spawner, Words};
+use std::sync::Wait;
+use std::thread::Threads;
+use turn_lock::Pass;
+
+// Takes a last turn, and keeps it: the cluster as it stands then. Its marks begin with all that passes had seen that were
+// put into this one.
+fn last_turn<R: Wait, C: SharedCluster, Cl, G>(
+    server: &Server<R, Served<C>, Cl, G>,
+    mut pass: Pass<Served<C>>,
+) -> C
+    requires ours { IsOurs (arc_value server.now.board) pass }
+    ensures kept { AreKept (C.marks result) }
+    ensures told { AreFronts (known pass).told (C.marks result) }
+{
+    let lock = &**server.board;
+    let turn = lock.take(&server.rt, &mut pass);
+    let served = turn.into_state();
+    served.kept();
+    served.cluster
+}
+
+// What a run says of its end: what stopped the accepting, and else whether memory lacked later.
+fn outcome(started: Result<(), Stop>, short: bool) -> Result<(), Stop>
+    ensures { result ≡ outcome_of started short }
+{
+    match started {
+        Ok(()) => { if short { Err(Stop::Memory) } else { Ok(()) } }
+        Err(why) => Err(why),
+    }
+}
+
+/// Accepts so many connections, serves each by a job of its own, waits for all of them, and takes a last turn for good.
+/// Gives the cluster as it leaves it, and says what stopped it, if anything did: a connection that ended for want of
+/// memory counts as want of memory.
+pub fn serve_all<
+    R: Threads + Wait + Copy + Send + Drop + 'static,
+    C: SharedCluster + Send + 'static,
+    Cl: Clock + Copy + Send + Drop + 'static,
+    G: Gate + Copy + Send + Drop + 'static,
+    L: Listener,
+    W: Words,
+    Sp: Spawner,
+>(
+    server: &Server<R, Served<C>, Cl, G>,
+    mut pass: Pass<Served<C>>,
+    listener: &mut L,
+    words: &mut W,
+    spawner: &mut Sp,
+    count: u32,
+) -> (C, Result<(), Stop>)
+where
+    L::Link: Send + 'static,
+    requires ours { IsOurs (arc_value server.now.board) pass }
+    requires agents { (0 < server.now.agents) × (server.now.agents ≡ C.agents) }
+    requires fresh { (L.given listener.old ≡ 0) × HasDrawn (W.draws words.old) 0 }
+    ensures given { OnOk result.1 (L.given listener.new ≡ count) }
+    ensures links { HandsBack C.shows C.agents (W.draws words.new) (λ seen. IsFront seen (C.marks result.0)) (L.closed listener.old) (L.closed listener.new) (Sp.faults spawner.old) (Sp.faults spawner.new) (L.given listener.new) result.1 }
+    ensures kept { AreKept (C.marks result.0) }
+    ensures cause { IfErr result.1 (λ why. why ≡ stops.Listener → Rose (L.faults listener.old) (L.faults listener.new)) }
+    ensures port { L.listens_on listener.new ≡ L.listens_on listener.old }
+{
+    let mut tasks: Vec<TaskOf<R, C, Cl, G, L::Link>> = Vec::new(server.alloc);
+    let started = start_tasks(
+        server, &mut pass, listener, words, spawner, &mut tasks, count,
+    );
+    let short = finish_tasks(server, &mut pass, listener, words, &mut tasks);
+    let cluster = last_turn(server, pass);
+    (cluster, outcome(started, short))
+}
