@@ -4,3 +4,4 @@ pub mod Texts
 pub mod Asking
 pub mod Events
 pub mod Ends
+pub mod Complete
