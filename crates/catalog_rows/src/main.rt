@@ -2,7 +2,9 @@
 //! writes what it should and ends as it should. They lie in `data/`.
 //!
 //! `rows.txt` has the name of a script in each line. Of the script `NAME`, `NAME.script` is its text, `NAME.out` the text
-//! that it should write, and `NAME.status` the status with which it should end.
+//! that it should write, and `NAME.status` the status with which it should end. `long_rows.txt` has the names of scripts
+//! that are long and say the same again and again: in their `NAME.script` and `NAME.out` a line `* COUNT LINE` stands for
+//! so many times LINE, in each of which `{n}` is the number among them, from 1 on.
 //!
 //! Each line of `connections.txt` has the name of a server's run and how its connections are served: `once`, the bytes
 //! of each in one piece, one connection after the other; `cut`, in pieces of each size from 1 byte on, which all are
@@ -13,6 +15,7 @@
 #![tactic(auto)]
 
 mod difference;
+mod in_full;
 mod playing;
 mod row;
 mod served_row;
@@ -21,7 +24,7 @@ mod ways;
 
 use crate::difference::first_difference;
 use crate::playing::play;
-use crate::row::{Row, read_row};
+use crate::row::{Row, read_long_row, read_row};
 use crate::ways::is_served_as_written;
 use anyhow::{Context, Result};
 use std::process::ExitCode;
@@ -52,7 +55,10 @@ fn main(rt: HostRuntime) -> Result<ExitCode> {
         differing: 0,
     };
     for name in read_list(&rt, "rows.txt")?.as_str().lines() {
-        counts.count(is_as_written(&rt, rt, name)?);
+        counts.count(is_as_written(&rt, rt, name, read_row(&rt, name)?)?);
+    }
+    for name in read_list(&rt, "long_rows.txt")?.as_str().lines() {
+        counts.count(is_as_written(&rt, rt, name, read_long_row(&rt, name)?)?);
     }
     for line in read_list(&rt, "connections.txt")?.as_str().lines() {
         counts.count(is_served_right(&rt, rt, line)?);
@@ -90,12 +96,13 @@ fn is_as_written<R: Threads + Wait + time::Clock + Copy + Send + Drop + 'static>
     files: &HostRuntime,
     rt: R,
     name: &str,
+    row: Row,
 ) -> Result<bool> {
     let Row {
         script,
         text,
         status,
-    } = read_row(files, name)?;
+    } = row;
     let played = play(rt, files.alloc(), script)?;
     match first_difference(&played, status, &text) {
         None => {

@@ -1,3 +1,4 @@
+use crate::in_full::in_full;
 use anyhow::{Context, Result};
 use std::fs;
 
@@ -19,6 +20,18 @@ pub fn read_row(rt: &HostRuntime, name: &str) -> Result<Row> {
         script: fs::read(rt, &script).context(script)?,
         text: fs::read_to_string(rt, &text).context(text)?,
         status: read_status(rt, status)?,
+    })
+}
+
+/// Reads the files of the row, whose script and text are written short.
+pub fn read_long_row(rt: &HostRuntime, name: &str) -> Result<Row> {
+    let alloc = rt.alloc();
+    let row = read_row(rt, name)?;
+    let script = str::from_utf8(row.script.as_slice())?;
+    Ok(Row {
+        script: in_full(alloc, script)?.into_bytes(),
+        text: in_full(alloc, row.text.as_str())?,
+        status: row.status,
     })
 }
 
