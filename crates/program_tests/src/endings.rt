@@ -24,9 +24,11 @@ const PUT_AND_GET: &str =
 const USAGE: &str =
     "usage: catalogd script / load SEED SIZE / serve --servers S --agents A --port P --connections N [--keep DIR]\n";
 
-// Words that are no form, loads, and a source and a sink that fail at a call. The numbers of a load were worked out from
-// the generator's definition.
-static ENDINGS: [Ending; 12] = [
+const SERVE: &str = "serve --servers 1 --agents 1 --port 8500 --connections 1";
+
+// Words that are no form, loads, a source and a sink that fail at a call, and servers to which no connection comes, so that
+// the listener fails. The numbers of a load were worked out from the generator's definition.
+static ENDINGS: [Ending; 15] = [
     Ending {
         words: "script now",
         failing: NONE_FAILS,
@@ -110,6 +112,30 @@ static ENDINGS: [Ending; 12] = [
         },
         status: 5,
         text: "#1 200 - true\n",
+    },
+    Ending {
+        words: SERVE,
+        failing: NONE_FAILS,
+        status: 6,
+        text: "listening 8500\nend log 1 open 0\n",
+    },
+    Ending {
+        words: SERVE,
+        failing: Failing {
+            read: None,
+            write: Some(1),
+        },
+        status: 5,
+        text: "",
+    },
+    Ending {
+        words: SERVE,
+        failing: Failing {
+            read: None,
+            write: Some(2),
+        },
+        status: 5,
+        text: "listening 8500\n",
     },
 ];
 
