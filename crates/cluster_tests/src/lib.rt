@@ -1,7 +1,5 @@
-//! Tests of a cluster's servers and of its events by values that no script reaches. There is no code beside them.
+//! Tests of a cluster's clocks by values that no script reaches. There is no code beside them.
 #![tactic(auto)]
 
 #[cfg(test)]
 mod clocks;
-#[cfg(test)]
-mod servers;
