@@ -14,8 +14,8 @@ use crate::checks::{
 use crate::fault::ChangeFault;
 use crate::services::{drop_services, has_service, service_row};
 use crate::watched::watched_row;
+use cat_model::lists::copied;
 use cat_model::{AgentOp, Memory, ServiceDef, Status, Text, TtlDef};
-use lists::copied;
 use node_rows::{is_blank, place_service};
 use std::alloc::Global;
 

@@ -11,8 +11,8 @@ ghost use Rattle.agent_state.specs.Expiring.{says_expired, turns};
 
 use crate::names::compare_own;
 use crate::watched::Watched;
+use cat_model::lists::{around, copy_of, kept, made};
 use cat_model::{List, Memory, Status, Text, TtlDef};
-use lists::{around, copy_of, kept, made};
 use node_rows::{compare_pairs, is_same};
 use std::alloc::Global;
 

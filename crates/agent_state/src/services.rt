@@ -8,8 +8,8 @@ ghost use Rattle.cat_model.specs.Catalog.{service_at};
 ghost use Rattle.agent_rules.specs.Agents.{agent_node, service_row};
 
 use crate::names::{agent_node, compare_own};
+use cat_model::lists::kept;
 use cat_model::{List, Memory, ServiceDef, ServiceRow, Text};
-use lists::kept;
 use node_rows::is_same;
 use std::alloc::Global;
 

@@ -10,10 +10,10 @@ use crate::checks::SERF_HEALTH;
 use crate::names::agent_node;
 use crate::watched::Watched;
 use agent_bodies::{checks_body, services_body};
+use cat_model::lists::{copied, copy_of, joined, made, one};
 use cat_model::{
     AgentOp, Bytes, CheckRow, CheckView, List, Local, Memory, NodeRow, ServiceRow, Status, Text,
 };
-use lists::{copied, copy_of, joined, made, one};
 use node_rows::{find_service, is_blank};
 use std::alloc::Global;
 

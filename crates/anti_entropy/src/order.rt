@@ -3,8 +3,8 @@
 ghost use Rattle.std.specs.Prelude.{◌≡◌, IfOk};
 ghost use Rattle.cat_model.specs.Syncs.{services_in_order, checks_in_order};
 
+use cat_model::lists::copy_of;
 use cat_model::{CheckRow, List, Memory, ServiceRow};
-use lists::copy_of;
 use node_rows::{place_check, place_service};
 use std::alloc::Global;
 

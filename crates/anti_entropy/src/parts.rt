@@ -12,10 +12,10 @@ use crate::differences::{
     lacks_service,
 };
 use crate::order::{checks_in_order, services_in_order};
+use cat_model::lists::{joined, kept, made, one};
 use cat_model::{
     CheckRow, Command, List, Local, Memory, NewCheck, NewService, NodeRow, Remote, ServiceRow, Text,
 };
-use lists::{joined, kept, made, one};
 use node_rows::find_check;
 use std::alloc::Global;
 

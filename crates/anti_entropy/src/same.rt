@@ -4,8 +4,8 @@ ghost use Rattle.std.specs.Prelude.{◌≡◌};
 ghost use Rattle.cat_model.specs.Keys.{same_texts};
 ghost use Rattle.cat_model.specs.Same.{same_bool, same_status, alike_nodes, alike_services, alike_checks};
 
+use cat_model::lists::all_same;
 use cat_model::{CheckRow, NodeRow, ServiceRow, Status, Texts};
-use lists::all_same;
 use node_rows::is_same;
 
 fn are_same(a: &Texts, b: &Texts) -> bool

@@ -3,8 +3,8 @@
 ghost use Rattle.std.specs.Prelude.{◌≡◌, IfOk, map};
 ghost use Rattle.cat_model.specs.Syncs.{merged_service};
 
+use cat_model::lists::{copy_of, made};
 use cat_model::{List, Memory, ServiceRow};
-use lists::{copy_of, made};
 use node_rows::find_service;
 use std::alloc::Global;
 

@@ -113,7 +113,7 @@ command_same Upgrade Upgrade h = refl
 command_same x y h = absurd h
 
 -- a copy of an entry equals it
-pub entry_same : (x y : Entry) → (y.term ≡ x.term) × ((y.number ≡ x.number) × command.by_variants x.command y.command) → y ≡ x
+pub entry_same : (x y : Entry) → (y.term ≡ x.term) × ((y.number ≡ x.number) × (y.command ≡ x.command)) → y ≡ x
 entry_same x y h =
-    let term = h.0 in let number = h.1.0 in let command = command_same x.command y.command h.1.1 in
+    let term = h.0 in let number = h.1.0 in let command = h.1.1 in
     λ i. record { term = term i; number = number i; command = command i }

@@ -7,6 +7,7 @@ pub mod Machine
 pub mod Queries
 pub mod Indexes
 pub mod Channels
+pub mod Lists
 pub mod Locks
 pub mod KvIndexes
 pub mod Role

@@ -1,4 +1,4 @@
-use crate::{Behavior, Bytes, List, Status, Text, Texts};
+use crate::{Behavior, Bytes, List, Shared, Status, Text, Texts};
 
 /// A service as a Register gives it.
 #[derive(Clone, Debug, Drop)]
@@ -144,5 +144,5 @@ pub enum Command {
 pub struct Entry {
     pub term: u64,
     pub number: u64,
-    pub command: Command,
+    pub command: Shared<Command>,
 }

@@ -1,4 +1,4 @@
-use crate::{Command, List, Query, Refusal, Status, Text, Texts};
+use crate::{Command, List, Query, Refusal, Shared, Status, Text, Texts};
 
 /// How fresh a read is to be.
 #[derive(Clone, Copy, Debug, PartialEq, Eq)]
@@ -64,7 +64,7 @@ pub enum Request {
     /// Answers once the query's index is above `min`, or `wait_ms` are over. A wait of 0 is five minutes, and the
     /// longest is ten. `raw` asks for a key's value alone.
     Read {
-        query: Query,
+        query: Shared<Query>,
         mode: Mode,
         min: u64,
         wait_ms: u64,
@@ -77,13 +77,13 @@ pub enum Request {
         mode: Mode,
     },
     Write {
-        command: Command,
+        command: Shared<Command>,
     },
     /// Restarts a session's TTL.
     Renew {
         id: u128,
     },
-    Agent(AgentOp),
+    Agent(Shared<AgentOp>),
 }
 
 /// A request, or the refusal of what is none.

@@ -4,7 +4,7 @@ use Rattle.std.specs.List.{AllByRecursion, list_any, filter_map, cons_option}
 use Rattle.std.proofs.lemmas.Bool.{false≢true}
 use Rattle.std.proofs.lemmas.Bool.Decides.{Decides-eqb}
 use Rattle.cat_model.specs.Keys.{is_empty}
-use Rattle.lists.specs.Lists.{flat}
+use Rattle.cat_model.specs.Lists.{flat}
 
 -- both tests
 pub filter_both : {R : Type 0} (p q : R → Bool) (xs : List R) → filter q (filter p xs) ≡ filter (λ x. p x && q x) xs

@@ -19,7 +19,7 @@ use Rattle.cat_model.proofs.SameLemmas.{text_decides}
 use Rattle.cat_model.proofs.TableLemmas.{All-filter_test, row_at-filter}
 use Rattle.health_view.specs.Rows.{rows_with}
 use Rattle.health_view.proofs.Joining as joining
-use Rattle.lists.specs.Lists.{flat}
+use Rattle.cat_model.specs.Lists.{flat}
 use Rattle.catalog_query.specs.Placing.{placed}
 use Rattle.catalog_query.proofs.Filters.{filter_weaker, map_alike, each_found, both_hold, flat_is}
 

@@ -10,7 +10,7 @@ use Rattle.cat_model.proofs.PutLemmas.{put_over, put_between}
 use Rattle.catalog_query.specs.Places.{rank}
 use Rattle.cat_model.specs.Queries.{with_name, all_names, all_tags}
 use Rattle.cat_model.specs.declared.row.ServiceRow.{ServiceRow}
-use Rattle.lists.specs.Lists.{flat}
+use Rattle.cat_model.specs.Lists.{flat}
 
 -- these names put among others
 abbrev pub names_onto : List (List ℕ) → List (List ℕ) → List (List ℕ)

@@ -10,10 +10,10 @@ ghost use Rattle.catalog_table.specs.Rows.{catalog_of, no_rows};
 ghost use Rattle.catalog_query.specs.Standing.{rows_of};
 
 use crate::nodes::is_there;
+use cat_model::lists::{one, two};
 use cat_model::{Chan, List, Memory, Query, Text};
 use catalog_table::CatalogTable;
 use kv_table::KvTable;
-use lists::{one, two};
 use std::alloc::Global;
 
 /// Whether some service has this name.

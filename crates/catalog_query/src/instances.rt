@@ -6,13 +6,13 @@ ghost use Rattle.cat_model.specs.Keys.{same_text};
 ghost use Rattle.cat_model.specs.Catalog.{node_at};
 ghost use Rattle.cat_model.specs.Queries.{instances, service_rows, has_all_tags, all_pass};
 ghost use Rattle.catalog_table.specs.Rows.{catalog_of};
-ghost use Rattle.lists.specs.Lists.{flat};
+ghost use Rattle.cat_model.specs.Lists.{flat};
 ghost use Rattle.catalog_query.specs.Placing.{placed};
 
+use cat_model::lists::{copy_if_any, copy_of, gathered, one};
 use cat_model::{Instance, List, Memory, ServiceRow, Text, Texts};
 use catalog_table::CatalogTable;
 use health_view::{join, only_passing, with_tags};
-use lists::{copy_if_any, copy_of, gathered, one};
 use std::alloc::Global;
 
 /// The instance of this service, where its node is there.

@@ -6,9 +6,9 @@ ghost use Rattle.cat_model.specs.Keys.{same_text, has_prefix};
 ghost use Rattle.cat_model.specs.Queries.{all_names, cut_key, rows_or_absent};
 
 use crate::names::sorted;
+use cat_model::lists::{copy_of, one};
 use cat_model::{Answer, List, Memory, Text, Texts};
 use kv_table::KvTable;
-use lists::{copy_of, one};
 use std::alloc::Global;
 
 /// The row of the key, if there is one.

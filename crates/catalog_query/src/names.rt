@@ -6,8 +6,8 @@ ghost use Rattle.cat_model.specs.Tables.{Ascends};
 ghost use Rattle.cat_model.specs.Queries.{with_name, all_names, all_tags, names_and_tags};
 ghost use Rattle.catalog_query.specs.Places.{rank};
 
+use cat_model::lists::{copy_of, gathered, kept, made};
 use cat_model::{List, Memory, NameTags, ServiceRow, Text, Texts};
-use lists::{copy_of, gathered, kept, made};
 use node_rows::is_same;
 use std::alloc::Global;
 

@@ -7,9 +7,9 @@ ghost use Rattle.cat_model.specs.Indexes.{has_node};
 ghost use Rattle.cat_model.specs.declared.query.Query.TheVariants as q;
 ghost use Rattle.catalog_table.specs.Rows.{catalog_of};
 
+use cat_model::lists::copy_of;
 use cat_model::{Answer, Memory, NodeRow, Text};
 use catalog_table::CatalogTable;
-use lists::copy_of;
 use std::alloc::Global;
 
 pub(crate) fn is_there(catalog: &CatalogTable, node: &Text) -> bool

@@ -3,8 +3,8 @@
 ghost use Rattle.std.specs.Prelude.{◌≡◌, IfOk, filter, nat_eq};
 ghost use Rattle.cat_model.specs.Queries.{queries_or_absent};
 
+use cat_model::lists::{copy_of, one};
 use cat_model::{Answer, Memory};
-use lists::{copy_of, one};
 use query_table::QueryTable;
 use std::alloc::Global;
 

@@ -2,8 +2,8 @@
 
 ghost use Rattle.std.specs.Prelude.{◌≡◌, IfOk, filter, nat_eq};
 
+use cat_model::lists::copy_if_any;
 use cat_model::{Answer, Memory};
-use lists::copy_if_any;
 use session_table::SessionTable;
 use std::alloc::Global;
 

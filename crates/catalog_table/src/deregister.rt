@@ -17,8 +17,8 @@ use crate::names::{names_of, services_of};
 use crate::services::ServiceTable;
 use crate::touched::Touched;
 use crate::{CatalogTable, Changed};
+use cat_model::lists::one;
 use cat_model::{Applied, CheckRow, Command, List, Memory, ServiceRow, Texts};
-use lists::one;
 use row_table::ByNode;
 use std::alloc::Global;
 

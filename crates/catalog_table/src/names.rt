@@ -9,8 +9,8 @@ ghost use Rattle.catalog_table.specs.Touching.{check_services, is_whole, names_r
 use crate::copies::copy_of;
 use crate::services::ServiceTable;
 use crate::touched::Touched;
+use cat_model::lists::made;
 use cat_model::{CheckRow, List, Memory, ServiceRow, Text, Texts};
-use lists::made;
 use std::alloc::Global;
 
 /// The names of these services.

@@ -8,8 +8,8 @@ ghost use Rattle.cat_model.specs.Catalog.{node_at, service_at, service_key};
 ghost use Rattle.cat_model.specs.Queries.{is_of, name_of, check_view, instance_of, instances};
 ghost use Rattle.health_view.specs.Rows.{rows_with, instance_key, view_if};
 
+use cat_model::lists::{chosen, copy_of};
 use cat_model::{CheckRow, CheckView, Instance, List, Memory, NodeRow, ServiceRow, Text};
-use lists::{chosen, copy_of};
 use node_rows::{compare, compare_pairs, is_blank, is_same};
 use std::alloc::Global;
 

@@ -7,8 +7,8 @@ ghost use Rattle.cat_model.specs.Keys.{pair_cmp};
 ghost use Rattle.cat_model.specs.Tables.{put};
 
 use crate::keys::compare_pairs;
+use cat_model::lists::{around, kept};
 use cat_model::{List, Memory, ServiceRow, Text};
-use lists::{around, kept};
 use std::alloc::Global;
 
 /// The service of this node and ID.

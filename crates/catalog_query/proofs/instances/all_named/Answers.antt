@@ -2,7 +2,7 @@ use Rattle.std.proofs.Common.{◌∙◌, ap, filter}
 use Rattle.std.proofs.lemmas.Result.{IfOk-weaker}
 use Rattle.cat_model.specs.Keys.{same_text}
 use Rattle.catalog_table.specs.Rows.{catalog_of}
-use Rattle.lists.specs.Lists.{flat}
+use Rattle.cat_model.specs.Lists.{flat}
 use Rattle.catalog_query.specs.Placing.{placed}
 use Rattle.catalog_query.proofs.Gathering.{gathered_instances}
 use Rattle.catalog_query.proofs.instances.all_named.Goals as goal

@@ -1,0 +1,14 @@
+use Rattle.std.proofs.Common.{◌≡◌, ◌∙◌, ◌++◌, [], ◌∷◌, sym, ap, map}
+use Rattle.std.proofs.lemmas.Fn.{says_at}
+use Rattle.std.proofs.lemmas.List.{take_all}
+use Rattle.cat_model.proofs.Items.{next_made}
+use Rattle.cat_model.proofs.lists.making.made.Goals as goal
+
+pub loop-item-preserved : goal.loop-item-preserved
+loop-item-preserved g c = λ f h.
+    let said : c.in_ok-make.field-0 ≡ f c.item-item.result = h c.item-item.result c.in_ok-make.field-0 (says_at g.F.Fn c.make.ensures c.in_ok-make.was) in
+    c.in_ok-push.ensures.items ∙ ap (λ l. l ++ (c.in_ok-make.field-0 ∷ [])) (c.loop-item.invariant f h)
+    ∙ sym (next_made f c.args.items.now c.loop-item.item-index c.item-item.result c.in_ok-make.field-0 c.loop-item-test.true c.item-item.is said)
+
+pub returns : goal.returns
+returns g c = λ f h. c.from.ensures ∙ c.loop-item.invariant f h ∙ ap (map f) (take_all c.loop-item.item-index c.args.items.now c.loop-item-test.false)
