@@ -2,7 +2,7 @@
 //! no entry at all.
 
 use crate::words::Words;
-use cat_model::{Command, Entry};
+use cat_model::{Command, Entry, Shared};
 use std::alloc::{AllocError, Global};
 use std::fmt::Write;
 
@@ -11,31 +11,31 @@ pub fn read(alloc: Global, words: &mut Words) -> Option<Vec<Entry>> {
     let mut log = Vec::new(alloc);
     let word = words.next()?;
     if word != "-" {
-        push_runs(&mut log, word)?;
+        push_runs(alloc, &mut log, word)?;
     }
     Some(log)
 }
 
-fn push_runs(log: &mut Vec<Entry>, word: &str) -> Option<()> {
+fn push_runs(alloc: Global, log: &mut Vec<Entry>, word: &str) -> Option<()> {
     for run in word.split(',') {
-        push_run(log, run)?;
+        push_run(alloc, log, run)?;
     }
     Some(())
 }
 
-fn push_run(log: &mut Vec<Entry>, run: &str) -> Option<()> {
+fn push_run(alloc: Global, log: &mut Vec<Entry>, run: &str) -> Option<()> {
     let (term, count) = run.split_once("*").unwrap_or((run, "1"));
     let term = term.parse().ok()?;
     let count = count.parse().ok()?;
-    push_entries(log, term, count)
+    push_entries(alloc, log, term, count)
 }
 
-fn push_entries(log: &mut Vec<Entry>, term: u64, count: u32) -> Option<()> {
+fn push_entries(alloc: Global, log: &mut Vec<Entry>, term: u64, count: u32) -> Option<()> {
     for _ in 0..count {
         log.push(Entry {
             term,
             number: 0,
-            command: Command::Reap,
+            command: Shared::new(alloc, Command::Reap).ok()?,
         })
         .ok()?;
     }

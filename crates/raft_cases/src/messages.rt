@@ -2,13 +2,13 @@
 //! `append TERM PREV PREV_TERM ENTRIES COMMIT ROUND`, `yes TERM MATCHED ROUND` and `no TERM LAST`. ENTRIES is how many
 //! entries there are; where one is read, they are Noops of its term, three at most.
 
-ghost use Rattle.std.specs.Prelude.{◌≡◌, true, IfSome};
+ghost use Rattle.std.specs.Prelude.{◌≡◌, true, IfOk, IfSome};
 ghost use Rattle.cat_model.specs.LogLimits.{keeps_limits};
 ghost use Rattle.cat_model.specs.declared.command.Command.TheVariants.{Noop};
 ghost use Rattle.raft_node.specs.Receiving.{CarriesAllowed};
 
 use crate::words::{Words, answer, answered, number, server};
-use cat_model::{Command, Entry, List};
+use cat_model::{Command, Entry, List, Memory, Shared};
 use raft_model::Message;
 use std::alloc::{AllocError, Global};
 use std::fmt::Write;
@@ -89,25 +89,29 @@ fn no(words: &mut Words) -> Option<Message>
     Some(Message::No { term, last })
 }
 
-fn noop(term: u64) -> Entry
-    ensures { result ≡ record { term = term; number = 0; command = Noop } }
+fn noop(alloc: Global, term: u64) -> Result<Entry, Memory>
+    ensures { IfOk result (λ entry. entry ≡ record { term = term; number = 0; command = Noop }) }
 {
-    Entry {
+    Ok(Entry {
         term,
         number: 0,
-        command: Command::Noop,
-    }
+        command: Shared::new(alloc, Command::Noop)?,
+    })
 }
 
 // So many Noops of a term, three at most.
 fn noops(alloc: Global, term: u64, count: u32) -> Option<List<Entry>>
     ensures { IfSome result (λ entries. keeps_limits entries ≡ true) }
 {
+    let (Ok(one), Ok(two), Ok(three)) = (noop(alloc, term), noop(alloc, term), noop(alloc, term))
+    else {
+        return None;
+    };
     match count {
         0 => Some(List::new(alloc)),
-        1 => Some(List::from(vec![in alloc; noop(term)].ok()?)),
-        2 => Some(List::from(vec![in alloc; noop(term), noop(term)].ok()?)),
-        3 => Some(List::from(vec![in alloc; noop(term), noop(term), noop(term)].ok()?)),
+        1 => Some(List::from(vec![in alloc; one].ok()?)),
+        2 => Some(List::from(vec![in alloc; one, two].ok()?)),
+        3 => Some(List::from(vec![in alloc; one, two, three].ok()?)),
         _ => None,
     }
 }

@@ -6,7 +6,7 @@
 use crate::logs;
 use crate::shown::unread;
 use crate::words::{Words, answered, number, numbers, server, servers};
-use cat_model::{Bytes, Command, Entry, List, Memory, Text};
+use cat_model::{Bytes, Command, Entry, List, Memory, Shared, Text};
 use raft_model::Message;
 use raft_node::{batch, quorum};
 use raft_world::agreed::Agreed;
@@ -150,7 +150,7 @@ fn vote_bytes() -> u64 {
 
 // The bytes of an Append of this one command.
 fn append_bytes(alloc: Global, words: &mut Words) -> Option<u64> {
-    let command = command(alloc, words)?;
+    let command = Shared::new(alloc, command(alloc, words)?).ok()?;
     let mut entries = List::new(alloc);
     entries
         .push(Entry {

@@ -6,7 +6,7 @@
 use crate::messages;
 use crate::shown::{put_node, put_place, put_round, put_sent, refused, unprobed, unread};
 use crate::words::{Words, answered, number, server};
-use cat_model::{Command, List, Memory};
+use cat_model::{Command, List, Memory, Shared};
 use cat_outside::SureKeeper;
 use raft_model::{Place, Round, Sent};
 use raft_node::{Node, ProposeFault};
@@ -119,9 +119,9 @@ fn propose_all(
     last: u64,
 ) -> Result<(Place, List<Sent>), ProposeFault> {
     for number in first..last {
-        node.propose(alloc, number, Command::Reap)?;
+        node.propose(alloc, number, Shared::new(alloc, Command::Reap)?)?;
     }
-    node.propose(alloc, last, Command::Reap)
+    node.propose(alloc, last, Shared::new(alloc, Command::Reap)?)
 }
 
 fn propose(

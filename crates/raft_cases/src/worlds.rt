@@ -10,7 +10,7 @@ ghost use Rattle.raft_world.specs.Steps.{IsNumber};
 use crate::shown::{put_node, put_place, put_round, refused, unprobed, unread};
 use crate::words::{Words, number, server};
 use crate::{logs, messages};
-use cat_model::{Command, List, Memory};
+use cat_model::{Command, List, Memory, Shared};
 use cat_outside::SureKeeper;
 use raft_model::{Place, Round};
 use raft_node::{ProbeFault, ProposeFault};
@@ -146,7 +146,10 @@ fn propose(
     if !is_server(world, s) {
         return None;
     }
-    Some(world.propose(alloc, s, 0, Command::Reap))
+    match Shared::new(alloc, Command::Reap) {
+        Ok(command) => Some(world.propose(alloc, s, 0, command)),
+        Err(Memory) => Some(Err(ProposeFault::Memory)),
+    }
 }
 
 fn put_proposed(

@@ -1,13 +1,12 @@
 -- The command bytes of a log, as code counts them.
-use Rattle.std.proofs.Common.{◌≡◌, ℕ, ◌+◌, ◌-◌, ◌<◌, ◌≤◌, cond, min, [], ◌∷◌, ◌++◌, length, take, get_or, refl, sym, ◌∙◌, ap, arith}
+use Rattle.std.proofs.Common.{◌≡◌, ℕ, ◌+◌, ◌-◌, cond, min, [], ◌∷◌, ◌++◌, length, take, sym, ◌∙◌, ap, arith}
 use Rattle.std.specs.Prelude.{◌&&◌, ◌^◌, nat_le, nat_lt}
 use Rattle.std.proofs.lemmas.Bool.Decides.{nat_tests}
-use Rattle.std.proofs.lemmas.List.{length_push, take_all, take_more}
-use Rattle.cat_model.specs.LogLimits.{command_bytes, is_noop, keeps_limits, log_bytes, most_bytes, most_entries}
+use Rattle.std.proofs.lemmas.List.{length_push, take_all}
+use Rattle.cat_model.specs.LogLimits.{command_bytes, is_noop, keeps_limits, log_bytes}
 use Rattle.cat_model.specs.declared.command.Entry.{Entry}
 use Rattle.raft_model.specs.Log.{Log}
-use Rattle.raft_node.specs.Counts.{IsCount, bytes_of}
-use Rattle.raft_node.specs.declared.counted.Counted.{Counted}
+use Rattle.raft_node.specs.Counts.{bytes_of}
 use Rattle.raft_node.proofs.Leads.{bytes_push}
 
 pub room_is : (log : Log) (count bytes : ℕ) (e : Entry) → count ≡ bytes_of (take (length log) log) → bytes ≡ cond (is_noop e.command) 0 (command_bytes e.command) →

@@ -1,18 +1,18 @@
 -- A leader's new entries, as they are planned.
-use Rattle.std.proofs.Common.{◌≡◌, ◌≢◌, ℕ, zero, suc, ◌+◌, ◌<◌, ◌≤◌, Bool, true, false, cond, List, [], ◌∷◌, ◌++◌, length, take, replicate, Some, None, refl, sym, ◌∙◌, ap, subst, arith}
-use Rattle.std.specs.Prelude.{◌==◌, nat_le, ◌&&◌}
+use Rattle.std.proofs.Common.{◌≡◌, ℕ, ◌+◌, ◌<◌, ◌≤◌, Bool, true, false, cond, List, [], ◌∷◌, ◌++◌, length, take, Some, None, refl, sym, ◌∙◌, ap, subst, arith}
+use Rattle.std.specs.Prelude.{◌==◌, nat_le}
 use Rattle.std.proofs.lemmas.Bool.{cond-true, cond-false, lt-leb}
 use Rattle.std.proofs.lemmas.List.{append-nil, length_push, take_all}
 use Rattle.cat_model.specs.LogLimits.{keeps_limits, log_bytes, most_bytes, most_entries, is_full, is_noop, command_bytes}
+use Rattle.cat_model.specs.declared.command.Command.{Command}
 use Rattle.cat_model.specs.declared.command.Command.TheVariants.{Noop}
 use Rattle.cat_model.specs.declared.command.Entry.{Entry}
-use Rattle.cat_model.specs.declared.reply.Role.TheVariants.{Leader}
 use Rattle.raft_model.proofs.Tests.{and_is, and_tells, at_bool, le_is, le_tells}
 use Rattle.raft_model.specs.Log.{Log}
-use Rattle.raft_model.specs.Node.{Store, Node, Done, last}
+use Rattle.raft_model.specs.Node.{Store, Node, last}
 use Rattle.raft_model.specs.Rules.{append_all, appended, leading, leads, noop}
 use Rattle.raft_model.specs.declared.message.Sent.{Sent}
-use Rattle.raft_node.specs.Nodes.{MayReplace, Plans, after, appends, nowhere, planned_of, seen}
+use Rattle.raft_node.specs.Nodes.{MayReplace, Plans, appends, nowhere, seen}
 use Rattle.raft_node.specs.declared.state.Planned.{Planned}
 use Rattle.raft_node.specs.declared.state.State.{State}
 use Rattle.raft_node.specs.declared.state.Tail.{Tail}
@@ -106,3 +106,10 @@ noop_plan state state' log planned led short halted commit p = record {
   running = p.running ∙ halted;
   commit = λ l. p.commit (omega (arith, commit, l));
 }
+
+-- the same where the entry's command is known to be a Noop
+pub noop_plan_at : (state state' : State) (log : Log) (planned : Planned) (command : Command) → command ≡ Noop → ((store : Store) → seen store state' log ≡ leading (seen store state log)) →
+    length log < 262144 → state'.halted ≡ state.halted → state'.commit ≡ state.commit →
+    Plans (appends (record { term = state.term; number = 0; command = command })) state' log planned → Plans leads state log planned
+noop_plan_at state state' log planned command is led short halted commit p =
+    noop_plan state state' log planned led short halted commit (subst (λ m. Plans (appends (record { term = state.term; number = 0; command = m })) state' log planned) is p)

@@ -1,5 +1,5 @@
 -- What becomes of a planned step, as the store's calls go.
-use Rattle.std.proofs.Common.{◌≡◌, ◌≢◌, ℕ, ◌+◌, ◌-◌, ◌≤◌, Bool, true, false, ◌⊎◌, inl, inr, [], ◌++◌, length, take, Option, Some, None, refl, sym, ◌∙◌, ap, subst, arith}
+use Rattle.std.proofs.Common.{◌≡◌, ◌+◌, ◌-◌, ◌≤◌, Bool, true, false, ◌⊎◌, inl, inr, [], ◌++◌, length, take, Option, Some, None, refl, sym, ◌∙◌, ap, subst, arith}
 use Rattle.std.specs.Option.{ForSome}
 use Rattle.cat_model.specs.Keeping.{with_entries}
 use Rattle.cat_model.specs.LogLimits.{keeps_limits}
@@ -11,11 +11,10 @@ use Rattle.raft_model.specs.Step.{CallWorks, CallFails, VoteSaved, changed, with
 use Rattle.raft_model.specs.declared.message.Sent.{Sent}
 use Rattle.raft_node.specs.Counts.{IsCount}
 use Rattle.raft_node.specs.Nodes.{HoldsLog, IsKept, MayReplace, seen}
-use Rattle.raft_node.specs.Steps.{IsFailed, IsStored, Makes, Remains, VoteFailed, VoteKept, stored}
+use Rattle.raft_node.specs.Steps.{IsFailed, IsStored, Makes, Remains, VoteFailed, VoteKept}
 use Rattle.raft_node.specs.declared.counted.Counted.{Counted}
 use Rattle.raft_node.specs.declared.state.State.{State}
 use Rattle.raft_node.specs.declared.state.Tail.{Tail}
-use Rattle.cat_model.specs.declared.command.Entry.{Entry}
 use Rattle.std.proofs.Common.{List}
 
 -- a state after a failed call

@@ -1,5 +1,5 @@
 -- What the definitions do with each input but a message, and what a planned step then is.
-use Rattle.std.proofs.Common.{◌≡◌, ◌≢◌, ℕ, suc, ◌+◌, ◌-◌, ◌<◌, ◌≤◌, Bool, true, false, cond, not, ◌⊎◌, inl, inr, List, [], ◌∷◌, ◌++◌, length, None, Some, refl, sym, ◌∙◌, ap, subst, arith}
+use Rattle.std.proofs.Common.{◌≡◌, ◌≢◌, ℕ, suc, ◌+◌, ◌-◌, ◌≤◌, Bool, true, false, cond, not, ◌⊎◌, inl, inr, List, [], ◌∷◌, ◌++◌, length, None, Some, refl, sym, ◌∙◌, ap, subst, arith}
 use Rattle.std.specs.Prelude.{◌==◌, ◌&&◌, nat_lt, ◌^◌, Result, Ok, Err, IfOk, OnErr, IsErrOf}
 use Rattle.std.proofs.lemmas.Bool.Decides.{nat_tests}
 use Rattle.std.proofs.lemmas.List.{append-nil}
@@ -10,8 +10,8 @@ use Rattle.cat_model.specs.declared.reply.Role.TheVariants.{Candidate, Follower,
 use Rattle.raft_model.proofs.Tests.{at_bool}
 use Rattle.raft_model.specs.Log.{Log}
 use Rattle.raft_model.specs.Node.{Store, Node, Done, last, quiet}
-use Rattle.raft_model.specs.Rules.{Beat, Input, Probe, Propose, Timeout, append_all, appended, ask_all, beats, candidate, does, done, has_room, has_round, is_confirmed, is_leader, leads, probes, proposal, proposes, stands, timed_out}
-use Rattle.raft_model.specs.Step.{Forgets, LogFails, NodeStep, VoteFails, Works, halts}
+use Rattle.raft_model.specs.Rules.{Beat, Input, Probe, Propose, Timeout, append_all, appended, ask_all, beats, candidate, does, done, has_round, is_confirmed, is_leader, leads, probes, proposal, proposes, stands, timed_out}
+use Rattle.raft_model.specs.Step.{LogFails, NodeStep, Works}
 use Rattle.raft_model.specs.Quorum.{is_majority}
 use Rattle.raft_model.specs.declared.message.Round.{Round}
 use Rattle.raft_model.specs.declared.message.Sent.{Sent}

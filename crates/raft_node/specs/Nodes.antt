@@ -1,6 +1,6 @@
 -- A node as its parts: its store, its log, and its state, which is all else. And what a step plans of them, before its
 -- store calls are made.
-use Rattle.std.specs.Prelude.{◌≡◌, ◌≢◌, ℕ, ◌-◌, ◌^◌, ◌≤◌, nat_lt, Bool, true, false, not, ◌&&◌, [], ◌++◌, length, take, Option, Some, None}
+use Rattle.std.specs.Prelude.{◌≡◌, ◌≢◌, ◌-◌, ◌^◌, ◌≤◌, nat_lt, Bool, true, false, not, ◌&&◌, [], ◌++◌, length, take, Option, Some, None}
 use Rattle.std.specs.Option.{ForSome}
 use Rattle.cat_model.specs.LogLimits.{keeps_limits}
 use Rattle.cat_model.specs.declared.command.Entry.{Entry}

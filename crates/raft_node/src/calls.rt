@@ -17,7 +17,7 @@ use crate::leading::appends;
 use crate::node::Node;
 use crate::quorum::have_reached;
 use crate::sending::append_all;
-use cat_model::{Command, Entry, List, Memory, Role};
+use cat_model::{Command, Entry, List, Memory, Role, Shared};
 use cat_outside::Keeper;
 use raft_model::{Place, Round, Sent};
 use std::alloc::Global;
@@ -107,7 +107,7 @@ impl<K: Keeper + Drop> Node<K> {
         &mut self,
         alloc: Global,
         number: u64,
-        command: Command,
+        command: Shared<Command>,
     ) -> Result<(Place, List<Sent>), ProposeFault>
         ensures { Proposes self.old number command self.new result }
     {
@@ -122,7 +122,7 @@ impl<K: Keeper + Drop> Node<K> {
         &mut self,
         alloc: Global,
         number: u64,
-        command: Command,
+        command: Shared<Command>,
     ) -> Result<(Place, List<Sent>), ProposeFault>
         requires { MayPropose self.old number command }
         ensures ok { IfOk result (λ done. NodeStep Works self.old (Propose number command) self.new done.1) }

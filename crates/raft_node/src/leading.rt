@@ -8,7 +8,7 @@ ghost use Rattle.raft_node.specs.Nodes.{Plans, appends};
 use crate::counted::MOST_LOG_ENTRIES;
 use crate::sending::append_all;
 use crate::state::{Planned, State, Tail};
-use cat_model::{Command, Entry, List, Memory, Role};
+use cat_model::{Command, Entry, List, Memory, Role, Shared};
 use std::alloc::Global;
 
 // The same number for each server.
@@ -73,7 +73,7 @@ pub fn leads(alloc: Global, mut state: State, log: &[Entry]) -> Result<Planned, 
     let noop = Entry {
         term: state.term,
         number: 0,
-        command: Command::Noop,
+        command: Shared::new(alloc, Command::Noop)?,
     };
     appends(alloc, state, log, noop)
 }

@@ -8,7 +8,7 @@ ghost use Rattle.raft_world.specs.Steps.{Begun, IsNumber, KeepsAgreement, Leads,
 
 use crate::settling::{place, settle};
 use crate::world::World;
-use cat_model::Command;
+use cat_model::{Command, Shared};
 use cat_outside::Keeper;
 use raft_model::{Place, Round};
 use raft_node::{ProbeFault, ProposeFault};
@@ -33,7 +33,7 @@ impl<K: Keeper + Drop> World<K> {
         alloc: Global,
         s: u32,
         number: u64,
-        command: Command,
+        command: Shared<Command>,
     ) -> Result<Place, ProposeFault>
         requires server { IsNumber s self.old }
         requires fresh { IsNew self.old (Propose number command) }

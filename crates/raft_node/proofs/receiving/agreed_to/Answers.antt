@@ -15,7 +15,7 @@ returns-then-matched-log c =
 pub returns-in_ok-planned-in-Leader : goal.returns-in_ok-planned-in-Leader
 returns-in_ok-planned-in-Leader c =
     let s = c.args.state in let log = c.args.log.now in let leader = c.noted-leader.result in let commit = c.committed.result in
-    let k : commit ≡ committed_upto (counting leader.id leader.servers leader.term s.commit log leader.matched.items) (length log) = cc in
+    let k : commit ≡ committed_upto (counting leader.id leader.servers leader.term s.commit log leader.matched.items) (length log) = c.committed.ensures ∙ ap (λ m. committed_upto (counting leader.id leader.servers leader.term s.commit log m) (length log)) c.deref.ensures.value in
     plan_via (λ n. agreed_to n n.role c.args.from c.args.matched c.args.round) (λ n. after_yes (record n { commit = s.commit }) n c.args.from) s (record leader { commit = commit }) log _ c.in_ok-planned-in-Leader.ensures
     (λ store. agreed_leader (seen store s log) s.role c.args.from c.args.matched c.args.round c.in-Leader.is c.if-matched-log.false
     ∙ ap (λ (n : Node). after_yes (seen store s log) n c.args.from) (committed_is leader log store s.commit commit _ (c.noted-leader.ensures.seen store log) c.noted-leader.ensures.commit k)

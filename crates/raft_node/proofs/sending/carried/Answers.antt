@@ -1,4 +1,4 @@
-use Rattle.std.proofs.Common.{◌≡◌, ◌++◌, drop, take, sym, ◌∙◌, ap}
+use Rattle.std.proofs.Common.{◌++◌, drop, take, sym, ◌∙◌, ap}
 use Rattle.raft_model.specs.Limits.{batch}
 use Rattle.raft_node.proofs.Windows.{batch_front}
 use Rattle.raft_node.proofs.sending.carried.Goals as goal

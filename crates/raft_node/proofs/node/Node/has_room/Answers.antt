@@ -2,7 +2,7 @@ use Rattle.std.proofs.Common.{[], ap, take, ◌++◌, ◌∙◌, ◌∷◌}
 use Rattle.cat_model.specs.LogLimits.{keeps_limits}
 use Rattle.cat_model.specs.declared.command.Entry.{Entry}
 use Rattle.std.specs.Prelude.{nat_le, nat_lt, ◌&&◌}
-use Rattle.std.proofs.Common.{◌+◌, length}
+use Rattle.std.proofs.Common.{◌+◌}
 use Rattle.raft_node.specs.Counts.{bytes_of}
 use Rattle.raft_node.specs.declared.counted.Counted.{Counted}
 use Rattle.raft_node.proofs.Bytes.{room_is}

@@ -1,7 +1,7 @@
-use Rattle.std.proofs.Common.{◌≡◌, ◌≤◌, ◌++◌, take, length, ap, subst, sym, ◌∙◌, Err}
+use Rattle.std.proofs.Common.{◌≤◌, ◌++◌, take, length, ap, subst, sym, ◌∙◌, Err}
 use Rattle.raft_node.specs.Nodes.{IsKept, MayReplace}
 use Rattle.raft_node.specs.Steps.{stored}
-use Rattle.raft_node.proofs.Made.{forgets_kept, log_fails, log_halts_kept, log_keeps, log_makes, log_saves_vote, may_store}
+use Rattle.raft_node.proofs.Made.{forgets_kept, log_fails, log_halts_kept, log_keeps, log_makes, may_store}
 use Rattle.raft_node.proofs.node.Node.make_log.Goals as goal
 
 pub store_log-requires-clause-may : goal.store_log-requires-clause-may

@@ -1,4 +1,4 @@
-use Rattle.std.proofs.Common.{◌≡◌, ◌≤◌, length, [], ap, subst, sym, ◌∙◌, Err}
+use Rattle.std.proofs.Common.{◌≤◌, length, [], ap, subst, sym, ◌∙◌, Err}
 use Rattle.raft_node.specs.Nodes.{IsKept, seen}
 use Rattle.raft_node.specs.Steps.{Makes, stored}
 use Rattle.raft_node.proofs.Made.{halted_of, vote_halts, vote_halts_kept, vote_keeps, vote_made}
