@@ -2,7 +2,7 @@ ghost use Rattle.std.specs.Prelude.{◌≡◌, ◌<◌};
 
 use crate::words::Words;
 use crate::{commands, queries, shown};
-use cat_model::{Answer, Command, Memory, Query, Steps};
+use cat_model::{Answer, Command, Memory, Query, Shared, Steps};
 use catalog_query::{View, chans, evaluate};
 use catalog_store::{Store, is_taken};
 use std::alloc::Global;
@@ -75,11 +75,11 @@ fn unread(alloc: Global) -> Result<String, Memory> {
 fn apply(alloc: Global, store: &mut Store, words: &mut Words) -> Result<String, Memory> {
     match commands::read(alloc, words) {
         None => unread(alloc),
-        Some(command) => applied(alloc, store, &command),
+        Some(command) => applied(alloc, store, &Shared::new(alloc, command)?),
     }
 }
 
-fn applied(alloc: Global, store: &mut Store, command: &Command) -> Result<String, Memory> {
+fn applied(alloc: Global, store: &mut Store, command: &Shared<Command>) -> Result<String, Memory> {
     let position = store.length().saturating_add(1);
     if position > 262_144 || !is_taken(command) {
         return unread(alloc);

@@ -10,7 +10,7 @@ use Rattle.cat_model.proofs.SameLemmas.{text_decides}
 use Rattle.cat_model.proofs.TableLemmas.{All-weaker, All-append}
 use Rattle.catalog_table.specs.Names.{is_among}
 use Rattle.catalog_table.specs.declared.changed.Changed.{Changed}
-use Rattle.key_commands.specs.Firing.{Once, FiresJust}
+use Rattle.catalog_store.specs.Firing.{Once, FiresJust}
 use Rattle.catalog_store.specs.Registering.{has_some, one_if, all_chans, goes}
 use Rattle.catalog_store.specs.declared.registering.NodeChange.{NodeChange}
 

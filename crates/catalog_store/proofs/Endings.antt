@@ -27,9 +27,9 @@ use Rattle.kv_table.specs.States.{KvState}
 use Rattle.catalog_table.specs.Rows.{Rows, catalog_of, InOrder, off_node}
 use Rattle.session_table.specs.Nodes.{is_of_node}
 use Rattle.table_index.specs.States.{IndexState}
-use Rattle.key_commands.specs.Firing.{FiresJust, keys_fire}
-use Rattle.key_commands.specs.Steps.{SameIndexes}
-use Rattle.key_commands.proofs.Fires.{same_row, fires_one, fires_none}
+use Rattle.catalog_store.specs.Firing.{FiresJust, keys_fire}
+use Rattle.catalog_store.specs.Steps.{SameIndexes}
+use Rattle.catalog_store.proofs.Fires.{same_row, fires_one, fires_none}
 use Rattle.catalog_store.specs.States.{State, whole}
 use Rattle.catalog_store.specs.Standing.{Ready, QueriesFit}
 use Rattle.catalog_store.specs.Whole.{PositionsMove, TablesStep}

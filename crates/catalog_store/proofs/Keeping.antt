@@ -24,8 +24,8 @@ use Rattle.cat_model.proofs.LockLaw.{next_is, stand_at}
 use Rattle.cat_model.proofs.ViewSteps.{view_step_law}
 use Rattle.kv_table.specs.States.{KvState}
 use Rattle.catalog_table.specs.Rows.{rows_of, catalog_of}
-use Rattle.key_commands.specs.Firing.{FiresJust}
-use Rattle.key_commands.specs.Steps.{Earlier}
+use Rattle.catalog_store.specs.Firing.{FiresJust}
+use Rattle.catalog_store.specs.Steps.{Earlier}
 use Rattle.catalog_store.specs.States.{State, first, whole, kept_of, now_of, before_of}
 use Rattle.catalog_store.specs.Standing.{KeysStand, PositionsStand, QueriesFit, Stands, Holds, Ready}
 use Rattle.catalog_store.specs.Whole.{TablesStep}

@@ -10,9 +10,9 @@ use Rattle.cat_model.specs.declared.applied.Applied.TheVariants.{Yes}
 use Rattle.cat_model.specs.declared.command.Command.{Command}
 use Rattle.cat_model.specs.declared.command.Command.TheVariants.{Upgrade}
 use Rattle.kv_table.specs.States.{KvState, KvVersions}
-use Rattle.key_commands.specs.Firing.{keys_fire}
-use Rattle.key_commands.specs.Steps.{KeyStep}
-use Rattle.key_commands.proofs.Fires.{fires_none, all_quiet}
+use Rattle.catalog_store.specs.Firing.{keys_fire}
+use Rattle.catalog_store.specs.Steps.{KeyStep}
+use Rattle.catalog_store.proofs.Fires.{fires_none, all_quiet}
 use Rattle.catalog_store.specs.States.{State, whole}
 use Rattle.catalog_store.specs.Standing.{Ready}
 use Rattle.catalog_store.specs.Whole.{Acts, ActsWhole}

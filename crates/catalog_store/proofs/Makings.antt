@@ -26,8 +26,8 @@ use Rattle.cat_model.proofs.Lookups.{row_at-put}
 use Rattle.catalog_table.specs.Rows.{catalog_of}
 use Rattle.table_index.specs.States.{with_table}
 use Rattle.table_index.specs.declared.positions.Table.TheVariants as table
-use Rattle.key_commands.specs.Firing.{FiresJust}
-use Rattle.key_commands.proofs.Fires.{fires_none, fires_one, same_row}
+use Rattle.catalog_store.specs.Firing.{FiresJust}
+use Rattle.catalog_store.proofs.Fires.{fires_none, fires_one, same_row}
 use Rattle.catalog_store.specs.States.{State, whole}
 use Rattle.catalog_store.specs.Standing.{Ready}
 use Rattle.catalog_store.specs.Whole.{Acts, ActsWhole}

@@ -31,10 +31,10 @@ use Rattle.cat_model.proofs.TableLemmas.{All-weaker, All-append}
 use Rattle.kv_table.specs.States.{KvState}
 use Rattle.catalog_table.specs.Rows.{catalog_of}
 use Rattle.catalog_table.proofs.Parts.{filter_all}
-use Rattle.key_commands.specs.Firing.{Once, FiresJust}
-use Rattle.key_commands.specs.Steps.{SameIndexes}
-use Rattle.key_commands.proofs.Fires.{same_row, fires_none}
-use Rattle.key_commands.proofs.Tombs.{own_row, buried_none}
+use Rattle.catalog_store.specs.Firing.{Once, FiresJust}
+use Rattle.catalog_store.specs.Steps.{SameIndexes}
+use Rattle.catalog_store.proofs.Fires.{same_row, fires_none}
+use Rattle.catalog_store.proofs.Tombs.{own_row, buried_none}
 use Rattle.catalog_store.specs.States.{State, whole}
 use Rattle.catalog_store.specs.Standing.{Ready, QueriesFit}
 use Rattle.catalog_store.specs.Whole.{Acts, ActsWhole, MovesAll, PositionsMove, TablesStep}

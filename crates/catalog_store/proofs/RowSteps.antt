@@ -30,7 +30,7 @@ use Rattle.catalog_table.specs.declared.changed.Changed.{Changed}
 use Rattle.catalog_table.proofs.ServiceReads.{reads_nothing}
 use Rattle.table_index.specs.NameVersions.{own_position}
 use Rattle.table_index.specs.States.{IndexState}
-use Rattle.key_commands.proofs.Fires.{same_row}
+use Rattle.catalog_store.proofs.Fires.{same_row}
 use Rattle.catalog_table.proofs.Keeping.{KeepsOthers, put_keeps, deregister_keeps}
 use Rattle.catalog_table.specs.Steps.{put_rows}
 use Rattle.cat_model.specs.Machine.{register, unless, refusal_of, last_of_each, has_service, put_given}

@@ -27,7 +27,7 @@ use Rattle.cat_model.proofs.InOrder.{found_in, found_by}
 use Rattle.table_index.specs.States.{with_table}
 use Rattle.table_index.specs.declared.positions.Table.TheVariants as table
 use Rattle.query_table.specs.States.{is_named}
-use Rattle.key_commands.proofs.Fires.{fires_one, same_row}
+use Rattle.catalog_store.proofs.Fires.{fires_one, same_row}
 use Rattle.catalog_store.specs.States.{State, whole}
 use Rattle.catalog_store.specs.Standing.{Ready, QueriesFit}
 use Rattle.catalog_store.specs.Whole.{Acts, ActsWhole}

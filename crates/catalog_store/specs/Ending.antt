@@ -12,9 +12,9 @@ use Rattle.cat_model.specs.declared.row.QueryRow.{QueryRow}
 use Rattle.cat_model.specs.declared.query.Chan.{Chan}
 use Rattle.cat_model.specs.declared.query.Chan.TheVariants.{Sessions, Queries, Key, Reaped}
 use Rattle.cat_model.specs.declared.fired.Fired.{Fired}
-use Rattle.key_commands.specs.Firing.{FiresJust}
-use Rattle.key_commands.specs.Freeing.{freed_rows, freed_keys}
-use Rattle.key_commands.specs.Steps.{SameIndexes}
+use Rattle.catalog_store.specs.Firing.{FiresJust}
+use Rattle.catalog_store.specs.Freeing.{freed_rows, freed_keys}
+use Rattle.catalog_store.specs.Steps.{SameIndexes}
 use Rattle.table_index.specs.States.{IndexState}
 use Rattle.catalog_store.specs.States.{State}
 

@@ -1,3 +1,7 @@
+pub mod Changes
+pub mod Firing
+pub mod Freeing
+pub mod Steps
 pub mod States
 pub mod Standing
 pub mod Taken

@@ -17,8 +17,8 @@ use Rattle.cat_model.specs.declared.fired.Fired.{Fired}
 use Rattle.cat_model.specs.declared.command.Command.{Command}
 use Rattle.table_index.specs.NameVersions.{own_position}
 use Rattle.table_index.specs.States.{IndexState}
-use Rattle.key_commands.specs.Firing.{FiresJust}
-use Rattle.key_commands.specs.Steps.{SameIndexes}
+use Rattle.catalog_store.specs.Firing.{FiresJust}
+use Rattle.catalog_store.specs.Steps.{SameIndexes}
 use Rattle.catalog_store.specs.States.{State, whole}
 use Rattle.catalog_store.specs.Standing.{QueriesFit}
 

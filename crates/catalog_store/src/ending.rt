@@ -13,6 +13,7 @@ ghost use Rattle.catalog_store.specs.Registering.{one_if};
 ghost use Rattle.catalog_store.specs.Ending.{is_gone, is_orphan, Ends};
 
 use crate::channels::{freed_chans, push_if, touch_if};
+use crate::key_commands;
 use crate::tables::Tables;
 use cat_model::{Chan, Fired, Freed, List, Memory, SessionRow};
 use query_table::QueryTable;

@@ -1,8 +1,9 @@
-//! The tables of the catalog together with the log that they stand for.
+//! The tables of the catalog together with the log that they stand for, and what each command does to them.
 #![tactic(auto)]
 
 mod channels;
 mod ending;
+mod key_commands;
 mod lost;
 mod queries;
 mod registering;

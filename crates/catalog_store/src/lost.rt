@@ -4,9 +4,9 @@ ghost use Rattle.std.specs.Prelude.{◌≡◌, ◌∷◌, [], IfOk, if◌then◌
 ghost use Rattle.cat_model.specs.Keys.{is_empty};
 ghost use Rattle.catalog_store.specs.Lost.{critical_id, ids_in_service, is_critical, lost_checks};
 
+use cat_model::lists::{chosen, copy_of, made, one};
 use cat_model::{CheckRow, Command, List, Memory, NewCheck, Status, Text, Texts};
 use catalog_table::CatalogTable;
-use lists::{chosen, copy_of, made, one};
 use std::alloc::Global;
 
 fn is_critical(check: &NewCheck) -> bool

@@ -14,8 +14,8 @@ ghost use Rattle.catalog_store.specs.Making.{kept_create, known_in, made_query, 
 use crate::channels::{push_if, touch_if};
 use crate::sessions::is_known;
 use crate::tables::Tables;
+use cat_model::lists::one;
 use cat_model::{Applied, Chan, Command, List, Memory, QueryRow, Refuse};
-use lists::one;
 use query_table::QueryTable;
 use session_table::SessionTable;
 use std::alloc::Global;

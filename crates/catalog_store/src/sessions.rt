@@ -14,9 +14,9 @@ ghost use Rattle.catalog_store.specs.Lost.{OthersWhole};
 ghost use Rattle.catalog_store.specs.Making.{create_refused, made_session, IsCreate};
 
 use crate::tables::Tables;
+use cat_model::lists::{copy_if_any, kept, one};
 use cat_model::{Applied, Chan, Command, List, Memory, Refuse, SessionRow, Status, Text};
 use catalog_table::CatalogTable;
-use lists::{copy_if_any, kept, one};
 use session_table::SessionTable;
 use std::alloc::Global;
 use table_index::Table;

@@ -2,7 +2,7 @@
 
 ghost use Rattle.std.specs.Prelude.{◌≡◌, ◌≤◌, true, IfOk, length};
 ghost use Rattle.cat_model.specs.declared.command.Command.TheVariants.{SessionDestroy, Txn, Upgrade};
-ghost use Rattle.key_commands.specs.Steps.{is_on_keys, Tells};
+ghost use Rattle.catalog_store.specs.Steps.{is_on_keys, Tells};
 ghost use Rattle.catalog_store.specs.States.{now_of, before_of};
 ghost use Rattle.catalog_store.specs.Standing.{Ready};
 ghost use Rattle.catalog_store.specs.Taken.{is_taken};
@@ -14,9 +14,9 @@ ghost use Rattle.catalog_store.specs.Making.{ends_none};
 use crate::ending::end;
 use crate::lost::lost_checks;
 use crate::tables::Tables;
-use crate::{queries, registering, sessions};
+use crate::{key_commands, queries, registering, sessions};
+use cat_model::lists::joined;
 use cat_model::{Applied, Chan, Command, Fired, List, Memory, Text, TxnOp};
-use lists::joined;
 use std::alloc::Global;
 
 // Whether the session that is to acquire a lock is there.

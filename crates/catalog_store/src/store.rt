@@ -1,7 +1,7 @@
 ghost use Rattle.std.specs.Prelude.{◌≡◌, ◌≤◌, ◌+◌, [], ◌∷◌, ◌++◌, IfOk, OnOk, OnErr, length, map, true};
 ghost use Rattle.cat_model.specs.Machine.{catalog_at, reply_to, freed};
 ghost use Rattle.cat_model.specs.Channels.{fires};
-ghost use Rattle.key_commands.specs.Firing.{FiresJust};
+ghost use Rattle.catalog_store.specs.Firing.{FiresJust};
 ghost use Rattle.catalog_store.specs.States.{now_of, before_of};
 ghost use Rattle.catalog_store.specs.Standing.{KeysStand, RowsStand, PositionsStand, Ready};
 ghost use Rattle.catalog_store.specs.Taken.{is_taken};
@@ -9,7 +9,7 @@ ghost use Rattle.catalog_store.specs.Whole.{TablesStep};
 
 use crate::steps::step;
 use crate::tables::Tables;
-use cat_model::{Applied, Command, Fired, Memory};
+use cat_model::{Applied, Command, Fired, Memory, Shared};
 use catalog_table::CatalogTable;
 use kv_table::KvTable;
 use query_table::QueryTable;
@@ -22,7 +22,7 @@ use table_index::TableIndex;
 #[derive(Drop)]
 pub struct Store {
     tables: Tables,
-    applied: Vec<Command>,
+    applied: Vec<Shared<Command>>,
 }
 
 impl Model for Store {
@@ -37,20 +37,13 @@ impl Model for Store {
     ghost invariant = { λ s. Holds s.tables s.applied.items };
 }
 
-// A copy of a command.
-fn copy_of(command: &Command) -> Result<Command, Memory>
-    ensures { IfOk result (λ copy. copy ≡ command.now) }
-{
-    Ok(command.clone()?)
-}
-
 // Applies the command to the tables, and puts it last. Want of memory leaves the list as it was.
 fn advance(
     alloc: Global,
     tables: &mut Tables,
-    applied: &mut Vec<Command>,
+    applied: &mut Vec<Shared<Command>>,
     position: u64,
-    command: &Command,
+    command: &Shared<Command>,
 ) -> Result<(Applied, Fired), Memory>
     requires ready { Ready position (now_of tables.old) }
     requires kind { is_taken command.now ≡ true }
@@ -59,9 +52,9 @@ fn advance(
     ensures err { OnErr result (applied.new.items ≡ applied.old.items) }
     ensures before { before_of tables.new ≡ before_of tables.old }
 {
-    let copy = copy_of(command)?;
+    let owner = command.share()?;
     let done = step(alloc, tables, position, command)?;
-    applied.push(copy)?;
+    applied.push(owner)?;
     Ok(done)
 }
 
@@ -82,7 +75,7 @@ impl Store {
         &mut self,
         alloc: Global,
         position: u64,
-        command: &Command,
+        command: &Shared<Command>,
     ) -> Result<(Applied, Fired), Memory>
         requires place { position ≡ length self.old + 1 }
         requires limit { position ≤ 262144 }

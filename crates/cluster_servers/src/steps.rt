@@ -9,7 +9,7 @@ ghost use Rattle.raft_world.specs.Steps.{Begun, Delivers, FindsNoMemory, IsNumbe
 ghost use Rattle.cluster_rules.specs.Cluster.{clock_of, no_server};
 
 use crate::servers::{Servers, place};
-use cat_model::{Command, Memory};
+use cat_model::{Command, Memory, Shared};
 use cat_outside::Keeper;
 use raft_model::{Place, Round};
 use raft_node::{ProbeFault, ProposeFault};
@@ -91,7 +91,7 @@ impl<K: Keeper + Drop> Servers<K> {
         alloc: Global,
         s: u32,
         number: u64,
-        command: Command,
+        command: Shared<Command>,
     ) -> Result<Place, ProposeFault>
         requires server { IsNumber s self.old.world }
         requires fresh { IsNew self.old.world (Propose number command) }

@@ -22,7 +22,7 @@ use Rattle.cat_model.specs.Channels.{fires}
 use Rattle.cat_model.specs.Indexes.{is_reap}
 use Rattle.cat_model.specs.Machine.{at_past, catalog_at}
 use Rattle.cat_model.proofs.TableLemmas.{All-weaker}
-use Rattle.key_commands.specs.Firing.{FiresJust}
+use Rattle.catalog_store.specs.Firing.{FiresJust}
 use Rattle.office_rules.specs.Offices.{has_removed, removed_since}
 use Rattle.replica.specs.Removing.{is_gone}
 

@@ -12,7 +12,7 @@ use Rattle.cat_model.specs.declared.command.Command.{Command}
 use Rattle.cat_model.proofs.IndexLaw.{untouched, index_more}
 use Rattle.cat_model.proofs.Covering.{covering_law}
 use Rattle.cat_model.proofs.Reaching.{same_chans, hit_by}
-use Rattle.key_commands.specs.Firing.{FiresJust}
+use Rattle.catalog_store.specs.Firing.{FiresJust}
 use Rattle.replica.specs.Sparing.{SparesOthers}
 
 module _ (past : List Command) (command : Command) where

@@ -6,7 +6,7 @@ ghost use Rattle.cat_model.specs.Channels.{fires};
 ghost use Rattle.cat_model.specs.Indexes.{is_reap};
 ghost use Rattle.cat_model.specs.Machine.{catalog_at};
 ghost use Rattle.cat_model.specs.declared.command.Command.{Command as SpecCommand};
-ghost use Rattle.key_commands.specs.Firing.{FiresJust};
+ghost use Rattle.catalog_store.specs.Firing.{FiresJust};
 ghost use Rattle.office_rules.specs.Offices.{has_removed};
 ghost use Rattle.replica.specs.Removing.{is_gone};
 

@@ -6,7 +6,7 @@ ghost use Rattle.cat_model.specs.Channels.{chans, fires};
 ghost use Rattle.cat_model.specs.Executions.{execution};
 ghost use Rattle.cat_model.specs.Queries.{answer};
 ghost use Rattle.cat_model.specs.Indexes.{index_of};
-ghost use Rattle.key_commands.specs.Firing.{FiresJust};
+ghost use Rattle.catalog_store.specs.Firing.{FiresJust};
 ghost use Rattle.catalog_query.specs.Standing.{Stands};
 ghost use Rattle.catalog_store.specs.Taken.{is_taken};
 ghost use Rattle.agent_rules.specs.Agents.{remote_of};
@@ -18,7 +18,8 @@ use crate::delays::Delays;
 use crate::remote::rows_of_node;
 use crate::{copies, removing, timing};
 use cat_model::{
-    Answer, Applied, Chan, Command, Fired, List, Memory, Query, Ran, Remote, SessionRow, Steps,
+    Answer, Applied, Chan, Command, Fired, List, Memory, Query, Ran, Remote, SessionRow, Shared,
+    Steps,
 };
 use catalog_query::{ExecuteFault, View};
 use catalog_store::Store;
@@ -132,7 +133,7 @@ impl Replica {
     pub fn apply(
         &mut self,
         alloc: Global,
-        command: &Command,
+        command: &Shared<Command>,
         now: u64,
     ) -> Result<List<Chan>, Memory>
         requires room { length self.old.commands < 262144 }

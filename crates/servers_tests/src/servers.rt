@@ -2,7 +2,7 @@ ghost use Rattle.std.specs.Prelude.{◌≡◌, ◌<◌, is_some, true};
 ghost use Rattle.raft_model.specs.World.{numbered};
 ghost use Rattle.raft_world.specs.Steps.{IsNumber};
 
-use cat_model::{Answer, Bytes, Command, List, Memory, Query, Role, Steps, Text};
+use cat_model::{Answer, Bytes, Command, List, Memory, Query, Role, Shared, Steps, Text};
 use cat_outside::{KeepFail, SureKeeper};
 use cluster_servers::Servers;
 use raft_model::{Place, Round};
@@ -159,6 +159,7 @@ fn set_key(
     if !is_server(servers, s) {
         return Ok(None);
     }
+    let command = Shared::new(alloc, command)?;
     Ok(Some(servers.propose(alloc, s, 0, command)))
 }
 

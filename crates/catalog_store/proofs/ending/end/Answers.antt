@@ -4,7 +4,7 @@ use Rattle.cat_model.specs.declared.fired.Freed.{Freed}
 use Rattle.cat_model.specs.declared.query.Chan.TheVariants.{Key, Sessions, Queries}
 use Rattle.cat_model.specs.Same.{same_session, same_query}
 use Rattle.cat_model.proofs.SameLemmas.{session_decides, query_decides}
-use Rattle.key_commands.specs.Firing.{FiresJust}
+use Rattle.catalog_store.specs.Firing.{FiresJust}
 use Rattle.catalog_store.specs.States.{State, now_of}
 use Rattle.catalog_store.specs.Registering.{one_if}
 use Rattle.catalog_store.specs.Ending.{is_gone, is_orphan, sessions_differ, queries_differ, still_fires}

@@ -1,6 +1,0 @@
-use Rattle.std.proofs.Common.{take}
-use Rattle.key_commands.specs.Steps.{BuriesEach}
-use Rattle.key_commands.proofs.keys.bury_each.Given as goal
-
-abbrev pub invariant-loop-key : goal.invariant-loop-key
-invariant-loop-key l = BuriesEach (take l.key-index l.keys) l.position l.initial.table l.table

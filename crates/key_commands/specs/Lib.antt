@@ -1,4 +1,0 @@
-pub mod Changes
-pub mod Firing
-pub mod Freeing
-pub mod Steps
