@@ -10,7 +10,7 @@ ghost use Rattle.cluster_rules.specs.Requests.{delayed_at, is_ready};
 ghost use Rattle.cluster_turns.specs.Turns.{HandlesNewest, IsCome};
 
 use crate::cluster::Cluster;
-use cat_model::{Asked, Command, Draw, Memory};
+use cat_model::{Asked, Command, Draw, Memory, Shared};
 use cat_outside::Keeper;
 use cluster_parts::{answer_newest, deferred};
 use std::alloc::Global;
@@ -47,7 +47,7 @@ impl<K: Keeper + Drop> Cluster<K> {
         agent: u32,
         asked: &Asked,
         draw: Draw,
-        command: &Command,
+        command: &Shared<Command>,
         key: &str,
     ) -> Result<(), Memory>
         requires server { IsServerNumber self.old server }

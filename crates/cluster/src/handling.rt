@@ -14,11 +14,11 @@ ghost use Rattle.cluster_turns.specs.Turns.{HandlesNewest, IsCome};
 ghost use Rattle.cluster_parts.specs.Asking.{IsCopied, IsTakenWrite};
 
 use crate::cluster::Cluster;
-use cat_model::{Asked, Command, Draw, Memory, Mode};
+use cat_model::{Asked, Command, Draw, Memory, Mode, Shared};
 use cat_outside::Keeper;
 use cluster_parts::{
-    Write, copied_question, copy_command, end_write, hold_newest, is_stale_read, refuse_newest,
-    see, wait_of, with_question,
+    Write, copied_question, end_write, hold_newest, is_stale_read, refuse_newest, see, wait_of,
+    with_question,
 };
 use open_requests::Plain;
 use std::alloc::Global;
@@ -51,7 +51,7 @@ impl<K: Keeper + Drop> Cluster<K> {
         agent: u32,
         asked: &Asked,
         draw: Draw,
-        command: &Command,
+        command: &Shared<Command>,
     ) -> Result<Write, Memory>
         requires server { IsServerNumber self.now server }
         ensures { IfOk result (IsCopied self.now server agent asked.now draw command.now) }
@@ -152,7 +152,7 @@ impl<K: Keeper + Drop> Cluster<K> {
         alloc: Global,
         server: u32,
         write: Write,
-        command: Command,
+        command: Shared<Command>,
     ) -> Result<(), Memory>
         requires server { IsServerNumber self.old server }
         requires write { IsTakenWrite self.old server write }
@@ -184,7 +184,7 @@ impl<K: Keeper + Drop> Cluster<K> {
         agent: u32,
         asked: &Asked,
         draw: Draw,
-        command: &Command,
+        command: &Shared<Command>,
     ) -> Result<(), Memory>
         requires server { IsServerNumber self.old server }
         requires taken { IsTakenAsked asked.now }
@@ -197,7 +197,7 @@ impl<K: Keeper + Drop> Cluster<K> {
         ensures err { OnErr result (self.new ≡ self.old) }
     {
         let write = self.copies(alloc, server, agent, asked, draw, command)?;
-        match copy_command(&write.entry.command) {
+        match write.entry.command.share() {
             Ok(copy) => self.propose(alloc, server, write, copy),
             Err(Memory) => {
                 drop(write);
@@ -214,7 +214,7 @@ impl<K: Keeper + Drop> Cluster<K> {
         agent: u32,
         asked: &Asked,
         draw: Draw,
-        command: &Command,
+        command: &Shared<Command>,
     ) -> Result<(), Memory>
         requires server { IsServerNumber self.old server }
         requires taken { IsTakenAsked asked.now }

@@ -2,15 +2,22 @@
 
 ghost use Rattle.std.specs.Prelude.{◌≡◌, IfOk};
 
-use cat_model::{Asked, Command, Draw, Entry, List, Memory, Refusal};
+use cat_model::{Asked, Command, Draw, Entry, List, Memory, Refusal, Shared};
 use open_requests::{Question, copy_asked};
 use std::alloc::Global;
 
 /// A copy of a command.
-pub fn copy_command(command: &Command) -> Result<Command, Memory>
+pub(crate) fn copy_command(command: &Command) -> Result<Command, Memory>
     ensures { IfOk result (λ copy. copy ≡ command.now) }
 {
     Ok(command.clone()?)
+}
+
+/// A copy of a command, which logs then share.
+pub(crate) fn shared_copy(alloc: Global, command: &Command) -> Result<Shared<Command>, Memory>
+    ensures { IfOk result (λ copy. copy ≡ command.now) }
+{
+    Shared::new(alloc, copy_command(command)?)
 }
 
 /// A copy of why a request is none.

@@ -1,13 +1,13 @@
 //! The command that a write enters into the log.
 
-ghost use Rattle.std.specs.Prelude.{◌≡◌, IfOk, if◌then◌else◌};
+ghost use Rattle.std.specs.Prelude.{◌≡◌, IfOk, if◌then◌else◌, true};
 ghost use Rattle.agent_rules.specs.Agents.{agent_node};
 ghost use Rattle.cat_model.specs.Identifiers.{identifier};
 ghost use Rattle.cat_model.specs.Keys.{is_empty};
-ghost use Rattle.cluster_rules.specs.Replies.{entered};
+ghost use Rattle.cluster_rules.specs.Replies.{Question as SpecQuestion, entered};
 
 use crate::copying::copy_command;
-use cat_model::{Command, Draw, Memory, Text};
+use cat_model::{Command, Draw, Memory, Shared, Text};
 use open_requests::Question;
 use std::alloc::Global;
 
@@ -40,13 +40,12 @@ fn query_id(draw: Draw, create: bool, id: u128) -> u128
     if create { draw.identifier() } else { id }
 }
 
-/// The command that a write enters: a new session or prepared query gets the identifier that was drawn, and a session
-/// without a node is its agent's.
+// The command of a new session or prepared query with the identifier that was drawn, and any other as it is.
 #[tactic(auto, using(crate::proofs::Commands::entered_query), unfolding(cluster_rules::specs::Replies::entered))]
-pub fn entered(alloc: Global, question: &Question, command: &Command) -> Result<Command, Memory>
-    ensures { IfOk result (λ new. new ≡ entered question.now command.now) }
+fn with_draw(alloc: Global, question: &Question, command: Command) -> Result<Command, Memory>
+    ensures { IfOk result (λ new. new ≡ entered question.now command) }
 {
-    match copy_command(command)? {
+    match command {
         Command::SessionCreate {
             id: _,
             name,
@@ -85,4 +84,32 @@ pub fn entered(alloc: Global, question: &Question, command: &Command) -> Result<
         }),
         other => Ok(other),
     }
+}
+
+// Whether a write enters the command as it was asked for.
+#[tactic(auto, unfolding(cluster_rules::specs::Replies::entered))]
+fn enters_as_asked(command: &Command) -> bool
+    ensures { (question : SpecQuestion) → result ≡ true → command.now ≡ entered question command.now }
+{
+    !matches!(
+        command,
+        Command::SessionCreate { .. } | Command::QuerySet { .. }
+    )
+}
+
+/// The command that a write enters: a new session or prepared query gets the identifier that was drawn, and a session
+/// without a node is its agent's. Any other is the command that was asked for, which the log shares.
+pub fn entered(
+    alloc: Global,
+    question: &Question,
+    command: &Shared<Command>,
+) -> Result<Shared<Command>, Memory>
+    ensures { IfOk result (λ new. new ≡ entered question.now command.now) }
+{
+    if enters_as_asked(command) {
+        return command.share();
+    }
+    let copy = copy_command(command)?;
+    let new = with_draw(alloc, question, copy)?;
+    Shared::new(alloc, new)
 }

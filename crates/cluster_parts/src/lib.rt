@@ -34,7 +34,7 @@ mod writing;
 
 pub use acting::{beat, deliver, fail_keep, restart, time_out};
 pub use agents::Agents;
-pub use copying::{copied_question, copy_command, copy_entries, copy_refusal};
+pub use copying::{copied_question, copy_entries, copy_refusal};
 pub use ending::ends_of;
 pub use entering::entered;
 pub use kinds::{changes, is_stale, is_stale_read, wait_of};

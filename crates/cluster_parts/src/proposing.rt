@@ -7,7 +7,7 @@ ghost use Rattle.cluster_parts.specs.Proposing.{EndsProposal, ProposesAll, Propo
 ghost use Rattle.cluster_parts.specs.Standing.{Stands};
 ghost use Rattle.cluster_parts.specs.Watching.{Watching};
 
-use crate::copying::copy_command;
+use crate::copying::shared_copy;
 use crate::moving::{Seen, mark_step, see};
 use cat_model::{Command, Memory};
 use cat_outside::Keeper;
@@ -66,7 +66,7 @@ fn propose_one<K: Keeper + Drop>(
     requires leads { runs_leading servers.old.world server ≡ true }
     ensures { ProposesOne server command.now servers.old requests.old servers.new requests.new result }
 {
-    let copy = copy_command(command)?;
+    let copy = shared_copy(alloc, command)?;
     if requests.prepare().is_err() {
         drop(copy);
         return Err(Memory);

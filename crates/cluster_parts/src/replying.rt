@@ -13,11 +13,11 @@ ghost use Rattle.open_requests.specs.Requests.{reply_with};
 ghost use Rattle.cluster_parts.specs.Agents.{IsThere, agent_at, own_reply};
 
 use crate::agents::Agents;
-use crate::copying::copy_command;
 use crate::entering::entered;
 use agent_state::unknown;
 use cat_model::{
-    AgentOp, Applied, Asked, Command, Kind, Memory, Mode, Refusal, Request, SessionRow, Text,
+    AgentOp, Applied, Asked, Command, Kind, Memory, Mode, Refusal, Request, SessionRow, Shared,
+    Text,
 };
 use open_requests::{Content, MarkedReply, Question};
 use std::alloc::Global;
@@ -44,11 +44,11 @@ pub fn renewed(number: u64, prefix: u64, row: Option<&SessionRow>) -> Result<Mar
 }
 
 // What a write shows that locks this key.
-fn defers(alloc: Global, command: &Command, key: &str) -> Result<Content, Memory>
+fn defers(alloc: Global, command: &Shared<Command>, key: &str) -> Result<Content, Memory>
     ensures { IfOk result (λ content. content_of content ≡ Defers command.now key.now) }
 {
     let key = Text::new(alloc, key)?;
-    match copy_command(command) {
+    match command.share() {
         Ok(command) => Ok(Content::Defers { command, key }),
         Err(Memory) => {
             drop(key);
@@ -61,7 +61,7 @@ fn defers(alloc: Global, command: &Command, key: &str) -> Result<Content, Memory
 pub fn deferred(
     alloc: Global,
     number: u64,
-    command: &Command,
+    command: &Shared<Command>,
     key: &str,
     until: u64,
     now: u64,

@@ -12,6 +12,7 @@ ghost use Rattle.cluster_parts.specs.Looking.{test_held};
 
 use cat_model::{Asked, Query, Request};
 use open_requests::{HeldSlot, Pending, Stand};
+use std::ops::Deref;
 
 /// It was ended, since its server restarted.
 pub fn is_ended(stand: Stand) -> bool
@@ -76,7 +77,7 @@ pub fn waits_for(held: &Pending) -> Option<(&Query, u64)>
                 deadline,
                 looked: true,
             },
-        ) => Some((query, deadline)),
+        ) => Some((query.deref(), deadline)),
         _ => None,
     }
 }

@@ -6,7 +6,7 @@ ghost use Rattle.cluster_rules.specs.Replies.{entered};
 
 use crate::entering::entered;
 use crate::writing::Write;
-use cat_model::{Asked, Command, Entry, Memory};
+use cat_model::{Asked, Command, Entry, Memory, Shared};
 use open_requests::{Question, copy_asked};
 use raft_node::batch::command_bytes;
 use std::alloc::Global;
@@ -16,7 +16,7 @@ fn entry_of(
     alloc: Global,
     question: &Question,
     term: u64,
-    command: &Command,
+    command: &Shared<Command>,
 ) -> Result<Entry, Memory>
     ensures { IfOk result (λ entry. entry ≡ record { term = term; number = question.now.number; command = entered question.now command.now }) }
 {
@@ -88,7 +88,7 @@ pub fn with_question(
     question: Question,
     term: u64,
     asked: &Asked,
-    command: &Command,
+    command: &Shared<Command>,
     entries: u64,
     before: u64,
 ) -> Result<Write, Memory>

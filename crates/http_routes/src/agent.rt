@@ -8,7 +8,7 @@ ghost use Rattle.json_bodies.specs.AgentChecks.{agent_check_of, update_of};
 ghost use Rattle.json_bodies.specs.AgentServices.{add_service_of};
 
 use crate::body::of_body;
-use crate::checks::{MOST, plain, plain_parameters, refuse_if, short};
+use crate::checks::{MOST, on_agent, plain, plain_parameters, refuse_if, short};
 use crate::method::{get_only, put_only};
 use crate::params::{Pair, text};
 use crate::table::AgentRoute;
@@ -20,11 +20,11 @@ use std::alloc::Global;
 
 /// A request for all services or all checks.
 #[tactic(auto, unfolding(crate::specs::Agents::listing))]
-fn listing(op: AgentOp, pairs: &[Pair], body: &[u8]) -> Result<Request, RouteError>
+fn listing(alloc: Global, op: AgentOp, pairs: &[Pair], body: &[u8]) -> Result<Request, RouteError>
     ensures { Gives result (spec.listing op pairs.now body.now) }
 {
     plain(pairs, body)?;
-    Ok(Request::Agent(op))
+    Ok(on_agent(alloc, op)?)
 }
 
 fn service_in(alloc: Global, body: &[u8]) -> Result<AgentOp, RouteError>
@@ -51,7 +51,7 @@ fn service_register(alloc: Global, pairs: &[Pair], body: &[u8]) -> Result<Reques
 {
     plain(pairs, body)?;
     let op = service_in(alloc, body)?;
-    Ok(Request::Agent(op))
+    Ok(on_agent(alloc, op)?)
 }
 
 #[tactic(auto, unfolding(crate::specs::Agents::service_deregister))]
@@ -65,7 +65,7 @@ fn service_deregister(
 {
     let id = decoded(alloc, part, Parameter::Id)?;
     plain(pairs, body)?;
-    Ok(Request::Agent(AgentOp::DropService { id }))
+    Ok(on_agent(alloc, AgentOp::DropService { id })?)
 }
 
 #[tactic(auto, unfolding(crate::specs::Agents::check_register))]
@@ -74,7 +74,7 @@ fn check_register(alloc: Global, pairs: &[Pair], body: &[u8]) -> Result<Request,
 {
     plain(pairs, body)?;
     let check = check_in(alloc, body)?;
-    Ok(Request::Agent(AgentOp::AddCheck { check }))
+    Ok(on_agent(alloc, AgentOp::AddCheck { check })?)
 }
 
 #[tactic(auto, unfolding(crate::specs::Agents::check_deregister))]
@@ -88,7 +88,7 @@ fn check_deregister(
 {
     let id = decoded(alloc, part, Parameter::Id)?;
     plain(pairs, body)?;
-    Ok(Request::Agent(AgentOp::DropCheck { id }))
+    Ok(on_agent(alloc, AgentOp::DropCheck { id })?)
 }
 
 /// The note of a mark.
@@ -116,7 +116,7 @@ fn check_mark(
     plain_parameters(pairs)?;
     let output = note(alloc, pairs)?;
     short(MOST, body)?;
-    Ok(Request::Agent(AgentOp::Mark { id, status, output }))
+    Ok(on_agent(alloc, AgentOp::Mark { id, status, output })?)
 }
 
 #[tactic(auto, unfolding(crate::specs::Agents::check_update))]
@@ -131,11 +131,12 @@ fn check_update(
     let id = decoded(alloc, part, Parameter::Id)?;
     plain(pairs, body)?;
     let update = update_in(alloc, body)?;
-    Ok(Request::Agent(AgentOp::Mark {
+    let op = AgentOp::Mark {
         id,
         status: update.status,
         output: update.output,
-    }))
+    };
+    Ok(on_agent(alloc, op)?)
 }
 
 /// The methods of an agent's paths.
@@ -153,11 +154,11 @@ pub(crate) fn agent(
     match route {
         AgentRoute::Services => {
             get_only(method)?;
-            listing(AgentOp::Services, pairs, body)
+            listing(alloc, AgentOp::Services, pairs, body)
         }
         AgentRoute::Checks => {
             get_only(method)?;
-            listing(AgentOp::Checks, pairs, body)
+            listing(alloc, AgentOp::Checks, pairs, body)
         }
         AgentRoute::ServiceRegister => {
             put_only(method)?;

@@ -8,7 +8,7 @@ ghost use Rattle.json_bodies.specs.Deregisters.{deregister_of};
 ghost use Rattle.json_bodies.specs.Registers.{register_of};
 
 use crate::body::of_body;
-use crate::checks::{plain, read, reading_of};
+use crate::checks::{plain, read, reading_of, write};
 use crate::method::{get_only, put_only};
 use crate::params::{Pair, all};
 use crate::table::CatalogRoute;
@@ -36,7 +36,7 @@ fn register(alloc: Global, pairs: &[Pair], body: &[u8]) -> Result<Request, Route
 {
     plain(pairs, body)?;
     let command = registration(alloc, body)?;
-    Ok(Request::Write { command })
+    Ok(write(alloc, command)?)
 }
 
 #[tactic(auto, unfolding(crate::specs::Catalog::deregister))]
@@ -45,26 +45,29 @@ fn deregister(alloc: Global, pairs: &[Pair], body: &[u8]) -> Result<Request, Rou
 {
     plain(pairs, body)?;
     let command = deregistration(alloc, body)?;
-    Ok(Request::Write { command })
+    Ok(write(alloc, command)?)
 }
 
 #[tactic(auto, unfolding(crate::specs::Catalog::upgrade))]
-fn upgrade(pairs: &[Pair], body: &[u8]) -> Result<Request, RouteError>
+fn upgrade(alloc: Global, pairs: &[Pair], body: &[u8]) -> Result<Request, RouteError>
     ensures { Gives result (spec.upgrade pairs.now body.now) }
 {
     plain(pairs, body)?;
-    Ok(Request::Write {
-        command: Command::Upgrade,
-    })
+    Ok(write(alloc, Command::Upgrade)?)
 }
 
 /// A read of a query without parameters.
 #[tactic(auto, unfolding(crate::specs::Catalog::whole))]
-pub(crate) fn whole(query: Query, pairs: &[Pair], body: &[u8]) -> Result<Request, RouteError>
+pub(crate) fn whole(
+    alloc: Global,
+    query: Query,
+    pairs: &[Pair],
+    body: &[u8],
+) -> Result<Request, RouteError>
     ensures { Gives result (whole_read query pairs.now body.now) }
 {
     let reading = reading_of(pairs, body)?;
-    Ok(read(query, reading))
+    Ok(read(alloc, query, reading)?)
 }
 
 #[tactic(auto, unfolding(crate::specs::Catalog::service))]
@@ -74,7 +77,7 @@ fn service(alloc: Global, part: &[u8], pairs: &[Pair], body: &[u8]) -> Result<Re
     let name = decoded(alloc, part, Parameter::Name)?;
     let reading = reading_of(pairs, body)?;
     let tags = all(alloc, pairs, "tag")?;
-    Ok(read(Query::Service { name, tags }, reading))
+    Ok(read(alloc, Query::Service { name, tags }, reading)?)
 }
 
 #[tactic(auto, unfolding(crate::specs::Catalog::node))]
@@ -83,7 +86,7 @@ fn node(alloc: Global, part: &[u8], pairs: &[Pair], body: &[u8]) -> Result<Reque
 {
     let node = decoded(alloc, part, Parameter::Node)?;
     let reading = reading_of(pairs, body)?;
-    Ok(read(Query::NodeServices { node }, reading))
+    Ok(read(alloc, Query::NodeServices { node }, reading)?)
 }
 
 /// The methods of the catalog's paths.
@@ -109,15 +112,15 @@ pub(crate) fn catalog(
         }
         CatalogRoute::Upgrade => {
             put_only(method)?;
-            upgrade(pairs, body)
+            upgrade(alloc, pairs, body)
         }
         CatalogRoute::Nodes => {
             get_only(method)?;
-            whole(Query::Nodes, pairs, body)
+            whole(alloc, Query::Nodes, pairs, body)
         }
         CatalogRoute::Services => {
             get_only(method)?;
-            whole(Query::Services, pairs, body)
+            whole(alloc, Query::Services, pairs, body)
         }
         CatalogRoute::Service => {
             get_only(method)?;

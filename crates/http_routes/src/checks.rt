@@ -1,6 +1,7 @@
 //! What is tested of many requests.
 
-ghost use Rattle.std.specs.Prelude.{◌≡◌};
+ghost use Rattle.std.specs.Prelude.{◌≡◌, IfOk};
+ghost use Rattle.cat_model.specs.declared.request.Request.TheVariants.{Agent as OnAgent, Write};
 ghost use Rattle.json_bodies.specs.Registers.{is_other_center};
 ghost use Rattle.http_routes.specs.Checks.{center_at, mode_at, most, plain_at, unfiltered_at, wait_at};
 ghost use Rattle.http_routes.specs.Checks as spec;
@@ -9,8 +10,9 @@ ghost use Rattle.http_routes.specs.Errors as errors;
 
 use crate::params::{Pair, first, is_on, is_there, number, text};
 use crate::{Parameter, RouteError};
-use cat_model::{Mode, Query, Request};
+use cat_model::{AgentOp, Command, Memory, Mode, Query, Request, Shared};
 use json_bodies::duration;
+use std::alloc::Global;
 
 /// How a read is to be answered: how fresh, above which index, and after how many milliseconds at most.
 #[derive(Clone, Copy, Debug)]
@@ -128,14 +130,30 @@ pub(crate) fn reading_of(pairs: &[Pair], body: &[u8]) -> Result<Reading, RouteEr
 }
 
 /// The read of a query.
-pub(crate) fn read(query: Query, reading: Reading) -> Request
-    ensures { result ≡ spec.read query reading }
+pub(crate) fn read(alloc: Global, query: Query, reading: Reading) -> Result<Request, Memory>
+    ensures { IfOk result (λ request. request ≡ spec.read query reading) }
 {
-    Request::Read {
-        query,
+    Ok(Request::Read {
+        query: Shared::new(alloc, query)?,
         mode: reading.mode,
         min: reading.min,
         wait_ms: reading.wait_ms,
         raw: false,
-    }
+    })
+}
+
+/// The write of a command.
+pub(crate) fn write(alloc: Global, command: Command) -> Result<Request, Memory>
+    ensures { IfOk result (λ request. request ≡ Write command) }
+{
+    Ok(Request::Write {
+        command: Shared::new(alloc, command)?,
+    })
+}
+
+/// The request that an agent does this with its own rows.
+pub(crate) fn on_agent(alloc: Global, op: AgentOp) -> Result<Request, Memory>
+    ensures { IfOk result (λ request. request ≡ OnAgent op) }
+{
+    Ok(Request::Agent(Shared::new(alloc, op)?))
 }

@@ -21,7 +21,7 @@ fn node(alloc: Global, part: &[u8], pairs: &[Pair], body: &[u8]) -> Result<Reque
 {
     let node = decoded(alloc, part, Parameter::Node)?;
     let reading = reading_of(pairs, body)?;
-    Ok(read(Query::HealthNode { node }, reading))
+    Ok(read(alloc, Query::HealthNode { node }, reading)?)
 }
 
 #[tactic(auto, unfolding(crate::specs::Catalog::health_checks))]
@@ -30,7 +30,7 @@ fn checks(alloc: Global, part: &[u8], pairs: &[Pair], body: &[u8]) -> Result<Req
 {
     let name = decoded(alloc, part, Parameter::Name)?;
     let reading = reading_of(pairs, body)?;
-    Ok(read(Query::HealthChecks { name }, reading))
+    Ok(read(alloc, Query::HealthChecks { name }, reading)?)
 }
 
 #[tactic(auto, unfolding(crate::specs::Catalog::health_service))]
@@ -41,14 +41,12 @@ fn service(alloc: Global, part: &[u8], pairs: &[Pair], body: &[u8]) -> Result<Re
     let reading = reading_of(pairs, body)?;
     let tags = all(alloc, pairs, "tag")?;
     let passing = is_on(pairs, "passing");
-    Ok(read(
-        Query::HealthService {
-            name,
-            tags,
-            passing,
-        },
-        reading,
-    ))
+    let query = Query::HealthService {
+        name,
+        tags,
+        passing,
+    };
+    Ok(read(alloc, query, reading)?)
 }
 
 fn state_named(word: &str) -> Option<Option<Status>>
@@ -81,7 +79,7 @@ fn state(alloc: Global, part: &[u8], pairs: &[Pair], body: &[u8]) -> Result<Requ
 {
     let state = state_in(alloc, part)?;
     let reading = reading_of(pairs, body)?;
-    Ok(read(Query::HealthState { state }, reading))
+    Ok(read(alloc, Query::HealthState { state }, reading)?)
 }
 
 /// The methods of health's paths.

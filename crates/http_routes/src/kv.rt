@@ -8,11 +8,11 @@ ghost use Rattle.json_bodies.specs.Txns.{ops_of};
 ghost use Rattle.http_routes.specs.Methods.{delete_get_put};
 
 use crate::body::of_body;
-use crate::checks::{MOST, plain, plain_parameters, reading_of, refuse_if, short};
+use crate::checks::{MOST, plain, plain_parameters, reading_of, refuse_if, short, write};
 use crate::params::{Pair, id, is_on, is_there, number, text};
 use crate::target::{decoded, is};
 use crate::{Allow, Parameter, RouteError};
-use cat_model::{Bytes, Command, List, Memory, Query, Request, Text, TxnOp};
+use cat_model::{Bytes, Command, List, Memory, Query, Request, Shared, Text, TxnOp};
 use json_bodies::read_transaction;
 use std::alloc::Global;
 
@@ -90,7 +90,7 @@ fn get(alloc: Global, part: &[u8], pairs: &[Pair], body: &[u8]) -> Result<Reques
     let key = key(alloc, keys(pairs) || recurse(pairs), part)?;
     let reading = reading_of(pairs, body)?;
     Ok(Request::Read {
-        query: query(alloc, key, pairs)?,
+        query: Shared::new(alloc, query(alloc, key, pairs)?)?,
         mode: reading.mode,
         min: reading.min,
         wait_ms: reading.wait_ms,
@@ -167,9 +167,7 @@ fn put(alloc: Global, part: &[u8], pairs: &[Pair], body: &[u8]) -> Result<Reques
     let flags = number(pairs, Parameter::Flags)?;
     short(MOST_VALUE, body)?;
     let value = Bytes::new(alloc, body)?;
-    Ok(Request::Write {
-        command: put_command(condition, key, flags, value),
-    })
+    Ok(write(alloc, put_command(condition, key, flags, value))?)
 }
 
 /// The index on which a DELETE hangs.
@@ -204,9 +202,7 @@ fn delete(alloc: Global, part: &[u8], pairs: &[Pair], body: &[u8]) -> Result<Req
     refuse_if(is_there(pairs, "cas") && recurse, Parameter::CasOfTree)?;
     let index = index(pairs)?;
     short(MOST, body)?;
-    Ok(Request::Write {
-        command: delete_command(recurse, index, key),
-    })
+    Ok(write(alloc, delete_command(recurse, index, key))?)
 }
 
 /// A request on a key.
@@ -243,7 +239,5 @@ pub(crate) fn transaction(alloc: Global, pairs: &[Pair], body: &[u8]) -> Result<
 {
     plain(pairs, body)?;
     let ops = ops(alloc, body)?;
-    Ok(Request::Write {
-        command: Command::Txn { ops },
-    })
+    Ok(write(alloc, Command::Txn { ops })?)
 }

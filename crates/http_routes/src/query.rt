@@ -10,7 +10,7 @@ ghost use Rattle.json_bodies.specs.NewQueries.{query_of};
 
 use crate::body::of_body;
 use crate::catalog::whole;
-use crate::checks::{MOST, center, mode, plain, read, reading_of, short, unfiltered};
+use crate::checks::{MOST, center, mode, plain, read, reading_of, short, unfiltered, write};
 use crate::method::get_only;
 use crate::params::{Pair, id_of, number};
 use crate::table::QueryRoute;
@@ -48,9 +48,7 @@ fn create(alloc: Global, pairs: &[Pair], body: &[u8]) -> Result<Request, RouteEr
 {
     plain(pairs, body)?;
     let query = query_in(alloc, body)?;
-    Ok(Request::Write {
-        command: set_command(0, true, query),
-    })
+    Ok(write(alloc, set_command(0, true, query))?)
 }
 
 /// The identifier of a path.
@@ -71,7 +69,7 @@ fn info(alloc: Global, part: &[u8], pairs: &[Pair], body: &[u8]) -> Result<Reque
 {
     let id = id_in(alloc, part)?;
     let reading = reading_of(pairs, body)?;
-    Ok(read(Query::QueryInfo { id }, reading))
+    Ok(read(alloc, Query::QueryInfo { id }, reading)?)
 }
 
 #[tactic(auto, unfolding(crate::specs::PreparedQueries::query_update))]
@@ -81,9 +79,7 @@ fn update(alloc: Global, part: &[u8], pairs: &[Pair], body: &[u8]) -> Result<Req
     let id = id_in(alloc, part)?;
     plain(pairs, body)?;
     let query = query_in(alloc, body)?;
-    Ok(Request::Write {
-        command: set_command(id, false, query),
-    })
+    Ok(write(alloc, set_command(id, false, query))?)
 }
 
 #[tactic(auto, unfolding(crate::specs::PreparedQueries::query_delete))]
@@ -92,9 +88,7 @@ fn delete(alloc: Global, part: &[u8], pairs: &[Pair], body: &[u8]) -> Result<Req
 {
     let id = id_in(alloc, part)?;
     plain(pairs, body)?;
-    Ok(Request::Write {
-        command: Command::QueryDelete { id },
-    })
+    Ok(write(alloc, Command::QueryDelete { id })?)
 }
 
 #[tactic(auto, unfolding(crate::specs::PreparedQueries::query_execute))]
@@ -120,7 +114,7 @@ fn all_queries(
     ensures { Gives result (get_post (whole_read Query.Queries) query_create method.now pairs.now body.now) }
 {
     if is(method, "GET") {
-        whole(Query::Queries, pairs, body)
+        whole(alloc, Query::Queries, pairs, body)
     } else if is(method, "POST") {
         create(alloc, pairs, body)
     } else {

@@ -9,7 +9,7 @@ ghost use Rattle.json_bodies.specs.Sessions.{session_of};
 
 use crate::body::of_body;
 use crate::catalog::whole;
-use crate::checks::{plain, read, reading_of};
+use crate::checks::{plain, read, reading_of, write};
 use crate::method::{get_only, put_only};
 use crate::params::{Pair, id_of};
 use crate::table::SessionRoute;
@@ -46,9 +46,7 @@ fn create(alloc: Global, pairs: &[Pair], body: &[u8]) -> Result<Request, RouteEr
 {
     plain(pairs, body)?;
     let session = session_in(alloc, body)?;
-    Ok(Request::Write {
-        command: create_command(session),
-    })
+    Ok(write(alloc, create_command(session))?)
 }
 
 /// The identifier of a path.
@@ -69,9 +67,7 @@ fn destroy(alloc: Global, part: &[u8], pairs: &[Pair], body: &[u8]) -> Result<Re
 {
     let id = id_in(alloc, part)?;
     plain(pairs, body)?;
-    Ok(Request::Write {
-        command: Command::SessionDestroy { id },
-    })
+    Ok(write(alloc, Command::SessionDestroy { id })?)
 }
 
 #[tactic(auto, unfolding(crate::specs::Sessions::session_renew))]
@@ -89,7 +85,7 @@ fn info(alloc: Global, part: &[u8], pairs: &[Pair], body: &[u8]) -> Result<Reque
 {
     let id = id_in(alloc, part)?;
     let reading = reading_of(pairs, body)?;
-    Ok(read(Query::SessionInfo { id }, reading))
+    Ok(read(alloc, Query::SessionInfo { id }, reading)?)
 }
 
 #[tactic(auto, unfolding(crate::specs::Sessions::session_node))]
@@ -98,7 +94,7 @@ fn node(alloc: Global, part: &[u8], pairs: &[Pair], body: &[u8]) -> Result<Reque
 {
     let node = decoded(alloc, part, Parameter::Node)?;
     let reading = reading_of(pairs, body)?;
-    Ok(read(Query::SessionsOf { node }, reading))
+    Ok(read(alloc, Query::SessionsOf { node }, reading)?)
 }
 
 /// The methods of sessions' paths.
@@ -136,7 +132,7 @@ pub(crate) fn session(
         }
         SessionRoute::List => {
             get_only(method)?;
-            whole(Query::Sessions, pairs, body)
+            whole(alloc, Query::Sessions, pairs, body)
         }
     }
 }

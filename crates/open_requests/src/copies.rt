@@ -1,15 +1,8 @@
-//! Copies of requests.
+//! Copies of requests, which share what is large of them.
 
 ghost use Rattle.std.specs.Prelude.{◌≡◌, IfOk};
 
-use crate::agent_copies::copy_op;
-use cat_model::{Asked, Command, Kind, Memory, Query, Refusal, Request};
-
-fn copy_command(command: &Command) -> Result<Command, Memory>
-    ensures { IfOk result (λ copy. copy ≡ command.now) }
-{
-    Ok(command.clone()?)
-}
+use cat_model::{Asked, Kind, Memory, Refusal, Request};
 
 /// A copy of a refusal.
 pub fn copy_refusal(why: &Refusal) -> Result<Refusal, Memory>
@@ -25,54 +18,6 @@ pub fn copy_kind(kind: &Kind) -> Result<Kind, Memory>
     Ok(kind.clone()?)
 }
 
-/// A copy of a query.
-pub fn copy_query(query: &Query) -> Result<Query, Memory>
-    ensures { IfOk result (λ copy. copy ≡ query.now) }
-{
-    match query {
-        Query::Nodes => Ok(Query::Nodes),
-        Query::Services => Ok(Query::Services),
-        Query::Service { name, tags } => Ok(Query::Service {
-            name: name.clone()?,
-            tags: tags.clone()?,
-        }),
-        Query::NodeServices { node } => Ok(Query::NodeServices {
-            node: node.clone()?,
-        }),
-        Query::HealthService {
-            name,
-            tags,
-            passing,
-        } => Ok(Query::HealthService {
-            name: name.clone()?,
-            tags: tags.clone()?,
-            passing: *passing,
-        }),
-        Query::HealthChecks { name } => Ok(Query::HealthChecks {
-            name: name.clone()?,
-        }),
-        Query::HealthNode { node } => Ok(Query::HealthNode {
-            node: node.clone()?,
-        }),
-        Query::HealthState { state } => Ok(Query::HealthState { state: *state }),
-        Query::Key { key } => Ok(Query::Key { key: key.clone()? }),
-        Query::Prefix { prefix } => Ok(Query::Prefix {
-            prefix: prefix.clone()?,
-        }),
-        Query::Keys { prefix, separator } => Ok(Query::Keys {
-            prefix: prefix.clone()?,
-            separator: separator.clone()?,
-        }),
-        Query::SessionInfo { id } => Ok(Query::SessionInfo { id: *id }),
-        Query::SessionsOf { node } => Ok(Query::SessionsOf {
-            node: node.clone()?,
-        }),
-        Query::Sessions => Ok(Query::Sessions),
-        Query::QueryInfo { id } => Ok(Query::QueryInfo { id: *id }),
-        Query::Queries => Ok(Query::Queries),
-    }
-}
-
 fn copy_request(request: &Request) -> Result<Request, Memory>
     ensures { IfOk result (λ copy. copy ≡ request.now) }
 {
@@ -84,14 +29,14 @@ fn copy_request(request: &Request) -> Result<Request, Memory>
             wait_ms,
             raw,
         } => Ok(Request::Read {
-            query: copy_query(query)?,
+            query: query.share()?,
             mode: *mode,
             min: *min,
             wait_ms: *wait_ms,
             raw: *raw,
         }),
         Request::Write { command } => Ok(Request::Write {
-            command: copy_command(command)?,
+            command: command.share()?,
         }),
         Request::Execute { name, limit, mode } => Ok(Request::Execute {
             name: name.clone()?,
@@ -99,7 +44,7 @@ fn copy_request(request: &Request) -> Result<Request, Memory>
             mode: *mode,
         }),
         Request::Renew { id } => Ok(Request::Renew { id: *id }),
-        Request::Agent(op) => Ok(Request::Agent(copy_op(op)?)),
+        Request::Agent(op) => Ok(Request::Agent(op.share()?)),
     }
 }
 

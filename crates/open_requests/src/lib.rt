@@ -1,7 +1,6 @@
 //! The requests of a cluster: those that are held, the outs that wait to be taken, and the marks of what has happened.
 #![tactic(auto)]
 
-mod agent_copies;
 mod answering;
 mod collected;
 mod content;

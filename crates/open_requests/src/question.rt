@@ -3,7 +3,7 @@ ghost use Rattle.open_requests.specs.Contents.{content_of, read_content};
 ghost use Rattle.open_requests.specs.Taking.{least_of};
 
 use crate::content::Content;
-use crate::copies::{copy_asked, copy_query};
+use crate::copies::copy_asked;
 use cat_model::{Answer, Asked, Draw, Memory, Request};
 use std::marker::Model;
 
@@ -83,7 +83,7 @@ impl Question {
         ensures { IfOk result (λ content. content_of content ≡ read_content self.now.asked answer) }
     {
         match &self.asked {
-            Asked::Good(Request::Read { query, raw, .. }) => match copy_query(query) {
+            Asked::Good(Request::Read { query, raw, .. }) => match query.share() {
                 Ok(query) => Ok(Content::Shows {
                     query,
                     raw: *raw,
