@@ -1,6 +1,5 @@
 //! That a cluster over stores in memory may go to another thread, as the turns of a server ask. Each part of it has a
 //! function of its own, since a search over the whole at once gives up.
-#![tactic(auto)]
 
 ghost use denote.Param.Send.{IsSend};
 ghost use Rattle.kv_table.specs.contracts.table.KvTable as kv;
@@ -9,6 +8,7 @@ ghost use Rattle.session_table.specs.contracts.table.SessionTable as sessions;
 ghost use Rattle.query_table.specs.contracts.table.QueryTable as queries;
 ghost use Rattle.table_index.specs.contracts.index.TableIndex as indexes;
 ghost use Rattle.cat_model.specs.contracts.command.Command as command;
+ghost use Rattle.cat_model.specs.contracts.shared.Shared as shared;
 ghost use Rattle.catalog_store.specs.contracts.store.Store as store;
 ghost use Rattle.cat_model.specs.contracts.applied.Applied as applied;
 ghost use Rattle.lock_delay.specs.contracts.table.LockDelay as delays;
@@ -27,7 +27,7 @@ ghost use Rattle.read_watch.specs.contracts.watching.Watch as watch;
 ghost use Rattle.cluster.specs.contracts.cluster.Cluster as cluster;
 
 use agent_state::Agent;
-use cat_model::{Applied, Command};
+use cat_model::{Applied, Command, Shared};
 use cat_outside::MemKeeper;
 use catalog_store::Store;
 use catalog_table::CatalogTable;
@@ -82,9 +82,9 @@ fn indexes_send()
 }
 
 fn commands_send()
-    ensures { IsSend command.the_row }
+    ensures { IsSend (shared.the_row command.the_row) }
 {
-    sends::<Command>();
+    sends::<Shared<Command>>();
 }
 
 fn stores_send()

@@ -5,7 +5,7 @@ use Rattle.std.proofs.Crossing.{crosses, Vec-send}
 use Rattle.catalog_store.specs.contracts.tables.Tables as tables
 use Rattle.catalog_store.specs.contracts.store.Store as store
 use Rattle.catalog_store.specs.contracts.store.Store.TheInside as inside
-use Rattle.cluster_sending.proofs.stores_send.Goals as goal
+use Rattle.catalog_top.proofs.sending.stores_send.Goals as goal
 
 pub sends-requires-send-T : goal.sends-requires-send-T
 sends-requires-send-T c κs =

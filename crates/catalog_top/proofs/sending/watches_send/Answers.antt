@@ -6,7 +6,7 @@ use Rattle.read_watch.specs.contracts.sleeping.SleepingReads as sleeping
 use Rattle.read_watch.specs.contracts.sleeping.SleepingReads.TheInside as inner
 use Rattle.read_watch.specs.contracts.watching.Watch as watch
 use Rattle.read_watch.specs.contracts.watching.Watch.TheInside as inside
-use Rattle.cluster_sending.proofs.watches_send.Goals as goal
+use Rattle.catalog_top.proofs.sending.watches_send.Goals as goal
 
 pub sends-requires-send-T : goal.sends-requires-send-T
 sends-requires-send-T c κs =

@@ -6,7 +6,7 @@ use Rattle.std.proofs.MapsCrossing as maps
 use Rattle.replica.specs.contracts.delays.Delays as kept
 use Rattle.replica.specs.contracts.replica.Replica as replica
 use Rattle.replica.specs.contracts.replica.Replica.TheInside as inside
-use Rattle.cluster_sending.proofs.replicas_send.Goals as goal
+use Rattle.catalog_top.proofs.sending.replicas_send.Goals as goal
 
 pub sends-requires-send-T : goal.sends-requires-send-T
 sends-requires-send-T c κs =

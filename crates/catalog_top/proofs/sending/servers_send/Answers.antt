@@ -6,7 +6,7 @@ use Rattle.cat_outside.specs.contracts.mem_keeper.MemKeeper as mem_keeper
 use Rattle.cat_outside.specs.contracts.mem_keeper.MemKeeperKeeper.TheImpl.{ghosts}
 use Rattle.cluster_servers.specs.contracts.servers.Servers as whole
 use Rattle.cluster_servers.specs.contracts.servers.Servers.TheInside as inside
-use Rattle.cluster_sending.proofs.servers_send.Goals as goal
+use Rattle.catalog_top.proofs.sending.servers_send.Goals as goal
 
 pub sends-requires-send-T : goal.sends-requires-send-T
 sends-requires-send-T c κs =

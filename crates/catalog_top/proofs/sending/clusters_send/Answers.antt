@@ -10,7 +10,7 @@ use Rattle.cluster_parts.specs.contracts.watching.Watching as watching
 use Rattle.cluster_parts.specs.contracts.watching.Watching.TheInside as watched
 use Rattle.cluster.specs.contracts.cluster.Cluster as whole
 use Rattle.cluster.specs.contracts.cluster.Cluster.TheInside as inside
-use Rattle.cluster_sending.proofs.clusters_send.Goals as goal
+use Rattle.catalog_top.proofs.sending.clusters_send.Goals as goal
 
 pub sends-requires-send-T : goal.sends-requires-send-T
 sends-requires-send-T c κs =
