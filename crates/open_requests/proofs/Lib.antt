@@ -8,3 +8,4 @@ pub mod Amounts
 pub mod LastOut
 pub mod Ordering
 pub mod Slots
+pub mod Counting

@@ -19,8 +19,8 @@ use Rattle.cluster_rules.specs.Sound.{Ascends, IsAmong}
 use Rattle.cluster_rules.specs.Step.{ended, events_in, marked}
 use Rattle.open_requests.specs.declared.note.Note.{Note}
 use Rattle.open_requests.specs.declared.note.Note.TheVariants.{Marked, Joined}
-use Rattle.open_requests.specs.Notes.{joined_in, past_of, event_of, events_noted, taken_note}
-use Rattle.open_requests.specs.Requests.{Requests, cluster_of, restood, with_note, halted_with, ended_all, came_with}
+use Rattle.open_requests.specs.Notes.{joined_in, past_of, event_of, events_noted, taken_note, with_joined}
+use Rattle.open_requests.specs.Requests.{Requests, cluster_of, joining, restood, halted_with, ended_all, came_with}
 use Rattle.open_requests.specs.Taking.{Takes}
 
 -- the count of events
@@ -67,6 +67,24 @@ past_joined log more notes h =
     ∙ ap (λ l. entries_past l (past_of (log ++ more) notes)) (all_more more)
     ∙ ap (entries_past more) (past_kept log more notes (omega (arith, h)))
 
+number_is : (a b : ℕ) → (a == b) ≡ true → a ≡ b
+number_is a b e = grind (arith, nat_tests)
+
+-- that no entry joined is not noted, which is the same
+past_by : (b : Bool) (log : Log) (count : ℕ) (notes : List Note) → (b ≡ true → count ≡ 0) → past_of log (cond b notes (Joined count ∷ notes)) ≡ past_of log (Joined count ∷ notes)
+past_by true log count notes h = sym (ap (λ k. entries_past (take k (drop (joined_in notes) log)) (past_of log notes)) (h refl))
+past_by false log count notes h = refl
+
+past_with_joined : (log : Log) (count : ℕ) (notes : List Note) → past_of log (with_joined count notes) ≡ past_of log (Joined count ∷ notes)
+past_with_joined log count notes = past_by (count == 0) log count notes (number_is count 0)
+
+joined_by : (b : Bool) (count : ℕ) (notes : List Note) → (b ≡ true → count ≡ 0) → joined_in (cond b notes (Joined count ∷ notes)) ≡ joined_in notes + count
+joined_by true count notes h = omega (arith, h refl)
+joined_by false count notes h = refl
+
+pub joined_with_joined : (count : ℕ) (notes : List Note) → joined_in (with_joined count notes) ≡ joined_in notes + count
+joined_with_joined count notes = joined_by (count == 0) count notes (number_is count 0)
+
 halts_on : (failed : Bool) (i : ℕ) (log : Log) (r : Requests) → past_of log (halted_with failed i r).notes ≡ halts_past i failed (past_of log r.notes)
 halts_on true i log r = refl
 halts_on false i log r = refl
@@ -80,22 +98,20 @@ halts_same true i w servers agents r notes = refl
 halts_same false i w servers agents r notes = refl
 
 pub moves_by : (failed : Bool) (i : ℕ) (w w' : World) (servers : List Server) (agents : List Agent) (r : Requests) (more : Log) → joined_in r.notes ≡ length w.agreed → w'.agreed ≡ w.agreed ++ more →
-    cluster_of w' servers agents (with_note (Joined (length more)) (halted_with failed i r)) ≡ moved_with failed i w' (cluster_of w servers agents r)
+    cluster_of w' servers agents (joining (length more) (halted_with failed i r)) ≡ moved_with failed i w' (cluster_of w servers agents r)
 moves_by failed i w w' servers agents r more h e =
     let notes = (halted_with failed i r).notes in
     let gone : drop (length w.agreed) w'.agreed ≡ more = ap (drop (length w.agreed)) e ∙ drop_at w.agreed more (length w.agreed) refl in
-    let past : past_of w'.agreed (Joined (length more) ∷ notes) ≡ entries_past (drop (length w.agreed) w'.agreed) (halts_past i failed (past_of w.agreed r.notes)) =
-    ap (λ l. past_of l (Joined (length more) ∷ notes)) e
+    let past : past_of w'.agreed (with_joined (length more) notes) ≡ entries_past (drop (length w.agreed) w'.agreed) (halts_past i failed (past_of w.agreed r.notes)) =
+    past_with_joined w'.agreed (length more) notes
+    ∙ ap (λ l. past_of l (Joined (length more) ∷ notes)) e
     ∙ past_joined w.agreed more notes (halts_joined failed i r ∙ h)
     ∙ ap (entries_past more) (halts_on failed i w.agreed r)
     ∙ ap (λ l. entries_past l (halts_past i failed (past_of w.agreed r.notes))) (sym gone) in
-    halts_same failed i w' servers agents r (Joined (length more) ∷ notes)
+    halts_same failed i w' servers agents r (with_joined (length more) notes)
     ∙ ap (λ p. record (cluster_of w' servers agents r) { past = p }) past
 
 -- a request that waits for something else
-number_is : (a b : ℕ) → (a == b) ≡ true → a ≡ b
-number_is a b e = grind (arith, nat_tests)
-
 other_kept : (b : Bool) (g h : Pending) (stand : Stand) → (b ≡ true → g ≡ h) → cond b (record g { stand = stand }) g ≡ cond b (record h { stand = stand }) g
 other_kept true g h stand f = ap (λ (k : Pending). record k { stand = stand }) (f refl)
 other_kept false g h stand f = refl

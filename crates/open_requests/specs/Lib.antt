@@ -1,4 +1,5 @@
 pub mod Contents
+pub mod Counts
 pub mod Held
 pub mod Marking
 pub mod Notes

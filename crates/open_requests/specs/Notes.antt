@@ -1,6 +1,6 @@
 -- The marks of a cluster as they are kept. Entries that joined the agreed log are counted only, since that log has
 -- them.
-use Rattle.std.specs.Prelude.{ℕ, suc, ◌+◌, Bool, true, false, List, [], ◌∷◌, take, drop, if◌then◌else◌, Option, Some, None}
+use Rattle.std.specs.Prelude.{ℕ, suc, ◌+◌, ◌==◌, Bool, true, false, List, [], ◌∷◌, take, drop, if◌then◌else◌, Option, Some, None}
 use Rattle.cat_model.specs.declared.reply.Mark.{Mark}
 use Rattle.cat_model.specs.declared.reply.Mark.TheVariants as mark
 use Rattle.raft_model.specs.Log.{Log}
@@ -13,6 +13,10 @@ abbrev pub joined_in : List Note → ℕ
 joined_in [] = 0
 joined_in (Marked m ∷ notes) = joined_in notes
 joined_in (Joined count ∷ notes) = joined_in notes + count
+
+-- so many entries joined; that none did is not noted
+abbrev pub with_joined : ℕ → List Note → List Note
+with_joined count notes = if count == 0 then notes else Joined count ∷ notes
 
 -- the marks that these notes stand for beside an agreed log
 abbrev pub past_of : Log → List Note → List Mark

@@ -15,7 +15,7 @@ use Rattle.cluster_rules.specs.Step.{ended}
 use Rattle.raft_model.specs.World.{World}
 use Rattle.open_requests.specs.declared.note.Note.{Note}
 use Rattle.open_requests.specs.declared.note.Note.TheVariants.{Marked}
-use Rattle.open_requests.specs.Notes.{past_of, before_made, events_noted, in_place}
+use Rattle.open_requests.specs.Notes.{past_of, before_made, events_noted, in_place, with_joined}
 
 pub record Requests : Type 0 where
   pub asked : ℕ  -- how many requests were asked
@@ -46,6 +46,10 @@ empty = record { asked = 0; held = []; starts = []; fresh = []; tray = []; notes
 
 abbrev pub with_note : Note → Requests → Requests
 with_note note r = record r { notes = note ∷ r.notes }
+
+-- so many entries joined the agreed log
+abbrev pub joining : ℕ → Requests → Requests
+joining count r = record r { notes = with_joined count r.notes }
 
 -- the mark of an event, whatever it is
 abbrev pub noted : Event → Requests → Requests

@@ -1,14 +1,17 @@
 //! The requests that are held, in the order of their numbers.
 
-ghost use Rattle.std.specs.Prelude.{◌≡◌, ◌==◌, ◌+◌, ◌<◌, ◌≤◌, ◌++◌, ◌∷◌, [], IfOk, OnOk, List, filter, is_some, length, map, set, true, vec_len, vec_capacity};
+ghost use Rattle.std.specs.Prelude.{◌≡◌, ◌==◌, ◌+◌, ◌<◌, ◌≤◌, ◌++◌, ◌∷◌, [], IfOk, OnOk, List, filter, is_some, length, map, set, slice_index_or, true, vec_len, vec_capacity};
 ghost use Rattle.std.specs.List.{AllByRecursion as Each, filter_map, find};
 ghost use Rattle.std.specs.Option.{option_copied};
-ghost use Rattle.cluster_rules.specs.Due.{without};
+ghost use Rattle.cluster_rules.specs.Due.{waiting, without};
 ghost use Rattle.cluster_rules.specs.Step.{ended};
 ghost use Rattle.open_requests.specs.Contents.{stand_of};
-ghost use Rattle.open_requests.specs.Held.{IsPlace, Rises, held_in, none_held, number_held, pending_of, slot_number};
+ghost use Rattle.open_requests.specs.Counts.{AreCounts};
+ghost use Rattle.open_requests.specs.Held.{IsPlace, Rises, held_in, none_held, number_held, pending_of, slot_number, slot_restood};
 ghost use Rattle.open_requests.specs.Requests.{restood};
+ghost use Rattle.open_requests.specs.declared.slot.HeldSlot.{HeldSlot as SpecSlot};
 
+use crate::counts::{COUNTED, count_in, count_none, count_of, count_out, count_slots};
 use crate::pending::{Pending, Stand};
 use crate::slot::HeldSlot;
 use cat_model::Memory;
@@ -22,17 +25,20 @@ pub struct HeldRequests {
     slots: Vec<HeldSlot>,
     // how many were let go of since slots were swept out
     gone: usize,
+    // how many wait for an index, by the numbers of servers
+    waiting: [usize; COUNTED],
 }
 
 impl Model for HeldRequests {
     ghost use Rattle.std.specs.Prelude.{◌-◌, vec_len, vec_capacity};
+    ghost use Rattle.open_requests.specs.Counts.{AreCounts};
     ghost use Rattle.open_requests.specs.Held as spec;
 
     ghost Value = { spec.HeldRequests };
 
     ghost view = { λ r. record { requests = spec.held_in r.slots.items; room = vec_capacity r.slots - vec_len r.slots } };
 
-    ghost invariant = { λ r. spec.Rises r.slots.items };
+    ghost invariant = { λ r. spec.Rises r.slots.items × AreCounts r.waiting (spec.held_in r.slots.items) };
 }
 
 // Where the slot of a number stands.
@@ -92,14 +98,29 @@ fn make_last(slots: &mut Vec<HeldSlot>, number: u64)
     }
 }
 
+// The request of the slot at a place waits for something else, where it has this number.
+fn restand_at(slots: &mut [HeldSlot], counts: &mut [usize], at: usize, number: u64, stand: Stand)
+    requires within { at < length slots.old }
+    requires counts { AreCounts counts.old (held_in slots.old) }
+    ensures slots { (d : SpecSlot) → slots.new ≡ set slots.old at (slot_restood number (stand_of stand) (slice_index_or slots.old at d)) }
+    ensures counts { AreCounts counts.new (held_in slots.new) }
+{
+    let slot = &mut slots[at];
+    count_out(counts, slot);
+    slot.restand(number, stand);
+    count_in(counts, slot);
+}
+
 // The request of a number waits for something else.
-fn restand_in(slots: &mut [HeldSlot], number: u64, stand: Stand)
-    requires { Rises slots.old }
+fn restand_in(slots: &mut [HeldSlot], counts: &mut [usize], number: u64, stand: Stand)
+    requires rises { Rises slots.old }
+    requires counts { AreCounts counts.old (held_in slots.old) }
     ensures held { held_in slots.new ≡ map (restood number (stand_of stand)) (held_in slots.old) }
     ensures rises { Rises slots.new }
+    ensures counts { AreCounts counts.new (held_in slots.new) }
 {
     if let Some(at) = place(slots, number) {
-        slots[at].restand(number, stand);
+        restand_at(slots, counts, at, number, stand);
     }
 }
 
@@ -135,6 +156,7 @@ impl HeldRequests {
         HeldRequests {
             slots: Vec::new(alloc),
             gone: 0,
+            waiting: [0; COUNTED],
         }
     }
 
@@ -143,6 +165,16 @@ impl HeldRequests {
         ensures { held_in result.now ≡ self.now.requests }
     {
         self.slots.as_slice()
+    }
+
+    /// How many wait at a server for an index. None is looked at, where the server's number is below 8.
+    pub fn waiting(&self, server: u32) -> usize
+        ensures { result ≡ waiting server self.now.requests }
+    {
+        match count_of(&self.waiting, server) {
+            Some(count) => count,
+            None => count_slots(server, self.slots.as_slice()),
+        }
     }
 
     /// The request of a number.
@@ -182,7 +214,9 @@ impl HeldRequests {
         ensures room { self.old.room ≤ self.new.room + 1 }
     {
         make_last(&mut self.slots, pending.number());
-        self.slots.push_reserved(HeldSlot::Held(pending));
+        let slot = HeldSlot::Held(pending);
+        count_in(&mut self.waiting, &slot);
+        self.slots.push_reserved(slot);
     }
 
     // One more was let go of: slots are swept out once they may be half of all.
@@ -204,6 +238,7 @@ impl HeldRequests {
         ensures room { self.old.room ≤ self.new.room }
     {
         if let Some(at) = place(self.slots.as_slice(), number) {
+            count_out(&mut self.waiting, &self.slots[at]);
             set_at(&mut self.slots, at, HeldSlot::LetGo { number });
             self.count_gone();
         }
@@ -214,7 +249,7 @@ impl HeldRequests {
         ensures requests { self.new.requests ≡ map (restood number (stand_of stand)) self.old.requests }
         ensures room { self.new.room ≡ self.old.room }
     {
-        restand_in(self.slots.as_mut_slice(), number, stand);
+        restand_in(self.slots.as_mut_slice(), &mut self.waiting, number, stand);
     }
 
     /// Each request of a server is to be closed, since the server restarted in the event with this number.
@@ -223,5 +258,6 @@ impl HeldRequests {
         ensures room { self.new.room ≡ self.old.room }
     {
         end_each(self.slots.as_mut_slice(), server, event);
+        count_none(&mut self.waiting, server);
     }
 }

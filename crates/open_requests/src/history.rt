@@ -25,6 +25,19 @@ fn push_entries(marks: &mut Vec<Mark>, entries: &mut Vec<Entry>, count: u64)
     }
 }
 
+// How many places of notes may lie empty while they are used up.
+const SPARE: usize = 4096;
+
+// Gives memory back that notes no longer need.
+fn give_back(notes: &mut Vec<Note>)
+    ensures items { notes.new.items ≡ notes.old.items }
+    ensures len { vec_len notes.new ≡ vec_len notes.old }
+{
+    if notes.capacity() - notes.len() > SPARE {
+        notes.shrink_to_fit();
+    }
+}
+
 // Puts the marks of these notes last. Notes and entries stand the last one first. There is room for the marks.
 fn expand(notes: &mut Vec<Note>, entries: &mut Vec<Entry>, marks: &mut Vec<Mark>)
     requires none { marks.old.items ≡ [] }
@@ -36,6 +49,7 @@ fn expand(notes: &mut Vec<Note>, entries: &mut Vec<Entry>, marks: &mut Vec<Mark>
             Note::Marked(mark) => marks.push_reserved(mark),
             Note::Joined(count) => push_entries(marks, entries, count),
         }
+        give_back(notes);
     }
 }
 

@@ -24,7 +24,7 @@ ghost use Rattle.open_requests.specs.declared.note.Note.{Note};
 ghost use Rattle.open_requests.specs.declared.note.Note.TheVariants.{Joined, Marked};
 ghost use Rattle.open_requests.specs.Notes.{joined_in, marked_in, past_of};
 ghost use Rattle.open_requests.specs.Requests as own;
-ghost use Rattle.open_requests.specs.Requests.{Requests, answered_with, came_with, closed_with, cluster_of, ended_all, halted_with, holding_with, restood, shelved_all, told_sync, used, with_note};
+ghost use Rattle.open_requests.specs.Requests.{Requests, answered_with, came_with, closed_with, cluster_of, ended_all, halted_with, holding_with, joining, restood, shelved_all, told_sync, used};
 ghost use Rattle.open_requests.specs.Taking.{Takes};
 
 /// An answer is one of the rules, where its content is what they show.
@@ -67,7 +67,7 @@ pub fn marks_lift()
 
 /// Entries that joined the agreed log, and a halt before, are marked as the rules mark them.
 pub fn moves_lift()
-    ensures { (failed : Bool) (i : ℕ) (w w' : World) (servers : List Server) (agents : List Agent) (r : Requests) (more : Log) → joined_in r.notes ≡ length w.agreed → w'.agreed ≡ w.agreed ++ more → cluster_of w' servers agents (with_note (Joined (length more)) (halted_with failed i r)) ≡ moved_with failed i w' (cluster_of w servers agents r) }
+    ensures { (failed : Bool) (i : ℕ) (w w' : World) (servers : List Server) (agents : List Agent) (r : Requests) (more : Log) → joined_in r.notes ≡ length w.agreed → w'.agreed ≡ w.agreed ++ more → cluster_of w' servers agents (joining (length more) (halted_with failed i r)) ≡ moved_with failed i w' (cluster_of w servers agents r) }
 {}
 
 /// A longer agreed log changes no mark.

@@ -5,6 +5,7 @@ mod answering;
 mod collected;
 mod content;
 mod copies;
+mod counts;
 mod giving;
 mod held;
 mod history;

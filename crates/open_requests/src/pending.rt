@@ -1,4 +1,5 @@
-ghost use Rattle.std.specs.Prelude.{◌≡◌};
+ghost use Rattle.std.specs.Prelude.{◌≡◌, ◌==◌, ℕ, IfNone, IfSome, false};
+ghost use Rattle.cluster_rules.specs.Due.{waits};
 ghost use Rattle.cluster_rules.specs.Step.{ended};
 ghost use Rattle.open_requests.specs.Contents.{stand_of};
 ghost use Rattle.open_requests.specs.Requests.{restood};
@@ -93,6 +94,17 @@ impl Pending {
         ensures { stand_of result ≡ self.now.stand }
     {
         self.stand
+    }
+
+    /// The server at which it waits for an index, which was looked for and was not there.
+    pub fn waits_at(&self) -> Option<u32>
+        ensures some { IfSome result (λ server. (i : ℕ) → waits i self.now ≡ (server == i)) }
+        ensures none { IfNone result ((i : ℕ) → waits i self.now ≡ false) }
+    {
+        match self.stand {
+            Stand::ForIndex { looked: true, .. } => Some(self.server),
+            _ => None,
+        }
     }
 
     /// What it waits for.

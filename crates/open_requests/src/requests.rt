@@ -6,10 +6,11 @@ ghost use Rattle.open_requests.specs.declared.note.Note.TheVariants as notes;
 ghost use Rattle.open_requests.specs.Contents.{stand_of, start_of};
 ghost use Rattle.std.specs.List.{AllByRecursion as Each, find, position};
 ghost use Rattle.std.specs.Option.{option_copied};
+ghost use Rattle.cluster_rules.specs.Due.{waiting};
 ghost use Rattle.cluster_rules.specs.Replies.{number_of};
 ghost use Rattle.open_requests.specs.Held.{held_in};
 ghost use Rattle.open_requests.specs.Notes.{IsJustMade, IsMadeLast, events_noted, past_of};
-ghost use Rattle.open_requests.specs.Requests.{came_with, empty, ended_all, forgotten, holding_with, noted, numbered_with, restood, shelved_all, used, with_note};
+ghost use Rattle.open_requests.specs.Requests.{came_with, empty, ended_all, forgotten, holding_with, joining, noted, numbered_with, restood, shelved_all, used, with_note};
 ghost use Rattle.open_requests.specs.Taking.{IsCollected, TakesAt, TakesFirst, is_of};
 
 use crate::collected::Collected;
@@ -159,6 +160,14 @@ impl Requests {
         self.held.get(number)
     }
 
+    /// How many of the requests that are held wait at a server for an index. None is looked at, where the server's
+    /// number is below 8, as all of a cluster's are.
+    pub fn waiting(&self, server: u32) -> usize
+        ensures { result ≡ waiting server self.now.held }
+    {
+        self.held.waiting(server)
+    }
+
     /// What has happened, the first one first.
     pub fn notes(&self) -> &[Note]
         ensures { reverse result.now ≡ self.now.notes }
@@ -176,12 +185,16 @@ impl Requests {
         self.room -= 1;
     }
 
-    /// So many entries joined the agreed log. There is room for it, so that it takes no memory.
+    /// So many entries joined the agreed log, or none did. There is room for it, so that it takes no memory.
     pub fn join(&mut self, count: u64)
         requires { 0 < self.old.room }
-        ensures { self.new ≡ used (with_note (notes.Joined count) self.old) }
+        ensures { self.new ≡ used (joining count self.old) }
     {
-        self.add(Note::Joined(count));
+        if count == 0 {
+            self.room -= 1;
+        } else {
+            self.add(Note::Joined(count));
+        }
     }
 
     /// The server's durable store failed. There is room for it, so that it takes no memory.
