@@ -54,7 +54,7 @@ fn three_asleep(alloc: Global) -> Result<Watch, Memory>
     Ok(watch)
 }
 
-/// Whether just these are awake.
+/// Whether just these are awake, which are given in ascending order.
 fn are_awake(watch: &Watch, wanted: &[u64]) -> bool {
     !watch.is_all() && watch.awake() == wanted
 }
@@ -73,11 +73,11 @@ fn a_fired_channel_wakes_the_reads_of_its_server(rt: HostRuntime) -> Result<(), 
     watch.fire(alloc, 1, &key(alloc, "b")?);
     assert!(rt; are_awake(&watch, &[4]));
     watch.fire(alloc, 1, &key(alloc, "a/c")?);
-    assert!(rt; are_awake(&watch, &[4, 2]));
+    assert!(rt; are_awake(&watch, &[2, 4]));
     watch.fire(alloc, 1, &key(alloc, "a/b")?);
-    assert!(rt; are_awake(&watch, &[4, 2, 1]));
+    assert!(rt; are_awake(&watch, &[1, 2, 4]));
     watch.fire(alloc, 2, &key(alloc, "a/b")?);
-    assert!(rt; are_awake(&watch, &[4, 2, 1, 3]));
+    assert!(rt; are_awake(&watch, &[1, 2, 3, 4]));
     Ok(())
 }
 
@@ -88,11 +88,11 @@ fn a_read_wakes_at_its_deadline(rt: HostRuntime) -> Result<(), Fail> {
     watch.wake_over(alloc, 1, 9);
     assert!(rt; are_awake(&watch, &[4]));
     watch.wake_over(alloc, 1, 10);
-    assert!(rt; are_awake(&watch, &[4, 1]));
+    assert!(rt; are_awake(&watch, &[1, 4]));
     watch.wake_over(alloc, 1, 100_000);
-    assert!(rt; are_awake(&watch, &[4, 1, 2]));
+    assert!(rt; are_awake(&watch, &[1, 2, 4]));
     watch.fire(alloc, 1, &key(alloc, "a/b")?);
-    assert!(rt; are_awake(&watch, &[4, 1, 2]));
+    assert!(rt; are_awake(&watch, &[1, 2, 4]));
     Ok(())
 }
 
@@ -103,9 +103,9 @@ fn who_sleeps_anew_leaves_its_old_channels(rt: HostRuntime) -> Result<(), Fail> 
     watch.sleep(alloc, 1, 1, &one(alloc, Chan::Services)?, 30);
     watch.fire(alloc, 1, &key(alloc, "a/b")?);
     watch.wake_over(alloc, 1, 29);
-    assert!(rt; are_awake(&watch, &[4, 2]));
+    assert!(rt; are_awake(&watch, &[2, 4]));
     watch.fire(alloc, 1, &one(alloc, Chan::Services)?);
-    assert!(rt; are_awake(&watch, &[4, 2, 1]));
+    assert!(rt; are_awake(&watch, &[1, 2, 4]));
     Ok(())
 }
 
@@ -118,6 +118,19 @@ fn who_is_forgotten_does_not_wake(rt: HostRuntime) -> Result<(), Fail> {
     watch.fire(alloc, 1, &key(alloc, "a/b")?);
     watch.wake_over(alloc, 1, 30);
     assert!(rt; are_awake(&watch, &[2]));
+    Ok(())
+}
+
+#[test]
+fn who_is_awake_wakes_once(rt: HostRuntime) -> Result<(), Fail> {
+    let mut watch = three_asleep(rt.alloc())?;
+    watch.wake(9);
+    watch.wake(4);
+    watch.wake(6);
+    assert!(rt; are_awake(&watch, &[4, 6, 9]));
+    watch.forget(1, 6);
+    watch.forget(1, 5);
+    assert!(rt; are_awake(&watch, &[4, 9]));
     Ok(())
 }
 

@@ -2,3 +2,4 @@ pub mod Lookups
 pub mod Members
 pub mod Places
 pub mod Leavers
+pub mod Ascending

@@ -1,16 +1,14 @@
 -- Numbers on a list.
-use Rattle.std.proofs.Common.{◌≡◌, ◌≢◌, ℕ, zero, suc, ◌+◌, ◌<◌, ◌⊎◌, inl, inr, Bool, true, false, cond, not, ◌||◌, List, [], ◌∷◌, ◌++◌, refl, sym, ◌∙◌, ap, subst, map, filter, take, drop, length, get_or, arith, Contains, Some, nat_eq, add-one}
+use Rattle.std.proofs.Common.{◌≡◌, ◌≢◌, ℕ, zero, suc, ◌+◌, ◌<◌, ◌≤◌, Bool, true, false, cond, not, ◌||◌, List, [], ◌∷◌, ◌++◌, refl, sym, ◌∙◌, ap, subst, map, filter, take, length, get_or, arith, Contains, Some, nat_eq}
 use Rattle.std.specs.Ordering.{nat_cmp}
 use Rattle.std.specs.Map.{lookup}
 use Rattle.std.specs.BTreeMap.{is_at}
-use Rattle.std.proofs.Math.Seq.{drop-cons}
 use Rattle.std.proofs.lemmas.Bool.{eqb-true, eq-eqb, true≢false}
-use Rattle.std.proofs.lemmas.List.{take-append-drop, take_more}
-use Rattle.std.proofs.lemmas.List.Elements.{Contains-append_left, Contains-append_right, Contains-append_cases}
+use Rattle.std.proofs.lemmas.List.{take_more}
 use Rattle.std.proofs.lemmas.Map.Views.{Contains-from_any}
 use Rattle.cat_model.specs.declared.query.Chan.{Chan}
 use Rattle.watch_registry.proofs.Holds.{key_same}
-use Rattle.read_watch.specs.Watch.{is_among, without_last}
+use Rattle.read_watch.specs.Watch.{is_among}
 
 pub listed : (n : ℕ) (xs : List ℕ) → is_among n xs ≡ true → Contains xs n
 listed n xs h = Contains-from_any {eq = λ q y. nat_eq y q} (λ x y e. sym (eqb-true y x e)) n xs h
@@ -60,24 +58,6 @@ others_kept m xs ys e n d h = subst (λ l. Contains l n) (sym e) (listed n _ (am
 pub none_kept : (m : ℕ) (xs ys : List ℕ) → ys ≡ filter (λ y. not (nat_eq y m)) xs → Contains ys m → ⊥
 none_kept m xs ys e h = among_not (λ y. not (nat_eq y m)) m xs (ap not (eq-eqb m m refl)) (among m _ (subst (λ l. Contains l m) e h))
 
--- one was taken out at a place
-pub others_left : (m i : ℕ) (xs ys : List ℕ) → i < length xs → get_or xs i 0 ≡ m → ys ≡ take i xs ++ drop (i + 1) xs → (n : ℕ) → n ≢ m → Contains xs n → Contains ys n
-others_left m i xs ys low at e n d h =
-    let whole : xs ≡ take i xs ++ (m ∷ [] ++ drop (i + 1) xs) = sym (take-append-drop i xs) ∙ ap (λ l. take i xs ++ l) (drop-cons xs i 0 low ∙ (λ k. at k ∷ drop (sym (add-one i) k) xs)) in
-    subst (λ l. Contains l n) (sym e) (go (Contains-append_cases (take i xs) (m ∷ [] ++ drop (i + 1) xs) n (subst (λ l. Contains l n) whole h)))
-  where
-    single : Contains (m ∷ []) n → ⊥
-    single (zero, l, q) = d (sym q)
-    single (suc k, l, q) = absurd (omega (arith, l))
-
-    last : Contains (m ∷ []) n ⊎ Contains (drop (i + 1) xs) n → Contains (take i xs ++ drop (i + 1) xs) n
-    last (inl c) = absurd (single c)
-    last (inr c) = Contains-append_right (take i xs) (drop (i + 1) xs) n c
-
-    go : Contains (take i xs) n ⊎ Contains (m ∷ [] ++ drop (i + 1) xs) n → Contains (take i xs ++ drop (i + 1) xs) n
-    go (inl c) = Contains-append_left (take i xs) (drop (i + 1) xs) n c
-    go (inr c) = last (Contains-append_cases (m ∷ []) (drop (i + 1) xs) n c)
-
 -- a number that is not among the first i + 1 is not among the first i, and not at i
 any_append : (n : ℕ) (xs ys : List ℕ) → is_among n (xs ++ ys) ≡ (is_among n xs || is_among n ys)
 any_append n [] ys = refl
@@ -115,32 +95,6 @@ passing_listed p n v es h g = listed n _ (go es h)
         each more false a true c k = or_true (nat_eq e.0 n) _ (more k)
         each more false a false c k = more k
 
--- the number at a place is listed
-placed : (n i : ℕ) (xs : List ℕ) → i < length xs → get_or xs i 0 ≡ n → is_among n xs ≡ true
-placed n i [] low at = absurd (omega (arith, low))
-placed n zero (x ∷ xs) low at = ap (λ b. b || is_among n xs) (eq-eqb x n at)
-placed n (suc i) (x ∷ xs) low at = or_true (nat_eq x n) (is_among n xs) (placed n i xs (omega (arith, low)) at)
-
--- the last one of a number was taken out
-pub last_out : (n i : ℕ) (xs : List ℕ) → i < length xs → get_or xs i 0 ≡ n → is_among n (drop (suc i) xs) ≡ false → take i xs ++ drop (suc i) xs ≡ without_last n xs
-last_out n i [] low at gone = absurd (omega (arith, low))
-last_out n zero (x ∷ xs) low at gone = sym (ap (λ t. cond t (x ∷ without_last n xs) (cond (nat_eq x n) xs (x ∷ xs))) gone ∙ ap (λ t. cond t xs (x ∷ xs)) (eq-eqb x n at))
-last_out n (suc i) (x ∷ xs) low at gone =
-    ap (λ l. x ∷ l) (last_out n i xs (omega (arith, low)) at gone) ∙ sym (ap (λ t. cond t (x ∷ without_last n xs) (cond (nat_eq x n) xs (x ∷ xs))) (placed n i xs (omega (arith, low)) at))
-
-pub none_out : (n : ℕ) (xs : List ℕ) → is_among n xs ≡ false → xs ≡ without_last n xs
-none_out n [] h = refl
-none_out n (x ∷ xs) h =
-    sym (ap (λ t. cond t (x ∷ without_last n xs) (cond (nat_eq x n) xs (x ∷ xs))) (or_second (nat_eq x n) (is_among n xs) h) ∙ ap (λ t. cond t xs (x ∷ xs)) (or_first (nat_eq x n) (is_among n xs) h))
-
--- who is among those that were added is one of them, or was there
-pub added : (b : Bool) (xs ys zs : List ℕ) → zs ≡ cond b (xs ++ ys) xs → (n : ℕ) → Contains zs n → Contains xs n ⊎ Contains ys n
-added b xs ys zs e n h = go b (subst (λ l. Contains l n) e h)
-  where
-    go : (t : Bool) → Contains (cond t (xs ++ ys) xs) n → Contains xs n ⊎ Contains ys n
-    go true c = Contains-append_cases xs ys n c
-    go false c = inl c
-
 -- who passes was there
 passing_among : (p : ℕ → Bool) (n : ℕ) (xs : List ℕ) → is_among n (filter p xs) ≡ true → is_among n xs ≡ true
 passing_among p n [] h = h
@@ -157,29 +111,6 @@ passing_among p n (x ∷ xs) h = go (passing_among p n xs) (p x) h
 pub passing_were : (p : ℕ → Bool) (n : ℕ) (xs ys : List ℕ) → ys ≡ filter p xs → Contains ys n → Contains xs n
 passing_were p n xs ys e h = listed n xs (passing_among p n xs (among n _ (subst (λ l. Contains l n) e h)))
 
-without_among : (m n : ℕ) (xs : List ℕ) → is_among n (without_last m xs) ≡ true → is_among n xs ≡ true
-without_among m n [] h = h
-without_among m n (x ∷ xs) h = go (without_among m n xs) (is_among m xs) h
-  where
-    go : (is_among n (without_last m xs) ≡ true → is_among n xs ≡ true) → (c : Bool) → is_among n (cond c (x ∷ without_last m xs) (cond (nat_eq x m) xs (x ∷ xs))) ≡ true → (nat_eq x n || is_among n xs) ≡ true
-    go more true k = both (nat_eq x n) k
-      where
-        both : (b : Bool) → (b || is_among n (without_last m xs)) ≡ true → (b || is_among n xs) ≡ true
-        both true q = refl
-        both false q = more q
-    go more false k = here (nat_eq x m) k
-      where
-        here : (b : Bool) → is_among n (cond b xs (x ∷ xs)) ≡ true → (nat_eq x n || is_among n xs) ≡ true
-        here true q = or_true (nat_eq x n) (is_among n xs) q
-        here false q = q
-
-pub without_were : (m n : ℕ) (xs ys : List ℕ) → ys ≡ without_last m xs → Contains ys n → Contains xs n
-without_were m n xs ys e h = listed n xs (without_among m n xs (among n _ (subst (λ l. Contains l n) e h)))
-
-pub single : (m n : ℕ) → Contains (m ∷ []) n → n ≡ m
-single m n (zero, l, q) = sym q
-single m n (suc k, l, q) = absurd (omega (arith, l))
-
 or_none : (a : Bool) → (a || false) ≡ true → a ≡ true
 or_none true h = refl
 or_none false h = h
@@ -189,3 +120,10 @@ pub before_it : (n i : ℕ) (xs : List ℕ) → i < length xs → n ≢ get_or x
 before_it n i xs low d h =
     let e : (is_among n (take i xs) || (nat_eq (get_or xs i 0) n || false)) ≡ true = sym (any_append n (take i xs) (get_or xs i 0 ∷ [])) ∙ ap (is_among n) (sym (take_more xs i 0 low)) ∙ h in
     or_none _ (ap (λ b. is_among n (take i xs) || (b || false)) (sym (eqb_not (get_or xs i 0) n (λ q. d (sym q)))) ∙ e)
+
+-- as many are taken as there are
+pub whole_taken : (i : ℕ) (xs : List ℕ) → length xs ≤ i → take i xs ≡ xs
+whole_taken zero [] h = refl
+whole_taken zero (x ∷ xs) h = absurd (omega (arith, h))
+whole_taken (suc i) [] h = refl
+whole_taken (suc i) (x ∷ xs) h = ap (λ l. x ∷ l) (whole_taken i xs (omega (arith, h)))

@@ -1,5 +1,5 @@
 -- Which requests are awake, so that something may be due of them, and which sleep.
-use Rattle.std.specs.Prelude.{◌≡◌, ℕ, zero, suc, ◌<◌, ◌≤◌, ◌^◌, ◌⊎◌, Bool, true, false, if◌then◌else◌, List, [], ◌∷◌, Some, Contains, length, map, filter, replicate, slice_index_or, nat_eq}
+use Rattle.std.specs.Prelude.{◌≡◌, ℕ, zero, suc, ◌<◌, ◌≤◌, ◌^◌, ◌⊎◌, Bool, true, false, not, List, [], ◌∷◌, Some, Contains, length, map, filter, replicate, slice_index_or, nat_eq}
 use Rattle.std.specs.List.{AllByRecursion, list_any}
 use Rattle.std.specs.Ordering.{nat_cmp}
 use Rattle.std.specs.Map.{lookup}
@@ -59,10 +59,14 @@ pub record OthersStay (number : ℕ) (before after : Sleepers) : Type 0 where
 abbrev pub is_among : ℕ → List ℕ → Bool
 is_among n numbers = list_any (λ m. nat_eq m n) numbers
 
--- the numbers without this one where it stands last
-abbrev pub without_last : ℕ → List ℕ → List ℕ
-without_last n [] = []
-without_last n (m ∷ ms) = if is_among n ms then m ∷ without_last n ms else (if nat_eq m n then ms else m ∷ ms)
+-- the numbers without this one
+abbrev pub without : ℕ → List ℕ → List ℕ
+without n numbers = filter (λ m. not (nat_eq m n)) numbers
+
+-- the numbers ascend
+abbrev pub Rises : List ℕ → Type 0
+Rises [] = Unit {0}
+Rises (n ∷ ns) = AllByRecursion (λ m. n < m) ns × Rises ns
 
 -- the numbers of those that hang on a channel which a fired one reaches
 abbrev pub hit_by : List Chan → List (ℕ × List Chan) → List ℕ

@@ -1,46 +1,85 @@
 //! The numbers of the requests that are awake.
 
-ghost use Rattle.std.specs.Prelude.{◌≡◌, ◌≢◌, ◌++◌, ◌+◌, ◌<◌, ℕ, false, Contains, IfSome, None, drop, filter, length, nat_eq, not, slice_index, if◌then◌else◌};
-ghost use Rattle.read_watch.specs.Watch.{is_among, without_last};
+ghost use Rattle.std.specs.Prelude.{◌≡◌, ◌≢◌, ◌<◌, ◌≤◌, ◌⊎◌, ℕ, [], false, true, Contains, length, slice_index_or};
+ghost use Rattle.read_watch.specs.Watch.{Rises, without};
 
-/// Adds these numbers, if there is memory, and tells whether there was.
-pub fn add(awake: &mut Vec<u64>, numbers: &[u64]) -> bool
-    ensures { awake.new.items ≡ (if result then awake.old.items ++ numbers.now else awake.old.items) }
-{
-    awake.extend_from_slice(numbers).is_ok()
+use std::alloc::Global;
+use std::marker::Model;
+
+/// Numbers of requests, ascending. One is found in a logarithm of how many there are.
+#[derive(Drop)]
+pub struct AwakeNumbers {
+    numbers: Vec<u64>,
 }
 
-/// The last place of a number.
-fn last_place(awake: &[u64], number: u64) -> Option<usize>
-    ensures there { IfSome result (λ at. (at < length awake.now) × (slice_index awake.now at ≡ number)) }
-    ensures last { IfSome result (λ at. is_among number (drop (at + 1) awake.now) ≡ false) }
-    ensures none { result ≡ None → is_among number awake.now ≡ false }
+impl Model for AwakeNumbers {
+    ghost use Rattle.std.specs.Prelude.{ℕ, List};
+    ghost use Rattle.read_watch.specs.Watch.{Rises};
+
+    ghost Value = { List ℕ };
+
+    ghost view = { λ a. a.numbers.items };
+
+    ghost invariant = { λ a. Rises a.numbers.items };
+}
+
+// The place of the first that is not below a number.
+fn place(numbers: &[u64], number: u64) -> usize
+    requires { Rises numbers.now }
+    ensures within { result ≤ length numbers.now }
+    ensures below { (k d : ℕ) → k < result → slice_index_or numbers.now k d < number }
+    ensures above { (k d : ℕ) → result ≤ k → k < length numbers.now → number ≤ slice_index_or numbers.now k d }
 {
-    let mut at = awake.len();
-    while at > 0 {
-        at -= 1;
-        if awake[at] == number {
-            return Some(at);
+    numbers.partition_point(|n| *n < number)
+}
+
+// A number stands at its place.
+fn stands_at(numbers: &[u64], at: usize, number: u64) -> bool
+    ensures there { result ≡ true → (at < length numbers.now) × ((d : ℕ) → slice_index_or numbers.now at d ≡ number) }
+    ensures none { result ≡ false → (d : ℕ) → at < length numbers.now → slice_index_or numbers.now at d ≢ number }
+{
+    at < numbers.len() && numbers[at] == number
+}
+
+impl AwakeNumbers {
+    /// No numbers.
+    pub fn new(alloc: Global) -> AwakeNumbers
+        ensures { result ≡ [] }
+    {
+        AwakeNumbers {
+            numbers: Vec::new(alloc),
         }
     }
-    None
-}
 
-/// Takes a number out, where it stands last.
-pub fn take_last(awake: &mut Vec<u64>, number: u64)
-    ensures others { (n : ℕ) → n ≢ number → Contains awake.old.items n → Contains awake.new.items n }
-    ensures left { awake.new.items ≡ without_last number awake.old.items }
-{
-    if let Some(at) = last_place(awake.as_slice(), number) {
-        awake.remove(at);
+    /// The numbers, ascending.
+    pub fn as_slice(&self) -> &[u64]
+        ensures { result.now ≡ self.now }
+    {
+        self.numbers.as_slice()
     }
-}
 
-/// Takes a number out, wherever it stands.
-pub fn take_all(awake: &mut Vec<u64>, number: u64)
-    ensures others { (n : ℕ) → n ≢ number → Contains awake.old.items n → Contains awake.new.items n }
-    ensures gone { Contains awake.new.items number → ⊥ }
-    ensures left { awake.new.items ≡ filter (λ n. not (nat_eq n number)) awake.old.items }
-{
-    awake.retain(|n| *n != number);
+    /// Adds a number, if there is memory or it is there already, and tells whether it is there.
+    pub fn add(&mut self, number: u64) -> bool
+        ensures there { result ≡ true → Contains self.new number }
+        ensures alone { (n : ℕ) → Contains self.new n → Contains self.old n ⊎ (n ≡ number) }
+        ensures kept { (n : ℕ) → Contains self.old n → Contains self.new n }
+    {
+        let at = place(self.numbers.as_slice(), number);
+        if stands_at(self.numbers.as_slice(), at, number) {
+            return true;
+        }
+        self.numbers.insert(at, number).is_ok()
+    }
+
+    /// Takes a number out, if it is there.
+    pub fn take(&mut self, number: u64)
+        ensures others { (n : ℕ) → n ≢ number → Contains self.old n → Contains self.new n }
+        ensures gone { Contains self.new number → ⊥ }
+        ensures left { self.new ≡ without number self.old }
+    {
+        let at = place(self.numbers.as_slice(), number);
+        if stands_at(self.numbers.as_slice(), at, number) {
+            self.numbers.remove(at);
+        }
+    }
 }

@@ -4,7 +4,7 @@ ghost use Rattle.std.specs.Prelude.{◌≡◌, ◌≢◌, ◌+◌, ◌<◌, ◌�
 ghost use Rattle.cat_model.specs.Reach.{is_on};
 ghost use Rattle.cat_model.specs.declared.query.Chan.{Chan as Channel};
 
-use crate::awake::{add, take_all, take_last};
+use crate::awake::AwakeNumbers;
 use crate::sleeping::SleepingReads;
 use cat_model::{Chan, List, Memory};
 use std::alloc::Global;
@@ -15,7 +15,7 @@ use std::marker::Model;
 #[derive(Drop)]
 pub struct Watch {
     servers: Vec<SleepingReads>,
-    awake: Vec<u64>,
+    awake: AwakeNumbers,
     all: bool,
 }
 
@@ -24,7 +24,7 @@ impl Model for Watch {
 
     ghost Value = { spec.Watch };
 
-    ghost view = { λ w. record { servers = w.servers.items; awake = w.awake.items; all = w.all } };
+    ghost view = { λ w. record { servers = w.servers.items; awake = w.awake; all = w.all } };
 }
 
 /// The place of a server among all.
@@ -36,7 +36,7 @@ fn place(server: u32) -> usize
 }
 
 impl Watch {
-    ghost use Rattle.read_watch.specs.Watch.{hit_by, nobody, sleepers_of, without_last, IsServer, IsAwake, IsOver, Sleeps};
+    ghost use Rattle.read_watch.specs.Watch.{hit_by, nobody, sleepers_of, without, IsServer, IsAwake, IsOver, Sleeps};
 
     /// No request at so many servers.
     pub fn new(alloc: Global, servers: u32) -> Result<Watch, Memory>
@@ -48,7 +48,7 @@ impl Watch {
         }
         Ok(Watch {
             servers: sleeping,
-            awake: Vec::new(alloc),
+            awake: AwakeNumbers::new(alloc),
             all: false,
         })
     }
@@ -67,26 +67,26 @@ impl Watch {
         self.awake.as_slice()
     }
 
-    fn wake_each(&mut self, numbers: &[u64])
-        ensures awake { (n : ℕ) → Contains numbers.now n → IsAwake n self.new }
-        ensures alone { (n : ℕ) → Contains self.new.awake n → Contains self.old.awake n ⊎ Contains numbers.now n }
-        ensures kept { (n : ℕ) → IsAwake n self.old → IsAwake n self.new }
-        ensures servers { self.new.servers ≡ self.old.servers }
-    {
-        if !add(&mut self.awake, numbers) {
-            self.all = true;
-        }
-    }
-
-    /// A request wakes.
+    /// A request wakes. It costs a logarithm of how many are awake, and what it takes to make room among them.
     pub fn wake(&mut self, number: u64)
         ensures awake { IsAwake number self.new }
         ensures alone { (n : ℕ) → Contains self.new.awake n → Contains self.old.awake n ⊎ (n ≡ number) }
         ensures kept { (n : ℕ) → IsAwake n self.old → IsAwake n self.new }
         ensures servers { self.new.servers ≡ self.old.servers }
     {
-        if !self.awake.contains(&number) {
-            self.wake_each(&[number]);
+        if !self.awake.add(number) {
+            self.all = true;
+        }
+    }
+
+    fn wake_each(&mut self, numbers: &[u64])
+        ensures awake { (n : ℕ) → Contains numbers.now n → IsAwake n self.new }
+        ensures alone { (n : ℕ) → Contains self.new.awake n → Contains self.old.awake n ⊎ Contains numbers.now n }
+        ensures kept { (n : ℕ) → IsAwake n self.old → IsAwake n self.new }
+        ensures servers { self.new.servers ≡ self.old.servers }
+    {
+        for number in numbers {
+            self.wake(*number);
         }
     }
 
@@ -120,8 +120,7 @@ impl Watch {
     }
 
     /// A request that is awake, a read that waits, sleeps at a server until one of these channels is fired there or its
-    /// deadline comes. Where there is no memory, or as many sleep there as may, it is awake. It is taken out of those
-    /// that are awake where it stands last.
+    /// deadline comes. Where there is no memory, or as many sleep there as may, it is awake.
     pub fn sleep(
         &mut self,
         alloc: Global,
@@ -133,7 +132,7 @@ impl Watch {
         requires server { IsServer server self.old }
         requires two { length chans.now ≤ 2 }
         ensures rests { IsAwake number self.new ⊎ Sleeps server number chans.now deadline self.new }
-        ensures only { (cs : Items Channel) (d : ℕ) → Sleeps server number cs d self.new → (cs ≡ chans.now) × (d ≡ deadline) × (self.new.awake ≡ without_last number self.old.awake) }
+        ensures only { (cs : Items Channel) (d : ℕ) → Sleeps server number cs d self.new → (cs ≡ chans.now) × (d ≡ deadline) × (self.new.awake ≡ without number self.old.awake) }
         ensures alone { (n : ℕ) → n ≢ number → Contains self.new.awake n → Contains self.old.awake n }
         ensures kept { (n : ℕ) → n ≢ number → IsAwake n self.old → IsAwake n self.new }
         ensures sleepers { (i n : ℕ) (cs : Items Channel) (d : ℕ) → n ≢ number → Sleeps i n cs d self.old → Sleeps i n cs d self.new }
@@ -141,13 +140,14 @@ impl Watch {
     {
         let sleeps = self.servers[place(server)].rest(alloc, number, chans, deadline);
         if sleeps {
-            take_last(&mut self.awake, number);
+            self.awake.take(number);
         } else {
             self.wake(number);
         }
     }
 
-    /// A request of a server is neither awake nor asleep any more. It takes no memory.
+    /// A request of a server is neither awake nor asleep any more. It takes no memory, and costs a logarithm of how many
+    /// are awake, beside what it takes to close the gap among them.
     pub fn forget(&mut self, server: u32, number: u64)
         requires { IsServer server self.old }
         ensures kept { (n : ℕ) → n ≢ number → IsAwake n self.old → IsAwake n self.new }
@@ -158,6 +158,6 @@ impl Watch {
         ensures servers { length self.new.servers ≡ length self.old.servers }
     {
         self.servers[place(server)].forget(number);
-        take_all(&mut self.awake, number);
+        self.awake.take(number);
     }
 }

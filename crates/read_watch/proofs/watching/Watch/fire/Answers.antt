@@ -24,7 +24,7 @@ returns-in-Ok-clause-alone c = λ n h. end n (c.wake_each.ensures.alone n h)
     there : c.as_slice.result.now ≡ hit_by c.args.fired.now (sleepers_of c.args.self.now.servers c.args.server).asleep
     there = c.as_slice.ensures ∙ c.in-Ok.ensures.hit ∙ ap (λ s. hit_by c.args.fired.now s.asleep) (sym (was c.args.self.now.servers c.self.inside.servers.items c.place.result c.args.server c.index_mut.result.now c.take_fired.new.self (ap (λ w. w.servers) c.self.view_is) c.place.ensures c.requires.1 c.index_mut.ensures.value))
 
-    end : (n : ℕ) → Contains c.self.inside.awake.items n ⊎ Contains c.as_slice.result.now n → Contains c.args.self.now.awake n ⊎ Contains (hit_by c.args.fired.now (sleepers_of c.args.self.now.servers c.args.server).asleep) n
+    end : (n : ℕ) → Contains c.self.inside.awake n ⊎ Contains c.as_slice.result.now n → Contains c.args.self.now.awake n ⊎ Contains (hit_by c.args.fired.now (sleepers_of c.args.self.now.servers c.args.server).asleep) n
     end n (inl p) = inl (subst (λ w. Contains w.awake n) c.self.view_is p)
     end n (inr p) = inr (subst (λ l. Contains l n) there p)
 

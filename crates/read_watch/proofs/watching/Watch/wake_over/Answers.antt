@@ -21,7 +21,7 @@ returns-in-Ok-clause-sleepers c = λ i n chans deadline h.
 pub returns-in-Ok-clause-alone : goal.returns-in-Ok-clause-alone
 returns-in-Ok-clause-alone c = λ n h. end n (c.wake_each.ensures.alone n h)
   where
-    end : (n : ℕ) → Contains c.self.inside.awake.items n ⊎ Contains c.as_slice.result.now n → Contains c.args.self.now.awake n ⊎ IsOver n c.args.clock (sleepers_of c.args.self.now.servers c.args.server).timers
+    end : (n : ℕ) → Contains c.self.inside.awake n ⊎ Contains c.as_slice.result.now n → Contains c.args.self.now.awake n ⊎ IsOver n c.args.clock (sleepers_of c.args.self.now.servers c.args.server).timers
     end n (inl p) = inl (subst (λ w. Contains w.awake n) c.self.view_is p)
     end n (inr p) = inr (
         subst (λ s. IsOver n c.args.clock s.timers) (sym (was c.args.self.now.servers c.self.inside.servers.items c.place.result c.args.server c.index_mut.result.now c.take_over.new.self (ap (λ w. w.servers) c.self.view_is) c.place.ensures c.requires.1 c.index_mut.ensures.value))
