@@ -1,3 +1,4 @@
+pub mod Evaluations
 pub mod Turns
 pub mod AgentEvents
 pub mod Pairs

@@ -10,6 +10,7 @@ ghost use Rattle.cluster_rules.specs.Reached.{IsServerNumber, IsAgentNumber, IsU
 ghost use Rattle.cluster_rules.specs.Requests.{refused, Goes};
 ghost use Rattle.cluster_rules.specs.Proposals.{Tends, is_agents, sync_of};
 ghost use Rattle.cluster_rules.specs.Step.{goes_to, marked, noted, receiver, shelved};
+ghost use Rattle.cluster_turns.specs.Evaluations.{EvaluatesIn, lacking};
 ghost use Rattle.cluster_turns.specs.Turns.{Turned, Ticks, TendsInPart, ActsWhole, ActsCut, event_of, way_of, GoesBy, IsCome, HandlesNewest, IsTaken, Loses, newest};
 ghost use Rattle.cluster_turns.specs.AgentEvents.{IsAlone, IsNoted, SyncsAt, SyncsInPart, SyncsThere, alone, event_of_agent, is_for_agent, sync_way};
 ghost use Rattle.cluster_turns.specs.Pairs.{HasLowest, settled};
@@ -17,8 +18,9 @@ ghost use Rattle.cluster_turns.specs.Pairs.{HasLowest, settled};
 use crate::agent_event::AgentEvent;
 use crate::cut::Cut;
 use crate::impulse::Impulse;
-use cat_model::{Asked, Draw, Event, Memory, Refusal};
+use cat_model::{Asked, Draw, Event, Memory, Refusal, Steps};
 use std::alloc::Global;
+use std::sync::ledger::Ledger;
 
 /// Where a request goes: it is answered at once, or a server handles it.
 #[derive(Drop)]
@@ -36,12 +38,19 @@ pub trait Parts {
     ghost takes: { SpecAsked → Type 0 };
 
     /// Does one work that is due at a server, and says whether there was one. It lacks memory only where there is one.
-    fn turn(&mut self, alloc: Global, server: u32) -> Result<bool, Memory>
+    /// `steps` counts the queries of reads that it evaluates.
+    fn turn<L: Ledger>(
+        &mut self,
+        alloc: Global,
+        server: u32,
+        steps: &mut Steps<L>,
+    ) -> Result<bool, Memory>
         requires { IsServerNumber (state self.old) server }
         ensures turned { IfOk result (λ was. Turned server was (state self.old) (state self.new)) }
         ensures left { IfOk result (λ was. was ≡ true → left server (state self.new) < left server (state self.old)) }
         ensures same { OnErr result (state self.new ≡ state self.old) }
-        ensures behind { OnErr result (due server (state self.old) ≢ None) };
+        ensures behind { OnErr result (due server (state self.old) ≢ None) }
+        ensures counted { EvaluatesIn (lacking result) steps.old steps.new (state self.old) (state self.new) };
 
     /// Marks an event, whatever it is.
     fn note(&mut self, alloc: Global, made: Event) -> Result<(), Memory>

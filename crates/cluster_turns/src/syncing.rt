@@ -5,6 +5,7 @@ ghost use Rattle.cluster_rules.specs.Reached.{Fits, IsServerNumber};
 ghost use Rattle.cluster_rules.specs.Proposals.{is_agents, sync_of};
 ghost use Rattle.cluster_rules.specs.Requests.{Goes};
 ghost use Rattle.cluster_rules.specs.Step.{ClusterStep, noted};
+ghost use Rattle.cluster_turns.specs.Evaluations.{Adds, EvaluatesFor};
 ghost use Rattle.cluster_turns.specs.Turns.{FindsNoMemory, IsTaken, way_of};
 ghost use Rattle.cluster_turns.specs.AgentEvents.{IsAlone, IsNoted, IsSynced, IsSyncedInPart, SyncsThere, agent_in, event_of_agent, sync_way};
 
@@ -12,8 +13,9 @@ use crate::agent_event::AgentEvent;
 use crate::cut::Cut;
 use crate::parts::{Parts, Way};
 use crate::turns::{cut_after, finish, make_up};
-use cat_model::{Event, Memory};
+use cat_model::{Event, Memory, Steps};
 use std::alloc::Global;
+use std::sync::ledger::Ledger;
 
 // Makes the event of an agent that goes to no server.
 #[tactic(none)]
@@ -29,6 +31,7 @@ fn stay<P: Parts>(
     requires alone { IsAlone leaderless (event_of_agent event.now) (P.state parts.old) }
     ensures whole { OnOk result (ClusterStep (P.state parts.old) (event_of_agent event.now) (P.state parts.new) true) }
     ensures cut { OnErr result (FindsNoMemory (event_of_agent event.now) (P.state parts.old) (P.state parts.new)) }
+    ensures counted { Adds 0 (P.state parts.old) (P.state parts.new) }
 {
     parts.do_alone(alloc, event, leaderless)?;
     parts.shelve();
@@ -50,11 +53,12 @@ fn note<P: Parts>(parts: &mut P, alloc: Global, event: &AgentEvent) -> Result<()
 
 // What an agent's event that was noted makes its server do. The agent does its own part once all is made up for.
 #[tactic(none)]
-fn carry_out<P: Parts>(
+fn carry_out<P: Parts, L: Ledger>(
     parts: &mut P,
     alloc: Global,
     server: u32,
     event: &AgentEvent,
+    steps: &mut Steps<L>,
 ) -> Result<(), Cut>
     requires server { IsServerNumber (P.state parts.old) server }
     requires fits { Fits (P.state parts.old) (event_of_agent event.now) }
@@ -64,13 +68,14 @@ fn carry_out<P: Parts>(
     requires goes { SyncsThere server (event_of_agent event.now) (P.state parts.old) }
     ensures whole { OnOk result (IsSynced server (event_of_agent event.now) (P.state parts.old) (P.state parts.new)) }
     ensures cut { IfErr result (λ cut. IsSyncedInPart server (event_of_agent event.now) cut (P.state parts.old) (P.state parts.new)) }
+    ensures counted { EvaluatesFor (event_of_agent event.now) result steps.old steps.new (P.state parts.old) (P.state parts.new) }
 {
-    let was = match make_up(parts, alloc, server) {
+    let was = match make_up(parts, alloc, server, steps) {
         Ok(was) => was,
         Err(cut) => return Err(cut),
     };
     match parts.sync_at(alloc, server, event) {
-        Ok(()) => finish(parts, alloc, server),
+        Ok(()) => finish(parts, alloc, server, steps),
         Err(Cut::Before) => Err(cut_after(was)),
         Err(Cut::Within) => Err(Cut::Within),
     }
@@ -78,11 +83,12 @@ fn carry_out<P: Parts>(
 
 // Makes the event of an agent whose sync goes to a server.
 #[tactic(none)]
-fn sync<P: Parts>(
+fn sync<P: Parts, L: Ledger>(
     parts: &mut P,
     alloc: Global,
     server: u32,
     event: &AgentEvent,
+    steps: &mut Steps<L>,
 ) -> Result<(), Memory>
     requires server { IsServerNumber (P.state parts.old) server }
     requires fits { Fits (P.state parts.old) (event_of_agent event.now) }
@@ -91,9 +97,10 @@ fn sync<P: Parts>(
     requires goes { SyncsThere server (event_of_agent event.now) (P.state parts.old) }
     ensures whole { OnOk result (ClusterStep (P.state parts.old) (event_of_agent event.now) (P.state parts.new) true) }
     ensures cut { OnErr result (FindsNoMemory (event_of_agent event.now) (P.state parts.old) (P.state parts.new)) }
+    ensures counted { EvaluatesFor (event_of_agent event.now) result steps.old steps.new (P.state parts.old) (P.state parts.new) }
 {
     note(parts, alloc, event)?;
-    match carry_out(parts, alloc, server, event) {
+    match carry_out(parts, alloc, server, event, steps) {
         Ok(()) => {
             parts.shelve();
             Ok(())
@@ -111,11 +118,12 @@ fn sync<P: Parts>(
 
 // Makes the event of an agent whose sync goes this way.
 #[tactic(none)]
-fn sync_by<P: Parts>(
+fn sync_by<P: Parts, L: Ledger>(
     parts: &mut P,
     alloc: Global,
     way: Way,
     event: &AgentEvent,
+    steps: &mut Steps<L>,
 ) -> Result<(), Memory>
     requires fits { Fits (P.state parts.old) (event_of_agent event.now) }
     requires agents { is_agents (event_of_agent event.now) ≡ true }
@@ -125,27 +133,34 @@ fn sync_by<P: Parts>(
     requires server { (server : ℕ) → way_of way ≡ Goes server → IsServerNumber (P.state parts.old) server }
     ensures whole { OnOk result (ClusterStep (P.state parts.old) (event_of_agent event.now) (P.state parts.new) true) }
     ensures cut { OnErr result (FindsNoMemory (event_of_agent event.now) (P.state parts.old) (P.state parts.new)) }
+    ensures counted { EvaluatesFor (event_of_agent event.now) result steps.old steps.new (P.state parts.old) (P.state parts.new) }
 {
     match way {
         Way::Answers(_why) => stay(parts, alloc, event, true),
-        Way::Goes(server) => sync(parts, alloc, server, event),
+        Way::Goes(server) => sync(parts, alloc, server, event, steps),
     }
 }
 
 /// Makes an agent's event. A sync that is a part of it goes to the leader, if the agent's server knows of one.
 #[tactic(none)]
-pub fn happen<P: Parts>(parts: &mut P, alloc: Global, event: &AgentEvent) -> Result<(), Memory>
+pub fn happen<P: Parts, L: Ledger>(
+    parts: &mut P,
+    alloc: Global,
+    event: &AgentEvent,
+    steps: &mut Steps<L>,
+) -> Result<(), Memory>
     requires fits { Fits (P.state parts.old) (event_of_agent event.now) }
     requires agents { is_agents (event_of_agent event.now) ≡ true }
     requires takes { IsTaken P.takes (event_of_agent event.now) }
     ensures whole { OnOk result (ClusterStep (P.state parts.old) (event_of_agent event.now) (P.state parts.new) true) }
     ensures cut { OnErr result (FindsNoMemory (event_of_agent event.now) (P.state parts.old) (P.state parts.new)) }
+    ensures counted { EvaluatesFor (event_of_agent event.now) result steps.old steps.new (P.state parts.old) (P.state parts.new) }
 {
     match parts.sync_of(event) {
         None => stay(parts, alloc, event, false),
         Some(agent) => {
             let way = parts.leader_way(agent);
-            sync_by(parts, alloc, way, event)
+            sync_by(parts, alloc, way, event, steps)
         }
     }
 }

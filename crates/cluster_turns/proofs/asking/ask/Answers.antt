@@ -1,5 +1,6 @@
-use Rattle.std.proofs.Common.{rules}
+use Rattle.std.proofs.Common.{rules, ◌≡◌, ◌+◌, subst, sym}
 use Rattle.cluster_turns.proofs.Working.{err_any}
+use Rattle.cluster_turns.specs.Evaluations.{EvaluatesIn, asked_reads, lacking}
 use Rattle.cluster_turns.proofs.asking.ask.Goals as goal
 
 pub request-requires-clause-agent : goal.request-requires-clause-agent
@@ -22,3 +23,12 @@ returns-clause-whole g c = c.in_ok-request.ensures.whole
 
 pub returns-clause-number : goal.returns-clause-number
 returns-clause-number g c = c.asked.ensures
+
+pub returns-in_err-request-clause-counted : goal.returns-in_err-request-clause-counted
+returns-in_err-request-clause-counted g c =
+    let one : lacking c.from_residual.result ≡ 1 = search rules in
+    subst (λ n. EvaluatesIn (asked_reads c.args.asked.now + n) c.args.steps.now c.request.new.steps (g.P.Parts.state c.args.parts.now) (g.P.Parts.state c.request.new.parts)) (sym one) c.in_err-request.ensures.counted
+
+pub returns-clause-counted : goal.returns-clause-counted
+returns-clause-counted g c =
+    c.in_ok-request.ensures.counted

@@ -1,6 +1,9 @@
-use Rattle.std.proofs.Common.{◌≡◌, inl, ap, subst}
+use Rattle.std.proofs.Common.{◌≡◌, inl, ap, subst, ◌+◌, arith}
 use Rattle.cluster_turns.specs.Turns.{GoesBy, way_of}
 use Rattle.cluster_turns.proofs.Working.{err_by}
+use Rattle.cluster_turns.specs.Evaluations.{asked_reads, lacking}
+use Rattle.cluster_turns.proofs.Adding.{adds_most}
+use Rattle.cluster_turns.proofs.Evaluating.{evaluates_adding}
 use Rattle.cluster_turns.proofs.asking.ask_by.Goals as goal
 
 pub ask_none-requires-clause-takes : goal.ask_none-requires-clause-takes
@@ -29,3 +32,11 @@ returns-in-Goes-clause-whole g c = c.ask_at.ensures.whole
 
 pub returns-in-Goes-clause-cut : goal.returns-in-Goes-clause-cut
 returns-in-Goes-clause-cut g c = c.ask_at.ensures.cut
+
+pub returns-in-Answers-clause-counted : goal.returns-in-Answers-clause-counted
+returns-in-Answers-clause-counted g c =
+    evaluates_adding (asked_reads c.args.asked.now + lacking c.ask_none.result) c.args.steps.now (g.P.Parts.state c.args.parts.now) (g.P.Parts.state c.ask_none.new.parts) (adds_most 0 (asked_reads c.args.asked.now + lacking c.ask_none.result) (g.P.Parts.state c.args.parts.now) (g.P.Parts.state c.ask_none.new.parts) (omega arith) c.ask_none.ensures.counted)
+
+pub returns-in-Goes-clause-counted : goal.returns-in-Goes-clause-counted
+returns-in-Goes-clause-counted g c =
+    c.ask_at.ensures.counted

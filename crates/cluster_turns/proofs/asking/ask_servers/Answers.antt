@@ -1,5 +1,7 @@
-use Rattle.std.proofs.Common.{rules, inl, refl}
+use Rattle.std.proofs.Common.{rules, inl, refl, ◌+◌}
 use Rattle.cluster_turns.proofs.Working.{err_any}
+use Rattle.cluster_turns.specs.Evaluations.{asked_reads, lacking}
+use Rattle.cluster_turns.proofs.Evaluating.{evaluates_same}
 use Rattle.cluster_turns.proofs.asking.ask_servers.Goals as goal
 
 pub way-requires-clause-agent : goal.way-requires-clause-agent
@@ -31,3 +33,11 @@ returns-clause-whole g c = c.ask_by.ensures.whole
 
 pub returns-clause-cut : goal.returns-clause-cut
 returns-clause-cut g c = c.ask_by.ensures.cut
+
+pub returns-in_err-way-clause-counted : goal.returns-in_err-way-clause-counted
+returns-in_err-way-clause-counted g c =
+    evaluates_same (asked_reads c.args.asked.now + lacking c.from_residual.result) c.args.steps.now (g.P.Parts.state c.args.parts.now) (g.P.Parts.state c.args.parts.now) refl
+
+pub returns-clause-counted : goal.returns-clause-counted
+returns-clause-counted g c =
+    c.ask_by.ensures.counted

@@ -31,3 +31,11 @@ returns-else-is_for_agent-clause-whole g c = c.ask_servers.ensures.whole
 
 pub returns-else-is_for_agent-clause-cut : goal.returns-else-is_for_agent-clause-cut
 returns-else-is_for_agent-clause-cut g c = c.ask_servers.ensures.cut
+
+pub returns-then-is_for_agent-clause-counted : goal.returns-then-is_for_agent-clause-counted
+returns-then-is_for_agent-clause-counted g c =
+    c.happen.ensures.counted
+
+pub returns-else-is_for_agent-clause-counted : goal.returns-else-is_for_agent-clause-counted
+returns-else-is_for_agent-clause-counted g c =
+    c.ask_servers.ensures.counted

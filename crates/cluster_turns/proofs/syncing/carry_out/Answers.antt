@@ -1,9 +1,12 @@
-use Rattle.std.proofs.Common.{◌≡◌, ◌≢◌, true, None, sym, subst}
+use Rattle.std.proofs.Common.{◌≡◌, ◌≢◌, true, None, sym, subst, ◌+◌, arith}
 use Rattle.cluster_rules.specs.Due.{due}
 use Rattle.cluster_turns.specs.AgentEvents.{event_of_agent, SyncsInPart, IsSyncedInPart}
 use Rattle.cluster_turns.proofs.Keeping.{server_kept, fits_kept, works_keep}
 use Rattle.cluster_turns.proofs.Working.{made_up_by, made_up_works, ok_by, err_within}
 use Rattle.cluster_turns.proofs.AgentSteps.{there_kept, noted_still, synced_server, synced_by, synced_behind, synced_in_part, synced_before, synced_at_first}
+use Rattle.cluster_turns.specs.Evaluations.{lacking, own_reads}
+use Rattle.cluster_turns.proofs.Adding.{adds_most, synced_adds, synced_part_adds}
+use Rattle.cluster_turns.proofs.Evaluating.{evaluates_around, evaluates_cut, evaluates_more}
 use Rattle.cluster_turns.proofs.syncing.carry_out.Goals as goal
 
 pub make_up-requires : goal.make_up-requires
@@ -51,3 +54,22 @@ returns-in-Err-Before-clause-cut g c =
 
 pub returns-in-Err-Within-clause-cut : goal.returns-in-Err-Within-clause-cut
 returns-in-Err-Within-clause-cut g c = synced_in_part c.args.server (event_of_agent c.args.event.now) c.in-Ok.was (g.P.Parts.state c.args.parts.now) (g.P.Parts.state c.make_up.new.parts) (g.P.Parts.state c.sync_at.new.self) c.in-Ok.ensures.whole (subst (λ z. SyncsInPart c.args.server (event_of_agent c.args.event.now) z (g.P.Parts.state c.make_up.new.parts) (g.P.Parts.state c.sync_at.new.self)) c.in-Err-Within.field-0-is c.in-Err-Within.ensures.cut)
+
+pub returns-in-Err-clause-counted : goal.returns-in-Err-clause-counted
+returns-in-Err-clause-counted g c =
+    evaluates_more 1 (own_reads (event_of_agent c.args.event.now) + 1) c.args.steps.now c.make_up.new.steps (g.P.Parts.state c.args.parts.now) (g.P.Parts.state c.make_up.new.parts) (omega arith) c.in-Err.ensures.counted
+
+pub returns-in-Ok-sync_at-clause-counted : goal.returns-in-Ok-sync_at-clause-counted
+returns-in-Ok-sync_at-clause-counted g c =
+    evaluates_around (own_reads (event_of_agent c.args.event.now)) (lacking c.finish.result) c.args.steps.now c.make_up.new.steps c.finish.new.steps (g.P.Parts.state c.args.parts.now) (g.P.Parts.state c.make_up.new.parts) (g.P.Parts.state c.sync_at.new.self) (g.P.Parts.state c.finish.new.parts) c.in-Ok.ensures.counted
+    (adds_most 0 (own_reads (event_of_agent c.args.event.now)) (g.P.Parts.state c.make_up.new.parts) (g.P.Parts.state c.sync_at.new.self) (omega arith) (synced_adds c.args.server (event_of_agent c.args.event.now) (g.P.Parts.state c.make_up.new.parts) (g.P.Parts.state c.sync_at.new.self) true c.in-Ok-sync_at.ensures.whole)) c.finish.ensures.counted
+
+pub returns-in-Err-Before-clause-counted : goal.returns-in-Err-Before-clause-counted
+returns-in-Err-Before-clause-counted g c =
+    evaluates_cut (own_reads (event_of_agent c.args.event.now)) c.args.steps.now c.make_up.new.steps (g.P.Parts.state c.args.parts.now) (g.P.Parts.state c.make_up.new.parts) (g.P.Parts.state c.sync_at.new.self) c.in-Ok.ensures.counted
+    (adds_most 0 (own_reads (event_of_agent c.args.event.now)) (g.P.Parts.state c.make_up.new.parts) (g.P.Parts.state c.sync_at.new.self) (omega arith) (synced_part_adds c.args.server (event_of_agent c.args.event.now) c.in-Err-Before.field-0 (g.P.Parts.state c.make_up.new.parts) (g.P.Parts.state c.sync_at.new.self) c.in-Err-Before.ensures.cut))
+
+pub returns-in-Err-Within-clause-counted : goal.returns-in-Err-Within-clause-counted
+returns-in-Err-Within-clause-counted g c =
+    evaluates_cut (own_reads (event_of_agent c.args.event.now)) c.args.steps.now c.make_up.new.steps (g.P.Parts.state c.args.parts.now) (g.P.Parts.state c.make_up.new.parts) (g.P.Parts.state c.sync_at.new.self) c.in-Ok.ensures.counted
+    (adds_most 0 (own_reads (event_of_agent c.args.event.now)) (g.P.Parts.state c.make_up.new.parts) (g.P.Parts.state c.sync_at.new.self) (omega arith) (synced_part_adds c.args.server (event_of_agent c.args.event.now) c.in-Err-Within.field-0 (g.P.Parts.state c.make_up.new.parts) (g.P.Parts.state c.sync_at.new.self) c.in-Err-Within.ensures.cut))

@@ -1,8 +1,11 @@
-use Rattle.std.proofs.Common.{◌≡◌, ◌∙◌, Some, sym, ap, subst}
+use Rattle.std.proofs.Common.{◌≡◌, ◌∙◌, Some, sym, ap, subst, ◌+◌, arith}
 use Rattle.cluster_rules.specs.Proposals.{sync_of}
 use Rattle.cluster_rules.specs.Reached.{IsAgentNumber}
 use Rattle.cluster_turns.specs.AgentEvents.{event_of_agent, agent_in, sync_way}
 use Rattle.cluster_turns.proofs.AgentSteps.{sync_agent, agent_fits}
+use Rattle.cluster_turns.specs.Evaluations.{lacking, own_reads}
+use Rattle.cluster_turns.proofs.Adding.{adds_most}
+use Rattle.cluster_turns.proofs.Evaluating.{evaluates_adding}
 use Rattle.cluster_turns.proofs.syncing.happen.Goals as goal
 
 pub sync_of-requires-clause-fits : goal.sync_of-requires-clause-fits
@@ -61,3 +64,11 @@ returns-in-Some-clause-whole g c = c.sync_by.ensures.whole
 
 pub returns-in-Some-clause-cut : goal.returns-in-Some-clause-cut
 returns-in-Some-clause-cut g c = c.sync_by.ensures.cut
+
+pub returns-in-None-clause-counted : goal.returns-in-None-clause-counted
+returns-in-None-clause-counted g c =
+    evaluates_adding (own_reads (event_of_agent c.args.event.now) + lacking c.stay.result) c.args.steps.now (g.P.Parts.state c.args.parts.now) (g.P.Parts.state c.stay.new.parts) (adds_most 0 (own_reads (event_of_agent c.args.event.now) + lacking c.stay.result) (g.P.Parts.state c.args.parts.now) (g.P.Parts.state c.stay.new.parts) (omega arith) c.stay.ensures.counted)
+
+pub returns-in-Some-clause-counted : goal.returns-in-Some-clause-counted
+returns-in-Some-clause-counted g c =
+    c.sync_by.ensures.counted

@@ -1,5 +1,9 @@
-use Rattle.std.proofs.Common.{◌∙◌, sym, ap}
+use Rattle.std.proofs.Common.{◌∙◌, sym, ap, ◌+◌, arith}
+use Rattle.cluster_turns.specs.AgentEvents.{event_of_agent}
 use Rattle.cluster_turns.specs.Turns.{way_of}
+use Rattle.cluster_turns.specs.Evaluations.{lacking, own_reads}
+use Rattle.cluster_turns.proofs.Adding.{adds_most}
+use Rattle.cluster_turns.proofs.Evaluating.{evaluates_adding}
 use Rattle.cluster_turns.proofs.syncing.sync_by.Goals as goal
 
 pub stay-requires-clause-fits : goal.stay-requires-clause-fits
@@ -40,3 +44,11 @@ returns-in-Goes-clause-whole g c = c.sync.ensures.whole
 
 pub returns-in-Goes-clause-cut : goal.returns-in-Goes-clause-cut
 returns-in-Goes-clause-cut g c = c.sync.ensures.cut
+
+pub returns-in-Answers-clause-counted : goal.returns-in-Answers-clause-counted
+returns-in-Answers-clause-counted g c =
+    evaluates_adding (own_reads (event_of_agent c.args.event.now) + lacking c.stay.result) c.args.steps.now (g.P.Parts.state c.args.parts.now) (g.P.Parts.state c.stay.new.parts) (adds_most 0 (own_reads (event_of_agent c.args.event.now) + lacking c.stay.result) (g.P.Parts.state c.args.parts.now) (g.P.Parts.state c.stay.new.parts) (omega arith) c.stay.ensures.counted)
+
+pub returns-in-Goes-clause-counted : goal.returns-in-Goes-clause-counted
+returns-in-Goes-clause-counted g c =
+    c.sync.ensures.counted

@@ -3,6 +3,7 @@ use Rattle.cluster_rules.specs.Due.{none}
 use Rattle.cluster_turns.specs.Turns.{Turned}
 use Rattle.cluster_turns.proofs.Keeping.{server_kept, works_keep}
 use Rattle.cluster_turns.proofs.Working.{works_turned, some_works}
+use Rattle.cluster_turns.proofs.Evaluating.{evaluates_then}
 use Rattle.cluster_turns.proofs.turns.make_up.Goals as goal
 
 pub turn-requires : goal.turn-requires
@@ -28,3 +29,19 @@ returns-in-Err-go_on-clause-cut g c =
 
 pub returns-in-Ok-false-clause-whole : goal.returns-in-Ok-false-clause-whole
 returns-in-Ok-false-clause-whole g c = subst (λ z. Turned c.args.server z (g.P.Parts.state c.args.parts.now) (g.P.Parts.state c.turn.new.self)) c.in-Ok-false.field-0-test c.in-Ok-false.ensures.turned
+
+pub returns-in-Err-clause-counted : goal.returns-in-Err-clause-counted
+returns-in-Err-clause-counted g c =
+    c.in-Err.ensures.counted
+
+pub returns-in-Ok-false-clause-counted : goal.returns-in-Ok-false-clause-counted
+returns-in-Ok-false-clause-counted g c =
+    c.in-Ok-false.ensures.counted
+
+pub returns-in-Ok-clause-counted : goal.returns-in-Ok-clause-counted
+returns-in-Ok-clause-counted g c =
+    evaluates_then 0 c.args.steps.now c.turn.new.steps c.go_on.new.steps (g.P.Parts.state c.args.parts.now) (g.P.Parts.state c.turn.new.self) (g.P.Parts.state c.go_on.new.parts) c.in-Ok-true.ensures.counted c.in-Ok.ensures.counted
+
+pub returns-in-Err-go_on-clause-counted : goal.returns-in-Err-go_on-clause-counted
+returns-in-Err-go_on-clause-counted g c =
+    evaluates_then 1 c.args.steps.now c.turn.new.steps c.go_on.new.steps (g.P.Parts.state c.args.parts.now) (g.P.Parts.state c.turn.new.self) (g.P.Parts.state c.go_on.new.parts) c.in-Ok-true.ensures.counted c.in-Err-go_on.ensures.counted

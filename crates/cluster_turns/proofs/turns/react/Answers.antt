@@ -1,8 +1,11 @@
-use Rattle.std.proofs.Common.{◌≡◌, ◌≢◌, None, sym, subst}
+use Rattle.std.proofs.Common.{◌≡◌, ◌≢◌, ◌+◌, None, sym, subst, arith}
 use Rattle.cluster_rules.specs.Due.{due}
 use Rattle.cluster_turns.specs.Turns.{event_of, ActsCut, IsCut}
 use Rattle.cluster_turns.proofs.Keeping.{server_kept, goes_kept, fits_kept, works_keep, acted_server}
 use Rattle.cluster_turns.proofs.Working.{made_up_works, cut_at_first, cut_before, cut_behind, cut_forgot, done_by, ok_by, err_within}
+use Rattle.cluster_turns.specs.Evaluations.{lacking, own_reads}
+use Rattle.cluster_turns.proofs.Adding.{cut_adds, whole_adds}
+use Rattle.cluster_turns.proofs.Evaluating.{evaluates_around, evaluates_cut, evaluates_more}
 use Rattle.cluster_turns.proofs.turns.react.Goals as goal
 
 pub make_up-requires : goal.make_up-requires
@@ -40,3 +43,20 @@ returns-in-Err-Before-clause-cut g c =
 pub returns-in-Err-Within-clause-cut : goal.returns-in-Err-Within-clause-cut
 returns-in-Err-Within-clause-cut g c =
     cut_forgot c.args.server (event_of c.args.impulse) c.in-Ok.was (g.P.Parts.state c.args.parts.now) (g.P.Parts.state c.make_up.new.parts) (g.P.Parts.state c.act.new.self) c.in-Ok.ensures.whole (subst (λ z. ActsCut c.args.server (event_of c.args.impulse) z (g.P.Parts.state c.make_up.new.parts) (g.P.Parts.state c.act.new.self)) c.in-Err-Within.field-0-is c.in-Err-Within.ensures.cut)
+
+pub returns-in-Err-clause-counted : goal.returns-in-Err-clause-counted
+returns-in-Err-clause-counted g c =
+    evaluates_more 1 (own_reads (event_of c.args.impulse) + 1) c.args.steps.now c.make_up.new.steps (g.P.Parts.state c.args.parts.now) (g.P.Parts.state c.make_up.new.parts) (omega arith) c.in-Err.ensures.counted
+
+pub returns-in-Ok-act-clause-counted : goal.returns-in-Ok-act-clause-counted
+returns-in-Ok-act-clause-counted g c =
+    evaluates_around (own_reads (event_of c.args.impulse)) (lacking c.finish.result) c.args.steps.now c.make_up.new.steps c.finish.new.steps (g.P.Parts.state c.args.parts.now) (g.P.Parts.state c.make_up.new.parts) (g.P.Parts.state c.act.new.self) (g.P.Parts.state c.finish.new.parts) c.in-Ok.ensures.counted
+    (whole_adds c.args.server (event_of c.args.impulse) (g.P.Parts.state c.make_up.new.parts) (g.P.Parts.state c.act.new.self) c.in-Ok-act.ensures.whole) c.finish.ensures.counted
+
+pub returns-in-Err-Before-clause-counted : goal.returns-in-Err-Before-clause-counted
+returns-in-Err-Before-clause-counted g c =
+    evaluates_cut (own_reads (event_of c.args.impulse)) c.args.steps.now c.make_up.new.steps (g.P.Parts.state c.args.parts.now) (g.P.Parts.state c.make_up.new.parts) (g.P.Parts.state c.act.new.self) c.in-Ok.ensures.counted (cut_adds c.args.server (event_of c.args.impulse) c.in-Err-Before.field-0 (g.P.Parts.state c.make_up.new.parts) (g.P.Parts.state c.act.new.self) c.in-Err-Before.ensures.cut)
+
+pub returns-in-Err-Within-clause-counted : goal.returns-in-Err-Within-clause-counted
+returns-in-Err-Within-clause-counted g c =
+    evaluates_cut (own_reads (event_of c.args.impulse)) c.args.steps.now c.make_up.new.steps (g.P.Parts.state c.args.parts.now) (g.P.Parts.state c.make_up.new.parts) (g.P.Parts.state c.act.new.self) c.in-Ok.ensures.counted (cut_adds c.args.server (event_of c.args.impulse) c.in-Err-Within.field-0 (g.P.Parts.state c.make_up.new.parts) (g.P.Parts.state c.act.new.self) c.in-Err-Within.ensures.cut)
