@@ -33,7 +33,7 @@ use Rattle.cat_model.specs.declared.request.Asked.{Asked}
 use Rattle.cat_model.specs.declared.request.Asked.TheVariants.{Good, Bad}
 use Rattle.cat_model.specs.declared.request.Request.TheVariants.{Read, Execute, Write, Renew, Agent as AsksAgent}
 use Rattle.raft_model.specs.declared.message.Round.{Round}
-use Rattle.cluster_parts.specs.Working.{DidDue, IsWork, closed, whole}
+use Rattle.cluster_parts.specs.Working.{DidWork, IsWork, closed, whole}
 use Rattle.cluster_parts.specs.Watching.{MayBeDue, Watching}
 
 module _ (wt : Watching) where
@@ -273,11 +273,11 @@ module _ (wt : Watching) where
   apply_of c new i done (Holds h) f = absurd f
   apply_of c new i done (Closes n m) f = absurd f
 
-  does : (c new : Cluster) (i : ℕ) (work known : own.Work) → Found c i work → work ≡ known → ((w : Work) → IsDue i c w → IsWork (applied_of c i) known w → new ≡ did i w c) → DidDue i c new
-  does c new i work known found is done = (found.0, found.1, done found.0 found.1 (subst (λ x. IsWork (applied_of c i) x found.0) is found.2))
+  does : (c new : Cluster) (i : ℕ) (work known : own.Work) → Found c i work → work ≡ known → ((w : Work) → IsDue i c w → IsWork (applied_of c i) known w → new ≡ did i w c) → DidWork i work c new
+  does c new i work known found is done = (found.0, found.1, done found.0 found.1 (subst (λ x. IsWork (applied_of c i) x found.0) is found.2), found.2)
 
   pub answer_done : {A B : Type 0} (c new : Cluster) (i : ℕ) (work : own.Work) (number : ℕ) (kind : Kind) (content : Content) (result : Result A B) → Found c i work → work ≡ Answer number kind content
-      → OnOk result (AnswerDone c new i number kind content) → OnOk result (DidDue i c new)
+      → OnOk result (AnswerDone c new i number kind content) → OnOk result (DidWork i work c new)
   answer_done c new i work number kind content (Err b) found is done = tt
   answer_done c new i work number kind content (Ok a) found is done = does c new i work (Answer number kind content) found is (λ w _. answer_of c new i number kind content done w)
 
@@ -292,16 +292,16 @@ module _ (wt : Watching) where
   hold_due c i work number stand found is = hold_by c i number stand found.0 found.1 (subst (λ x. IsWork (applied_of c i) x found.0) is found.2)
 
   pub hold_done : (c new : Cluster) (i : ℕ) (work : own.Work) (number : ℕ) (stand : own_stand.Stand) → Found c i work → work ≡ Hold number stand
-      → ((k : ℕ) (h : Pending) → IsDue k c (Holds h) → number ≡ h.question.number → stand_of stand ≡ h.stand → new ≡ record c { held = with_held h c.held }) → DidDue i c new
+      → ((k : ℕ) (h : Pending) → IsDue k c (Holds h) → number ≡ h.question.number → stand_of stand ≡ h.stand → new ≡ record c { held = with_held h c.held }) → DidWork i work c new
   hold_done c new i work number stand found is done = does c new i work (Hold number stand) found is (hold_of c new i number stand (done i))
 
   pub close_done : {A B : Type 0} (c new : Cluster) (i : ℕ) (work : own.Work) (number event : ℕ) (result : Result A B) → Found c i work → work ≡ Close number event
-      → OnOk result (new ≡ closed number event c) → OnOk result (DidDue i c new)
+      → OnOk result (new ≡ closed number event c) → OnOk result (DidWork i work c new)
   close_done c new i work number event (Err b) found is done = tt
   close_done c new i work number event (Ok a) found is done = does c new i work (Close number event) found is (λ w _. close_of c new i number event done w)
 
   pub apply_done : {A B : Type 0} (c new : Cluster) (i : ℕ) (work : own.Work) (result : Result A B) → Found c i work → work ≡ Apply
-      → OnOk result (new ≡ applies i c) → OnOk result (DidDue i c new)
+      → OnOk result (new ≡ applies i c) → OnOk result (DidWork i work c new)
   apply_done c new i work (Err b) found is done = tt
   apply_done c new i work (Ok a) found is done = does c new i work Apply found is (λ w _. apply_of c new i done w)
 

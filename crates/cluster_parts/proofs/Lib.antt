@@ -4,7 +4,7 @@ pub mod Awake
 pub mod Carried
 pub mod Commands
 pub mod Dues
-pub mod EmptyStores
+pub mod Evaluated
 pub mod Executed
 pub mod Finding
 pub mod Forgetting

@@ -6,11 +6,10 @@ use Rattle.raft_model.specs.World.{World, IsReached}
 use Rattle.raft_world.specs.Steps.{KeepsAgreement}
 use Rattle.cluster_rules.specs.Cluster.{Cluster, Server}
 use Rattle.cluster_rules.specs.Requests.{moved_with}
-use Rattle.open_requests.proofs.Lifting.{moves_by}
+use Rattle.open_requests.proofs.Lifting.{joined_with_joined, moves_by}
 use Rattle.open_requests.specs.declared.note.Note.{Note}
-use Rattle.open_requests.specs.declared.note.Note.TheVariants.{Joined}
 use Rattle.open_requests.specs.Notes.{joined_in}
-use Rattle.open_requests.specs.Requests.{Requests, cluster_of as whole_of, halted_with, with_note}
+use Rattle.open_requests.specs.Requests.{Requests, cluster_of as whole_of, halted_with, joining}
 use Rattle.cluster_parts.specs.Moving.{IsMarked}
 use Rattle.cluster_parts.specs.Standing as standing
 use Rattle.cluster_parts.proofs.Carried.{Carries, Goes, all_later, carries, goes_here}
@@ -58,11 +57,13 @@ module _ (gs : List Agent) (wt : Watching) where
   pub stands_proposed : (failed : Bool) (i : ℕ) (w w' : World) (servers : List Server) (r r' : Requests) → Stands w servers r → KeepsAgreement w w' → Carries w w' servers → w'.greatest ≤ r.asked
       → IsMarked failed i (length w'.agreed - length w.agreed) r r' → Stands w' servers r'
   stands_proposed true i w w' servers r r' s k n g m =
-      let more = joined_more w w' (joined_in r.notes) s.joined (no_shorter w w' s.reached k) in
-      subst (Stands w' servers) (sym m) (with_notes w w' servers r (with_note (Joined (length w'.agreed - length w.agreed)) (halted_with true i r)).notes r'.room s (k s.reached).0 n g more)
+      let halted = halted_with true i r in
+      let more = joined_with_joined (length w'.agreed - length w.agreed) halted.notes ∙ joined_more w w' (joined_in r.notes) s.joined (no_shorter w w' s.reached k) in
+      subst (Stands w' servers) (sym m) (with_notes w w' servers r (joining (length w'.agreed - length w.agreed) halted).notes r'.room s (k s.reached).0 n g more)
   stands_proposed false i w w' servers r r' s k n g m =
-      let more = joined_more w w' (joined_in r.notes) s.joined (no_shorter w w' s.reached k) in
-      subst (Stands w' servers) (sym m) (with_notes w w' servers r (with_note (Joined (length w'.agreed - length w.agreed)) (halted_with false i r)).notes r'.room s (k s.reached).0 n g more)
+      let halted = halted_with false i r in
+      let more = joined_with_joined (length w'.agreed - length w.agreed) halted.notes ∙ joined_more w w' (joined_in r.notes) s.joined (no_shorter w w' s.reached k) in
+      subst (Stands w' servers) (sym m) (with_notes w w' servers r (joining (length w'.agreed - length w.agreed) halted).notes r'.room s (k s.reached).0 n g more)
 
   pub stands_marked : (failed : Bool) (i : ℕ) (w w' : World) (servers : List Server) (r r' : Requests) → Stands w servers r → KeepsAgreement w w' → Carries w w' servers → w'.greatest ≡ w.greatest
       → IsMarked failed i (length w'.agreed - length w.agreed) r r' → Stands w' servers r'
@@ -75,7 +76,7 @@ module _ (gs : List Agent) (wt : Watching) where
       let count : length w'.agreed - length w.agreed ≡ length more = sym (length-drop (length w.agreed) w'.agreed) in
       let longer : w'.agreed ≡ w.agreed ++ more = sym (take-append-drop (length w.agreed) w'.agreed) ∙ ap (λ l. l ++ more) (k s.reached).2 in
       ap (cluster_of w' servers) m
-      ∙ ap (λ n. cluster_of w' servers (with_note (Joined n) (halted_with failed i r))) count
+      ∙ ap (λ n. cluster_of w' servers (joining n (halted_with failed i r))) count
       ∙ moves_by failed i w w' servers gs r more s.joined longer
 
   -- room was taken, or there was no memory

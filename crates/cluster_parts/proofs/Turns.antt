@@ -1,5 +1,5 @@
 -- A turn does what is due first, and leaves less to do.
-use Rattle.std.proofs.Common.{◌≡◌, ◌⊎◌, inl, inr, ℕ, ◌<◌, ◌≤◌, length, List, [], ◌∷◌, ◌++◌, None, sym, ap, ◌∙◌, subst, arith}
+use Rattle.std.proofs.Common.{◌≡◌, ◌⊎◌, inl, inr, ℕ, ◌<◌, ◌≤◌, true, length, List, [], ◌∷◌, ◌++◌, None, sym, ap, ◌∙◌, subst, arith}
 use Rattle.raft_model.specs.Node.{Node}
 use Rattle.raft_model.specs.World.{World, IsReached, IsServer}
 use Rattle.cluster_rules.specs.Cluster.{Cluster, Pending, Server, no_node, node_of}
@@ -18,8 +18,10 @@ use Rattle.cluster_rules.proofs.Measure.{did_less}
 use Rattle.cluster_rules.proofs.Tools.{there_or_none}
 use Rattle.cluster_servers.specs.Servers.{Servers}
 use Rattle.open_requests.specs.Requests.{Requests, cluster_of as whole_of}
+use Rattle.cluster_parts.specs.declared.work.Work as own
 use Rattle.cluster_parts.specs.Standing as standing
-use Rattle.cluster_parts.specs.Working.{DidDue, whole}
+use Rattle.cluster_turns.specs.Turns.{Turned}
+use Rattle.cluster_parts.specs.Working.{DidWork, whole}
 use Rattle.cluster_parts.specs.Watching.{Watching}
 
 module _ (wt : Watching) where
@@ -37,7 +39,7 @@ module _ (wt : Watching) where
       by (inl none) = subst (λ (n : Node). n.commit ≤ length n.log) (sym none) (omega arith)
       by (inr there) = commit_within w reached i (node_of w i) there
 
-  pub less_left : (w : World) (servers : List Server) (r : Requests) (c new : Cluster) (i : ℕ) → Stands w servers r → cluster_of w servers r ≡ c → IsServerNumber c i → DidDue i c new → left i new < left i c
+  pub less_left : (w : World) (servers : List Server) (r : Requests) (c new : Cluster) (i : ℕ) → Stands w servers r → cluster_of w servers r ≡ c → IsServerNumber c i → Turned i true c new → left i new < left i c
   less_left w servers r c new i stands view number done =
       let ascends = subst (λ (d : Cluster). Ascends d.held) view stands.ascends in
       let kept = subst (λ (d : Cluster). (node_of d.world i).commit ≤ length (node_of d.world i).log) view (committed_within w stands.reached i) in
@@ -70,5 +72,9 @@ module _ (gs : List Agent) where
   did_beside s s' r r' i (Closes number event) e = ap (λ (d : Cluster). record d { agents = gs }) e
   did_beside s s' r r' i Applies e = ap (λ (d : Cluster). record d { agents = gs }) e
 
-  pub turned_beside : (s s' : Servers) (r r' : Requests) (i : ℕ) → DidDue i (whole s r) (whole s' r') → DidDue i (beside s r) (beside s' r')
+  pub turned_beside : (s s' : Servers) (r r' : Requests) (i : ℕ) → Turned i true (whole s r) (whole s' r') → Turned i true (beside s r) (beside s' r')
   turned_beside s s' r r' i d = (d.0, due_beside s r i d.0 d.1, did_beside s s' r r' i d.0 d.2)
+
+-- what was found was done
+pub did_turned : (i : ℕ) (work : own.Work) (c new : Cluster) → DidWork i work c new → Turned i true c new
+did_turned i work c new (w, d, e, f) = (w, d, e)

@@ -2,12 +2,12 @@ pub mod Acting
 pub mod Agents
 pub mod Asking
 pub mod Ending
+pub mod Evaluating
 pub mod Going
 pub mod Looking
 pub mod Moving
 pub mod Newest
 pub mod Proposing
 pub mod Standing
-pub mod Stores
 pub mod Watching
 pub mod Working

@@ -7,8 +7,7 @@ use Rattle.cluster_rules.specs.Cluster.{clock_of, node_of, runs_leading}
 use Rattle.cluster_servers.specs.Servers.{Servers, officed}
 use Rattle.cluster_turns.specs.declared.cut.Cut.{Cut}
 use Rattle.cluster_turns.specs.declared.cut.Cut.TheVariants.{Before, Within}
-use Rattle.open_requests.specs.declared.note.Note.TheVariants.{Joined}
-use Rattle.open_requests.specs.Requests.{Requests, halted_with, with_note}
+use Rattle.open_requests.specs.Requests.{Requests, halted_with, joining}
 use Rattle.cluster_parts.specs.declared.moving.Seen.{Seen}
 
 -- what is seen of server i in this world
@@ -25,7 +24,7 @@ IsHalted failed i old new = new ≡ record (halted_with failed i old) { room = n
 
 -- a server's store failed or not, and so many entries joined the agreed log
 abbrev pub IsMarked : Bool → ℕ → ℕ → Requests → Requests → Type 0
-IsMarked failed i count old new = new ≡ record (with_note (Joined count) (halted_with failed i old)) { room = new.room }
+IsMarked failed i count old new = new ≡ record (joining count (halted_with failed i old)) { room = new.room }
 
 -- a step of server i is marked, by what was seen before and what is seen now
 abbrev pub MarksStep : Seen → Seen → ℕ → Requests → Requests → Type 0

@@ -31,9 +31,9 @@ abbrev pub Finds : Cluster → ℕ → Option Work → Type 0
 Finds c i None = due i c ≡ None
 Finds c i (Some work) = (w : rules.Work) × IsDue i c w × IsWork (applied_of c i) work w
 
--- something was done that is due at server i
-abbrev pub DidDue : ℕ → Cluster → Cluster → Type 0
-DidDue i c c' = (w : rules.Work) × IsDue i c w × (c' ≡ did i w c)
+-- this was done, which is due at server i
+abbrev pub DidWork : ℕ → Work → Cluster → Cluster → Type 0
+DidWork i work c c' = (w : rules.Work) × IsDue i c w × (c' ≡ did i w c) × IsWork (applied_of c i) work w
 
 -- a held request was closed, since its server restarted in this event
 abbrev pub closed : ℕ → ℕ → Cluster → Cluster

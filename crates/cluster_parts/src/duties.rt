@@ -7,6 +7,7 @@ ghost use Rattle.raft_model.specs.Log.{Log};
 ghost use Rattle.cluster_rules.specs.Cluster as rules;
 ghost use Rattle.cluster_rules.specs.Due.{Replies, late_work};
 ghost use Rattle.cluster_rules.specs.Replies as replies;
+ghost use Rattle.cluster_parts.specs.Evaluating.{evaluations, evaluations_of};
 ghost use Rattle.cluster_parts.specs.Looking.{is_late, servers_of};
 ghost use Rattle.cluster_parts.specs.Working.{IsFound, IsWork};
 
@@ -17,7 +18,8 @@ use open_requests::{Content, Pending, Stand};
 /// A halted server refuses a request.
 #[tactic(auto, unfolding(cluster_rules::specs::Replies::shown))]
 pub fn halted(number: u64, server: u32) -> Work
-    ensures { (log : Log) (q : replies.Question) → number ≡ q.number → IsWork log result (Replies q (kinds.Refused (refusals.Halted server))) }
+    ensures work { (log : Log) (q : replies.Question) → number ≡ q.number → IsWork log result (Replies q (kinds.Refused (refusals.Halted server))) }
+    ensures evaluated { evaluations result ≡ 0 }
 {
     Work::Answer {
         number,
@@ -29,7 +31,8 @@ pub fn halted(number: u64, server: u32) -> Work
 /// Another entry stands where a write was proposed, or another term came while a read waited for its round.
 #[tactic(auto, unfolding(cluster_rules::specs::Replies::shown))]
 pub fn lost(number: u64, entered: u64, found: u64) -> Work
-    ensures { (log : Log) (q : replies.Question) → number ≡ q.number → IsWork log result (Replies q (kinds.Refused (refusals.Lost entered found))) }
+    ensures work { (log : Log) (q : replies.Question) → number ≡ q.number → IsWork log result (Replies q (kinds.Refused (refusals.Lost entered found))) }
+    ensures evaluated { evaluations result ≡ 0 }
 {
     Work::Answer {
         number,
@@ -41,7 +44,8 @@ pub fn lost(number: u64, entered: u64, found: u64) -> Work
 /// So many wait already.
 #[tactic(auto, unfolding(cluster_rules::specs::Replies::shown))]
 pub fn too_many(number: u64, waiting: u32) -> Work
-    ensures { (log : Log) (q : replies.Question) → number ≡ q.number → IsWork log result (Replies q (kinds.Refused (refusals.TooMany waiting))) }
+    ensures work { (log : Log) (q : replies.Question) → number ≡ q.number → IsWork log result (Replies q (kinds.Refused (refusals.TooMany waiting))) }
+    ensures evaluated { evaluations result ≡ 1 }
 {
     Work::Answer {
         number,
@@ -52,7 +56,8 @@ pub fn too_many(number: u64, waiting: u32) -> Work
 
 /// A request whose round is over is looked for from now on.
 pub fn past_round(held: &Pending) -> Option<Work>
-    ensures { (c : rules.Cluster) (i : ℕ) → is_late (servers_of c) i held.now ≡ true → IsFound (rules.applied_of c i) (late_work c i held.now) result }
+    ensures found { (c : rules.Cluster) (i : ℕ) → is_late (servers_of c) i held.now ≡ true → IsFound (rules.applied_of c i) (late_work c i held.now) result }
+    ensures evaluated { evaluations_of result ≡ 0 }
 {
     match held.stand() {
         Stand::InRound { deadline, .. } => Some(Work::Hold {

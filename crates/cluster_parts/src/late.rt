@@ -10,6 +10,7 @@ ghost use Rattle.open_requests.specs.Contents.{stand_of};
 ghost use Rattle.open_requests.specs.Held.{held_in, pending_of};
 ghost use Rattle.cluster_parts.specs.Looking.{is_early, is_late, is_number_late, is_round_over, is_stand_late, test_held};
 ghost use Rattle.cluster_parts.specs.Standing.{Stands};
+ghost use Rattle.cluster_parts.specs.Evaluating.{evaluations_of};
 ghost use Rattle.cluster_parts.specs.Working.{Finds, whole};
 
 use crate::duties::past_round;
@@ -163,7 +164,8 @@ fn late_of<K: Keeper + Drop>(
     requires late { is_number_late servers.now requests.now.held server number ≡ true }
     requires none { Each (λ h. is_early servers.now server h ≡ false) requests.now.held }
     requires applied { next_work (whole servers.now requests.now) server ≡ None }
-    ensures { Finds (whole servers.now requests.now) server result }
+    ensures found { Finds (whole servers.now requests.now) server result }
+    ensures evaluated { evaluations_of result ≡ 0 }
 {
     match requests.pending(number) {
         Some(held) => past_round(held),
@@ -182,7 +184,8 @@ pub(crate) fn late_due<K: Keeper + Drop>(
     requires stands { Stands watch.now servers.now.world servers.now.servers requests.now }
     requires none { Each (λ h. is_early servers.now server h ≡ false) requests.now.held }
     requires applied { next_work (whole servers.now requests.now) server ≡ None }
-    ensures { Finds (whole servers.now requests.now) server result }
+    ensures found { Finds (whole servers.now requests.now) server result }
+    ensures evaluated { evaluations_of result ≡ 0 }
 {
     match late_number(servers, requests, watch, server) {
         Some(number) => late_of(servers, requests, server, number),

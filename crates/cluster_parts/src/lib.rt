@@ -22,7 +22,6 @@ mod proposing;
 mod reading;
 mod replying;
 mod resting;
-mod stores;
 mod turning;
 mod waiting;
 mod watching;
@@ -43,7 +42,6 @@ pub use newest::{answer_newest, answer_own, hold_newest, refuse_newest, renew_ne
 pub use probing::{NewRead, end_probe, read_copies};
 pub use proposing::{Proposed, propose_all};
 pub use replying::deferred;
-pub use stores::empty_stores;
 pub use turning::turn;
 pub use watching::{Watching, wake_held};
 pub use ways::{asked_server, runs_leading, way_from};

@@ -8,6 +8,7 @@ ghost use Rattle.request_rules.specs.Taken.{IsTakenAsked};
 ghost use Rattle.cluster_rules.specs.Cluster.{AtPlace, node_of, server_of};
 ghost use Rattle.cluster_rules.specs.Due.{Replies, due, early_stand, early_work, landed};
 ghost use Rattle.cluster_rules.specs.Sound.{ServerIsSound};
+ghost use Rattle.cluster_parts.specs.Evaluating.{Counts, evaluations, evaluations_of};
 ghost use Rattle.cluster_parts.specs.Looking.{IsAppliedLast, applied_at, is_early, is_number_early};
 ghost use Rattle.cluster_parts.specs.Standing.{IsAwaited, Stands};
 ghost use Rattle.cluster_parts.specs.Watching.{Watching as SpecWatching};
@@ -21,11 +22,12 @@ use crate::replying::written;
 use crate::waiting::is_ended;
 use crate::watching::Watching;
 use crate::work::Work;
-use cat_model::{Kind, Memory};
+use cat_model::{Kind, Memory, Steps};
 use cat_outside::Keeper;
 use cluster_servers::Servers;
 use open_requests::{Pending, Question, Requests, Stand};
 use std::alloc::Global;
+use std::sync::ledger::Ledger;
 
 // A write stands where it was proposed, and was applied last: the last reply is its own.
 #[tactic(auto, using(crate::proofs::LastReply::written_shown))]
@@ -39,7 +41,8 @@ fn acked<K: Keeper>(
     requires server { IsNumber server servers.now.world }
     requires taken { IsTakenAsked question.now.asked }
     requires last { IsAppliedLast question.now position (applied_at servers.now server) }
-    ensures { IfOk result (λ work. IsWork (applied_at servers.now server) work (Replies question.now (kinds.Acked position))) }
+    ensures work { IfOk result (λ work. IsWork (applied_at servers.now server) work (Replies question.now (kinds.Acked position))) }
+    ensures evaluated { IfOk result (λ work. evaluations work ≡ 0) }
 {
     match servers.reply(alloc, server)? {
         Some(applied) => Ok(Work::Answer {
@@ -65,7 +68,8 @@ fn write_due<K: Keeper>(
     requires sound { ServerIsSound servers.now.world.agreed (node_of servers.now.world server).commit (server_of servers.now.servers server) }
     requires awaited { IsAwaited servers.now.world (length (applied_at servers.now server)) question.now (AtPlace index term) }
     requires applied { index ≤ length (applied_at servers.now server) }
-    ensures { IfOk result (λ work. IsWork (applied_at servers.now server) work (Replies question.now (landed index term (applied_at servers.now server)))) }
+    ensures work { IfOk result (λ work. IsWork (applied_at servers.now server) work (Replies question.now (landed index term (applied_at servers.now server)))) }
+    ensures evaluated { IfOk result (λ work. evaluations work ≡ 0) }
 {
     let found = servers.term_at(server, index);
     if found == term {
@@ -76,19 +80,22 @@ fn write_due<K: Keeper>(
 }
 
 // What is due of a held request by what it waits for.
-fn stand_due<K: Keeper>(
+#[tactic(auto, using(crate::proofs::Evaluated::counts_none))]
+fn stand_due<K: Keeper, L: Ledger>(
     servers: &Servers<K>,
     requests: &Requests,
     alloc: Global,
     server: u32,
     held: &Pending,
+    steps: &mut Steps<L>,
 ) -> Result<Work, Memory>
     requires server { IsNumber server servers.now.world }
     requires taken { IsTakenAsked held.now.question.asked }
     requires sound { ServerIsSound servers.now.world.agreed (node_of servers.now.world server).commit (server_of servers.now.servers server) }
     requires awaited { IsAwaited servers.now.world (length (applied_at servers.now server)) held.now.question held.now.stand }
     requires early { is_some (early_stand (whole servers.now requests.now) server held.now held.now.stand) ≡ true }
-    ensures { IfOk result (λ work. IsFound (applied_at servers.now server) (early_stand (whole servers.now requests.now) server held.now held.now.stand) (Some work)) }
+    ensures found { IfOk result (λ work. IsFound (applied_at servers.now server) (early_stand (whole servers.now requests.now) server held.now held.now.stand) (Some work)) }
+    ensures counted { Counts evaluations steps.old steps.new result }
 {
     match held.stand() {
         Stand::Ended { event } => Ok(Work::Close {
@@ -99,7 +106,9 @@ fn stand_due<K: Keeper>(
             write_due(servers, alloc, server, held.question(), index, term)
         }
         Stand::ForIndex { deadline, looked } => {
-            read_due(servers, requests, alloc, server, held, deadline, looked)
+            read_due(
+                servers, requests, alloc, server, held, deadline, looked, steps,
+            )
         }
         Stand::InRound { round, .. } => {
             let found = servers.node(server).term();
@@ -109,43 +118,47 @@ fn stand_due<K: Keeper>(
 }
 
 // What is due of a held request before the next position is applied.
-fn early_due<K: Keeper>(
+fn early_due<K: Keeper, L: Ledger>(
     servers: &Servers<K>,
     requests: &Requests,
     alloc: Global,
     server: u32,
     held: &Pending,
+    steps: &mut Steps<L>,
 ) -> Result<Work, Memory>
     requires server { IsNumber server servers.now.world }
     requires taken { IsTakenAsked held.now.question.asked }
     requires sound { ServerIsSound servers.now.world.agreed (node_of servers.now.world server).commit (server_of servers.now.servers server) }
     requires awaited { IsAwaited servers.now.world (length (applied_at servers.now server)) held.now.question held.now.stand }
     requires early { is_some (early_work (whole servers.now requests.now) server held.now) ≡ true }
-    ensures { IfOk result (λ work. IsFound (applied_at servers.now server) (early_work (whole servers.now requests.now) server held.now) (Some work)) }
+    ensures found { IfOk result (λ work. IsFound (applied_at servers.now server) (early_work (whole servers.now requests.now) server held.now) (Some work)) }
+    ensures counted { Counts evaluations steps.old steps.new result }
 {
     if is_halted(servers, server) && !is_ended(held.stand()) {
         Ok(halted(held.number(), server))
     } else {
-        stand_due(servers, requests, alloc, server, held)
+        stand_due(servers, requests, alloc, server, held, steps)
     }
 }
 
 // What is due of the held request with this number.
-fn early_of<K: Keeper>(
+fn early_of<K: Keeper, L: Ledger>(
     servers: &Servers<K>,
     requests: &Requests,
     alloc: Global,
     server: u32,
     number: u64,
+    steps: &mut Steps<L>,
 ) -> Result<Work, Memory>
     requires server { IsNumber server servers.now.world }
     requires stands { (watch : SpecWatching) × Stands watch servers.now.world servers.now.servers requests.now }
     requires early { is_number_early servers.now requests.now.held server number ≡ true }
     ensures found { IfOk result (λ work. Finds (whole servers.now requests.now) server (Some work)) }
     ensures behind { OnErr result (due server (whole servers.now requests.now) ≢ None) }
+    ensures counted { Counts evaluations steps.old steps.new result }
 {
     match requests.pending(number) {
-        Some(held) => early_due(servers, requests, alloc, server, held),
+        Some(held) => early_due(servers, requests, alloc, server, held, steps),
         None => unreachable!(),
     }
 }
@@ -160,7 +173,8 @@ fn later_due<K: Keeper + Drop>(
     requires server { IsNumber server servers.now.world }
     requires stands { Stands watch.now servers.now.world servers.now.servers requests.now }
     requires none { Each (λ h. is_early servers.now server h ≡ false) requests.now.held }
-    ensures { Finds (whole servers.now requests.now) server result }
+    ensures found { Finds (whole servers.now requests.now) server result }
+    ensures evaluated { evaluations_of result ≡ 0 }
 {
     if servers.has_next(server) {
         Some(Work::Apply)
@@ -169,22 +183,25 @@ fn later_due<K: Keeper + Drop>(
     }
 }
 
-/// Something that is due at a server, if anything is. It lacks memory only where there is something.
-pub(crate) fn find<K: Keeper + Drop>(
+/// Something that is due at a server, if anything is. It lacks memory only where there is something. `steps` counts the
+/// queries of reads that it evaluates.
+pub(crate) fn find<K: Keeper + Drop, L: Ledger>(
     servers: &Servers<K>,
     requests: &Requests,
     watch: &mut Watching,
     alloc: Global,
     server: u32,
+    steps: &mut Steps<L>,
 ) -> Result<Option<Work>, Memory>
     requires server { IsNumber server servers.now.world }
     requires stands { Stands watch.old servers.now.world servers.now.servers requests.now }
     ensures stands { Stands watch.new servers.now.world servers.now.servers requests.now }
     ensures found { IfOk result (Finds (whole servers.now requests.now) server) }
     ensures behind { OnErr result (due server (whole servers.now requests.now) ≢ None) }
+    ensures counted { Counts evaluations_of steps.old steps.new result }
 {
     match early_number(servers, requests, watch, alloc, server) {
-        Some(number) => match early_of(servers, requests, alloc, server, number) {
+        Some(number) => match early_of(servers, requests, alloc, server, number, steps) {
             Ok(work) => Ok(Some(work)),
             Err(Memory) => Err(Memory),
         },

@@ -15,20 +15,20 @@ ghost use Rattle.cluster_rules.specs.Cluster.{clock_of};
 ghost use Rattle.cluster_rules.specs.Due.{Replies, asks, asks_read, waiting};
 ghost use Rattle.cluster_rules.specs.Replies.{shown_read};
 ghost use Rattle.open_requests.specs.Contents.{read_content};
+ghost use Rattle.cluster_parts.specs.Evaluating.{Counts, evaluations};
 ghost use Rattle.cluster_parts.specs.Looking.{applied_at, waits_on};
 ghost use Rattle.cluster_parts.specs.Working.{IsFound, IsWork};
 
 use crate::duties::too_many;
 use crate::identifiers::id_in;
-use crate::waiting::{count_waiting, is_answered};
+use crate::waiting::is_answered;
 use crate::work::Work;
 use cat_model::{Answer, Asked, Kind, Memory, Mode, Query, Request, Steps, Text};
 use cat_outside::Keeper;
 use cluster_servers::Servers;
 use open_requests::{Content, Pending, Question, Requests, Stand};
 use std::alloc::Global;
-use std::marker::Brand;
-use std::sync::ledger::{Blank, Ledger};
+use std::sync::ledger::Ledger;
 
 // The most queries that wait at a server.
 const MOST_WAITING: u32 = 4096;
@@ -37,28 +37,10 @@ const MOST_WAITING: u32 = 4096;
 fn waiting(requests: &Requests, server: u32) -> Result<u32, Memory>
     ensures { IfOk result (λ count. count ≡ waiting server requests.now.held) }
 {
-    match u32::try_from(count_waiting(server, requests.held())) {
+    match u32::try_from(requests.waiting(server)) {
         Ok(count) => Ok(count),
         Err(_) => Err(Memory),
     }
-}
-
-// The answer to a query at all that a server has applied, with its index. Nobody asks for the count of its steps.
-fn read<K: Keeper, L: Ledger>(
-    servers: &Servers<K>,
-    alloc: Global,
-    server: u32,
-    query: &Query,
-    blank: Blank,
-) -> Result<(Answer, u64), Memory>
-    requires server { IsNumber server servers.now.world }
-    requires name { blank.name ≡ L.name }
-    requires parts { blank.parts ≡ L.parts }
-    requires some { 0 < L.parts }
-    ensures { let log = commands_of (applied_at servers.now server) in IfOk result (λ r. r ≡ (answer query.now (catalog_at log), index_of query.now log)) }
-{
-    let mut steps: Steps<L> = Steps::new(blank);
-    servers.read(alloc, server, query, &mut steps)
 }
 
 // A read is answered with all that the server has applied.
@@ -74,7 +56,8 @@ fn answer_read<K: Keeper>(
 ) -> Result<Work, Memory>
     requires server { IsNumber server servers.now.world }
     requires shows { let log = applied_at servers.now server in read_content question.now.asked answer ≡ shown_read question.now.asked (length log) log }
-    ensures { IfOk result (λ work. IsWork (applied_at servers.now server) work (Replies question.now (kinds.At mode (length (applied_at servers.now server)) index (clock_of servers.now.world server) deadline))) }
+    ensures work { IfOk result (λ work. IsWork (applied_at servers.now server) work (Replies question.now (kinds.At mode (length (applied_at servers.now server)) index (clock_of servers.now.world server) deadline))) }
+    ensures evaluated { IfOk result (λ work. evaluations work ≡ 1) }
 {
     let content = question.read_content(answer)?;
     let kind = Kind::At {
@@ -93,7 +76,8 @@ fn answer_read<K: Keeper>(
 
 // A new query whose index is not above the one given waits, or is refused where as many wait as may.
 fn wait_on(requests: &Requests, server: u32, held: &Pending, deadline: u64) -> Result<Work, Memory>
-    ensures { (log : Log) → IfOk result (λ work. IsFound log (waits_on held.now (waiting server requests.now.held) deadline) (Some work)) }
+    ensures found { (log : Log) → IfOk result (λ work. IsFound log (waits_on held.now (waiting server requests.now.held) deadline) (Some work)) }
+    ensures evaluated { IfOk result (λ work. evaluations work ≡ 1) }
 {
     let waiting = waiting(requests, server)?;
     if MOST_WAITING <= waiting {
@@ -109,8 +93,9 @@ fn wait_on(requests: &Requests, server: u32, held: &Pending, deadline: u64) -> R
     })
 }
 
-// A query is looked for at all that the server has applied.
-fn look<K: Keeper>(
+// A query is looked for at all that the server has applied: that is one evaluation, whatever comes of it.
+#[tactic(auto, using(crate::proofs::Evaluated::counts_one))]
+fn look<K: Keeper, L: Ledger>(
     servers: &Servers<K>,
     requests: &Requests,
     alloc: Global,
@@ -121,13 +106,15 @@ fn look<K: Keeper>(
     least: u64,
     deadline: u64,
     looked: bool,
+    steps: &mut Steps<L>,
 ) -> Result<Work, Memory>
     requires server { IsNumber server servers.now.world }
     requires asked { (wait : ℕ) × (raw : Bool) × (held.now.question.asked ≡ Good (Read query.now mode least wait raw)) }
     requires due { is_some (asks held.now (waiting server requests.now.held) (clock_of servers.now.world server) (applied_at servers.now server) deadline looked query.now mode least) ≡ true }
-    ensures { IfOk result (λ work. IsFound (applied_at servers.now server) (asks held.now (waiting server requests.now.held) (clock_of servers.now.world server) (applied_at servers.now server) deadline looked query.now mode least) (Some work)) }
+    ensures found { IfOk result (λ work. IsFound (applied_at servers.now server) (asks held.now (waiting server requests.now.held) (clock_of servers.now.world server) (applied_at servers.now server) deadline looked query.now mode least) (Some work)) }
+    ensures counted { Counts evaluations steps.old steps.new result }
 {
-    let (answer, index) = read::<K, Brand>(servers, alloc, server, query, Blank::new(1))?;
+    let (answer, index) = servers.read(alloc, server, query, steps)?;
     if is_answered(least, index, deadline, servers.clock(server)) {
         return answer_read(
             servers,
@@ -143,7 +130,8 @@ fn look<K: Keeper>(
     wait_on(requests, server, held, deadline)
 }
 
-// An execution is answered with what its prepared query gives at all that the server has applied.
+// An execution is answered with what its prepared query gives at all that the server has applied. No query of a read is
+// evaluated.
 #[tactic(auto, using(crate::proofs::Finding::run_whole))]
 fn execute<K: Keeper>(
     servers: &Servers<K>,
@@ -156,7 +144,8 @@ fn execute<K: Keeper>(
 ) -> Result<Work, Memory>
     requires server { IsNumber server servers.now.world }
     requires asked { question.now.asked ≡ Good (Execute name.now limit mode) }
-    ensures { IfOk result (λ work. IsWork (applied_at servers.now server) work (Replies question.now (kinds.Seen mode (length (applied_at servers.now server))))) }
+    ensures work { IfOk result (λ work. IsWork (applied_at servers.now server) work (Replies question.now (kinds.Seen mode (length (applied_at servers.now server))))) }
+    ensures evaluated { IfOk result (λ work. evaluations work ≡ 0) }
 {
     let id = id_in(name.as_str());
     let ran = servers.execute(alloc, server, id, name.as_str(), limit)?;
@@ -172,7 +161,8 @@ fn execute<K: Keeper>(
 
 /// What is due of a read that waits for an index: its answer, or that it waits from now on. An execution waits for
 /// nothing.
-pub(crate) fn read_due<K: Keeper>(
+#[tactic(auto, using(crate::proofs::Evaluated::counts_none))]
+pub(crate) fn read_due<K: Keeper, L: Ledger>(
     servers: &Servers<K>,
     requests: &Requests,
     alloc: Global,
@@ -180,11 +170,13 @@ pub(crate) fn read_due<K: Keeper>(
     held: &Pending,
     deadline: u64,
     looked: bool,
+    steps: &mut Steps<L>,
 ) -> Result<Work, Memory>
     requires server { IsNumber server servers.now.world }
     requires taken { IsTakenAsked held.now.question.asked }
     requires due { is_some (asks_read held.now (waiting server requests.now.held) (clock_of servers.now.world server) (applied_at servers.now server) deadline looked held.now.question.asked) ≡ true }
-    ensures { IfOk result (λ work. IsFound (applied_at servers.now server) (asks_read held.now (waiting server requests.now.held) (clock_of servers.now.world server) (applied_at servers.now server) deadline looked held.now.question.asked) (Some work)) }
+    ensures found { IfOk result (λ work. IsFound (applied_at servers.now server) (asks_read held.now (waiting server requests.now.held) (clock_of servers.now.world server) (applied_at servers.now server) deadline looked held.now.question.asked) (Some work)) }
+    ensures counted { Counts evaluations steps.old steps.new result }
 {
     match held.question().asked() {
         Asked::Good(
@@ -195,7 +187,7 @@ pub(crate) fn read_due<K: Keeper>(
                 ..
             },
         ) => look(
-            servers, requests, alloc, server, held, query, *mode, *min, deadline, looked,
+            servers, requests, alloc, server, held, query, *mode, *min, deadline, looked, steps,
         ),
         Asked::Good(Request::Execute { name, limit, mode }) => {
             execute(servers, alloc, server, held.question(), name, *limit, *mode)

@@ -13,7 +13,7 @@ ghost use Rattle.open_requests.specs.Contents.{content_of};
 ghost use Rattle.open_requests.specs.Requests.{cluster_of};
 ghost use Rattle.cluster_parts.specs.Looking.{applied_at};
 ghost use Rattle.cluster_parts.specs.Standing.{Stands};
-ghost use Rattle.cluster_parts.specs.Working.{DidDue, IsWork, closed, whole};
+ghost use Rattle.cluster_parts.specs.Working.{DidWork, IsWork, closed, whole};
 
 use crate::contact::{knows_leader, last_contact};
 use crate::watching::Watching;
@@ -98,7 +98,7 @@ pub(crate) fn perform<K: Keeper>(
     requires stands { Stands watch.old servers.old.world servers.old.servers requests.old }
     requires due { (w : rules.Work) × IsDue server (whole servers.old requests.old) w × IsWork (applied_at servers.old server) work w }
     ensures stands { Stands watch.new servers.new.world servers.new.servers requests.new }
-    ensures done { OnOk result (DidDue server (whole servers.old requests.old) (whole servers.new requests.new)) }
+    ensures done { OnOk result (DidWork server work (whole servers.old requests.old) (whole servers.new requests.new)) }
     ensures servers { OnErr result (servers.new ≡ servers.old) }
     ensures requests { OnErr result (requests.new ≡ requests.old) }
 {

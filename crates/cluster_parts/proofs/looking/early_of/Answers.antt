@@ -33,7 +33,7 @@ early_due-requires-clause-early g c =
     ∙ passes (is_early c.args.servers.now c.args.server) c.args.number c.args.requests.now.held c.in-Some.held.now found c.requires.early
 
 pub returns-clause-found : goal.returns-clause-found
-returns-clause-found g c = early_finds_call (whole c.args.servers.now c.args.requests.now) c.args.server c.args.number c.in-Some.held.now c.early_due.result (sym c.pending.ensures ∙ ap option_copied c.in-Some.is) c.requires.early c.early_due.ensures
+returns-clause-found g c = early_finds_call (whole c.args.servers.now c.args.requests.now) c.args.server c.args.number c.in-Some.held.now c.early_due.result (sym c.pending.ensures ∙ ap option_copied c.in-Some.is) c.requires.early c.early_due.ensures.found
 
 pub returns-clause-behind : goal.returns-clause-behind
 returns-clause-behind g c = early_behind_call (whole c.args.servers.now c.args.requests.now) c.args.server c.args.number c.in-Some.held.now c.early_due.result (sym c.pending.ensures ∙ ap option_copied c.in-Some.is) c.requires.early

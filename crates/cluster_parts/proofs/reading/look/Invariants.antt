@@ -1,4 +1,0 @@
-use Rattle.cluster_parts.proofs.reading.look.Given as goal
-
-abbrev pub ghosts-read : goal.ghosts-read
-ghosts-read g a = record { name = a.blank.name; parts = a.blank.parts }
