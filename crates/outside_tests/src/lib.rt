@@ -5,6 +5,8 @@
 #[cfg(test)]
 mod echo;
 #[cfg(test)]
+mod keepers;
+#[cfg(test)]
 mod links;
 #[cfg(test)]
 mod machine;

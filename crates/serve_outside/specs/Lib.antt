@@ -1,4 +1,5 @@
 pub mod Drawing
 pub mod InMemory
+pub mod Keepers
 pub mod Links
 pub mod Tasks

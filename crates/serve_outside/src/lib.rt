@@ -1,9 +1,10 @@
 //! The outside of a server, as traits that tell what their calls did: connections and what gives them, jobs beside the
-//! caller, drawn words, a clock, and a pause. Each is there in memory, and over the machine.
+//! caller, drawn words, durable stores of servers, a clock, and a pause. Each is there in memory, and over the machine.
 #![tactic(auto)]
 
 mod failing;
 mod job;
+mod keepers;
 mod link;
 mod machine;
 mod mem_link;
@@ -15,6 +16,7 @@ mod tcp;
 mod words;
 
 pub use job::{Job, NoteOf, Task};
+pub use keepers::{Keepers, MemKeepers, SureKeepers};
 pub use link::{Link, Listener};
 pub use machine::{MachineClock, SeededWords, SleepGate};
 pub use mem_link::{MemLink, Script};
