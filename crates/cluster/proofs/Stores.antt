@@ -1,6 +1,8 @@
 -- Stores in memory that hold nothing.
-use Rattle.std.proofs.Common.{◌≡◌, inl, ℕ, zero, suc, ◌<◌, ◌≤◌, length, map, replicate, List, Some, refl, sym, ap, ◌∙◌, subst, arith}
+use Rattle.std.proofs.Common.{◌≡◌, inl, ℕ, zero, suc, ◌<◌, ◌≤◌, length, map, replicate, List, [], ◌∷◌, Some, refl, sym, ap, ◌∙◌, subst, arith}
+use Rattle.std.specs.Prelude.{All}
 use Rattle.std.proofs.lemmas.List.{length-map}
+use Rattle.std.proofs.lemmas.List.Elements.{All-head, All-tail}
 use Rattle.cat_outside.specs.KeepersInMemory.{FaultyKeeper}
 use Rattle.raft_model.specs.Node.{Store}
 use Rattle.raft_model.specs.World.{AreEmpty}
@@ -9,11 +11,16 @@ use Rattle.cluster_rules.specs.Cluster.{Cluster}
 use Rattle.cluster_rules.specs.Reached.{AreUnarmed}
 use Rattle.script_runs.specs.Holds.{IsFirstStart}
 use Rattle.cluster.specs.Beginning.{HasBegun, MayBegin}
-use Rattle.cluster_parts.specs.Stores.{empty_store}
+use Rattle.cluster_interface.specs.Stores.{empty_store}
 
 -- the stores as the rules see them
 abbrev pub seen : FaultyKeeper → Store
 seen k = stored (Some k.kept) k.armed k.faults
+
+-- stores of which each is empty are so many times the empty one
+pub all_same : (stores : List FaultyKeeper) → All (λ k. k ≡ empty_store) stores → stores ≡ replicate (length stores) empty_store
+all_same [] h = refl
+all_same (k ∷ ks) h = let first = All-head (λ (s : FaultyKeeper). s ≡ empty_store) k ks h in let rest = all_same ks (All-tail (λ (s : FaultyKeeper). s ≡ empty_store) k ks h) in λ i. first i ∷ rest i
 
 are_empty : (count : ℕ) → AreEmpty (map seen (replicate count empty_store))
 are_empty zero = tt

@@ -21,5 +21,6 @@ mod syncing;
 mod taking;
 mod ticking;
 mod turning;
+mod uncounted;
 
 pub use cluster::Cluster;

@@ -1,11 +1,12 @@
 //! A cluster as what its events are made up of.
 
 use crate::cluster::Cluster;
-use cat_model::{Asked, Draw, Event, Memory, Refusal, Request};
+use cat_model::{Asked, Draw, Event, Memory, Refusal, Request, Steps};
 use cat_outside::Keeper;
 use cluster_parts::{asked_server, copy_refusal, is_stale_read, way_from};
 use cluster_turns::{AgentEvent, Cut, Impulse, Parts, Way};
 use std::alloc::Global;
+use std::sync::ledger::Ledger;
 
 impl<K: Keeper + Drop> Parts for Cluster<K> {
     ghost use Rattle.request_rules.specs.Taken.{IsTakenAsked};
@@ -14,8 +15,13 @@ impl<K: Keeper + Drop> Parts for Cluster<K> {
 
     ghost takes = { IsTakenAsked };
 
-    fn turn(&mut self, alloc: Global, server: u32) -> Result<bool, Memory> {
-        self.turn(alloc, server)
+    fn turn<L: Ledger>(
+        &mut self,
+        alloc: Global,
+        server: u32,
+        steps: &mut Steps<L>,
+    ) -> Result<bool, Memory> {
+        self.turn(alloc, server, steps)
     }
 
     fn note(&mut self, _alloc: Global, made: Event) -> Result<(), Memory> {

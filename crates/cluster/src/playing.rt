@@ -1,18 +1,25 @@
 //! The cluster over stores in memory, as its front ends see it.
 
 use crate::cluster::Cluster;
+use crate::uncounted;
 use cat_model::{Asked, Draw, Entry, Event, List, Memory};
 use cat_outside::MemKeeper;
 use cluster_interface::{ClusterInterface, History};
 use open_requests::{Collected, Out};
 use script_runs::Misfit;
 use std::alloc::Global;
+use std::marker::Brand;
+use std::sync::ledger::Blank;
 
 impl ClusterInterface for Cluster<MemKeeper> {
     ghost state = { λ c. c };
 
-    fn start(alloc: Global, servers: u32, agents: u32) -> Result<Cluster<MemKeeper>, Memory> {
-        Cluster::in_memory(alloc, servers, agents)
+    fn start(
+        alloc: Global,
+        keepers: List<MemKeeper>,
+        agents: u32,
+    ) -> Result<Cluster<MemKeeper>, Memory> {
+        Cluster::over_stores(alloc, keepers, agents)
     }
 
     fn fits(&self, event: &Event) -> Result<(), Misfit> {
@@ -20,17 +27,17 @@ impl ClusterInterface for Cluster<MemKeeper> {
     }
 
     fn step(&mut self, alloc: Global, event: Event) -> Result<(), Memory> {
-        let made = self.step(alloc, &event);
+        let made = uncounted::step::<MemKeeper, Brand>(self, alloc, &event, Blank::new(1));
         drop(event);
         made
     }
 
     fn ask(&mut self, alloc: Global, agent: u32, asked: &Asked, draw: Draw) -> Result<u64, Memory> {
-        self.ask(alloc, agent, asked, draw)
+        uncounted::ask::<MemKeeper, Brand>(self, alloc, agent, asked, draw, Blank::new(1))
     }
 
     fn settle(&mut self, alloc: Global, most: u32) -> Result<u32, Memory> {
-        self.settle(alloc, most)
+        uncounted::settle::<MemKeeper, Brand>(self, alloc, most, Blank::new(1))
     }
 
     fn next_out(&mut self) -> Option<Out> {

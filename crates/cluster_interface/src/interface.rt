@@ -1,4 +1,4 @@
-ghost use Rattle.std.specs.Prelude.{◌≡◌, ◌<◌, ◌≤◌, IfOk, OnErr, OnOk, MatchResult, None, Some, length, reverse, true};
+ghost use Rattle.std.specs.Prelude.{◌≡◌, ◌<◌, ◌≤◌, All, IfOk, OnErr, OnOk, MatchResult, None, Some, length, reverse, true};
 ghost use Rattle.cat_model.specs.declared.request.Event.TheVariants as event;
 ghost use Rattle.cluster_rules.specs.Cluster.{Cluster, applied_of};
 ghost use Rattle.cluster_rules.specs.Reached.{IsAgentNumber};
@@ -9,9 +9,11 @@ ghost use Rattle.script_runs.specs.Lines.{misfit};
 ghost use Rattle.script_runs.specs.Holds.{IsFirstStart};
 ghost use Rattle.request_rules.specs.Taken.{IsTakenAsked};
 ghost use Rattle.cluster_interface.specs.Interface.{IsPlayed, SettlesTo, TakesFirst, held_numbers};
+ghost use Rattle.cluster_interface.specs.Stores.{empty_store};
 ghost use Rattle.cluster_interface.specs.Taking.{Collects, DropsSyncs};
 
 use cat_model::{Asked, Draw, Entry, Event, List, Mark, Memory};
+use cat_outside::MemKeeper;
 use open_requests::{Collected, Out};
 use script_runs::Misfit;
 use std::alloc::Global;
@@ -31,13 +33,14 @@ pub trait ClusterInterface: Drop {
     /// The cluster of the rules.
     ghost state: { Self → Cluster };
 
-    /// So many servers and agents that nothing has happened to yet, over empty stores in memory.
-    fn start(alloc: Global, servers: u32, agents: u32) -> Result<Self, Memory>
-        requires some { 0 < servers }
-        requires most { servers ≤ 7 }
+    /// A server for each of these empty stores, in their order, and so many agents, that nothing has happened to yet.
+    fn start(alloc: Global, keepers: List<MemKeeper>, agents: u32) -> Result<Self, Memory>
+        requires some { 0 < length keepers }
+        requires most { length keepers ≤ 7 }
         requires few { agents ≤ 64 }
+        requires empty { All (λ keeper. keeper ≡ empty_store) keepers }
         ensures first { IfOk result (λ s. IsFirstStart (state s)) }
-        ensures servers { IfOk result (λ s. length (state s).servers ≡ servers) }
+        ensures servers { IfOk result (λ s. length (state s).servers ≡ length keepers) }
         ensures agents { IfOk result (λ s. length (state s).agents ≡ agents) };
 
     /// Whether the event fits: what it names is there, and no clock passes its end.

@@ -3,5 +3,7 @@
 #![tactic(auto)]
 
 mod interface;
+mod stores;
 
 pub use interface::{ClusterInterface, History};
+pub use stores::empty_stores;

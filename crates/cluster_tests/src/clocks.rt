@@ -1,29 +1,49 @@
+ghost use Rattle.std.specs.Prelude.{◌≡◌, ◌<◌};
 ghost use Rattle.cluster_turns.specs.Turns.{IsTaken};
 ghost use Rattle.request_rules.specs.Taken.{IsTakenAsked};
 
-use cat_model::{Event, Memory};
+use cat_model::{Event, Memory, Steps};
 use cat_outside::MemKeeper;
 use cluster::Cluster;
+use cluster_interface::empty_stores;
 use script_runs::Misfit;
 use std::alloc::Global;
+use std::marker::Brand;
 use std::process::Abort;
+use std::sync::ledger::{Blank, Ledger};
 use std::test::*;
 
-// Makes the event where it fits.
+// Makes the event where it fits. Nobody asks for the count of what is evaluated.
 fn make(cluster: &mut Cluster<MemKeeper>, alloc: Global, event: &Event) -> Result<bool, Memory>
     requires { IsTaken IsTakenAsked event.now }
+{
+    make_counted::<Brand>(cluster, alloc, event, Blank::new(1))
+}
+
+fn make_counted<L: Ledger>(
+    cluster: &mut Cluster<MemKeeper>,
+    alloc: Global,
+    event: &Event,
+    blank: Blank,
+) -> Result<bool, Memory>
+    requires name { blank.name ≡ L.name }
+    requires parts { blank.parts ≡ L.parts }
+    requires some { 0 < L.parts }
+    requires taken { IsTaken IsTakenAsked event.now }
 {
     if cluster.fits(event).is_err() {
         return Ok(false);
     }
-    cluster.step(alloc, event)?;
+    let mut steps: Steps<L> = Steps::new(blank);
+    cluster.step(alloc, event, &mut steps)?;
     Ok(true)
 }
 
 // A clock reaches 2^53 milliseconds, and does not pass them.
 #[test]
 fn a_clock_goes_to_its_end(rt: HostRuntime) -> Result<(), Fail> {
-    let mut cluster = Cluster::in_memory(rt.alloc(), 1, 1)?;
+    let stores = empty_stores(rt.alloc(), 1)?;
+    let mut cluster = Cluster::over_stores(rt.alloc(), stores, 1)?;
     assert_eq!(rt;
         cluster.fits(&Event::Tick(1, 9_007_199_254_740_993)),
         Err(Misfit::Clock)

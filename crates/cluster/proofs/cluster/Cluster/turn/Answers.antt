@@ -2,6 +2,7 @@ use Rattle.std.proofs.Common.{◌≡◌, ◌≢◌, ◌<◌, None, true, IfOk, O
 use Rattle.cluster_rules.specs.Cluster.{Cluster}
 use Rattle.cluster_rules.specs.Due.{due}
 use Rattle.cluster_rules.specs.Left.{left}
+use Rattle.cluster_turns.specs.Evaluations.{EvaluatesIn, lacking}
 use Rattle.cluster_turns.specs.Turns.{Turned}
 use Rattle.open_requests.specs.Requests.{cluster_of}
 use Rattle.cluster.proofs.cluster.Cluster.turn.Goals as goal
@@ -17,3 +18,8 @@ returns-clause-left g c = subst (λ (d : Cluster). IfOk c.turn.result (λ was. w
 
 pub returns-clause-behind : goal.returns-clause-behind
 returns-clause-behind g c = subst (λ (d : Cluster). OnErr c.turn.result (due c.args.server d ≢ None)) c.self.view_is c.turn.ensures.behind
+
+pub returns-clause-counted : goal.returns-clause-counted
+returns-clause-counted g c =
+    subst (λ (d : Cluster). EvaluatesIn (lacking c.turn.result) c.args.steps.now c.turn.new.steps d (cluster_of c.turn.new.servers.world c.turn.new.servers.servers c.self.inside.agents c.turn.new.requests)) c.self.view_is
+    (record { grows = c.turn.ensures.counted.grows; counted = c.turn.ensures.counted.counted })
