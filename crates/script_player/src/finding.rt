@@ -13,6 +13,7 @@ use crate::playing::report_of;
 use crate::refused::Refused;
 use crate::report::Report;
 use crate::stage::{Played, play};
+use crate::starting::start;
 use cat_model::{List, Memory};
 use cluster_interface::ClusterInterface;
 use http_routes::Routes;
@@ -51,7 +52,7 @@ fn find_opened<S: ClusterInterface>(
         (λ ran. RunOf (script.Opened opened.now.opening opened.now.next (lines_of opened.now.lines.now)) (λ outs c. ran.1.numbers ≡ flat_map found_in outs) ran.0)) }
 {
     let opening = opened.opening;
-    let Ok(mut servers) = S::start(alloc, opening.servers, opening.agents) else {
+    let Ok(mut servers) = start::<S>(alloc, opening) else {
         return Err(Memory);
     };
     let mut found = Found {

@@ -11,6 +11,7 @@ mod reading;
 mod refused;
 mod report;
 mod stage;
+mod starting;
 mod taker;
 mod text;
 

@@ -15,6 +15,7 @@ use crate::output::write_all;
 use crate::refused::Refused;
 use crate::report::Report;
 use crate::stage::{Played, play};
+use crate::starting::start;
 use crate::text::{end_text, refused_text};
 use cat_model::{Bytes, List, Memory};
 use cat_outside::{KeepFail, Sink};
@@ -64,7 +65,7 @@ fn play_opened<S: ClusterInterface, Si: Sink>(
     ensures cause { MatchResult result (λ _. Si.faults sink.new ≡ Si.faults sink.old) (λ fail. CountsWrite fail (Si.faults sink.old) (Si.faults sink.new)) }
 {
     let opening = opened.opening;
-    let Ok(mut servers) = S::start(alloc, opening.servers, opening.agents) else {
+    let Ok(mut servers) = start::<S>(alloc, opening) else {
         return Err(KeepFail::Memory);
     };
     match play(

@@ -11,7 +11,7 @@ use Rattle.serve_loop.proofs.Complete.{all_answered}
 use Rattle.serving_cluster.specs.Shown.{Shows}
 use Rattle.server.specs.declared.running.Stop.{Stop}
 use Rattle.server.specs.declared.running.Stop.TheVariants as stop
-use Rattle.server.specs.Served.{CountsStop, Served}
+use Rattle.server.specs.Served.{CountsKeepers, CountsStop, Served}
 use Rattle.server.specs.Complete.{IsComplete, IsFaultless, IsServers, Run}
 
 -- where the spawner counts no fault, no link was turned away
@@ -41,11 +41,13 @@ done run f report e s =
     }
 
 pub complete : (run : Run) → IsServers run → IsFaultless run → (run.ended ≡ Err stop.Memory) ⊎ IsComplete run
-complete run s f = by_end run.ended refl s.served s.cause
+complete run s f = by_end run.ended refl s.served s.cause s.keepers
   where
     by_end : (r : Result Report Stop) → run.ended ≡ r → IfOk r (Served run.options run.draws run.closed run.closed' run.spawns run.spawns' run.given run.port run.held run.held')
-        → MatchResult r (λ _. run.writes' ≡ run.writes) (λ why. CountsStop why run.listens run.listens' run.writes run.writes') → (run.ended ≡ Err stop.Memory) ⊎ IsComplete run
-    by_end (Ok report) e served c = inr (done run f report e served)
-    by_end (Err stop.Listener) e served c = absurd (f.listener c.0)
-    by_end (Err stop.Sink) e served c = absurd (f.sink c)
-    by_end (Err stop.Memory) e served c = inl e
+        → MatchResult r (λ _. run.writes' ≡ run.writes) (λ why. CountsStop why run.listens run.listens' run.writes run.writes')
+        → MatchResult r (λ _. run.keeps' ≡ run.keeps) (λ why. CountsKeepers why run.keeps run.keeps') → (run.ended ≡ Err stop.Memory) ⊎ IsComplete run
+    by_end (Ok report) e served c k = inr (done run f report e served)
+    by_end (Err stop.Listener) e served c k = absurd (f.listener c.0)
+    by_end (Err stop.Sink) e served c k = absurd (f.sink c)
+    by_end (Err stop.Keepers) e served c k = absurd (f.keepers k)
+    by_end (Err stop.Memory) e served c k = inl e

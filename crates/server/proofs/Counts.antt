@@ -1,12 +1,13 @@
 -- Counts of faults.
-use Rattle.std.proofs.Common.{◌≡◌, ℕ, refl}
+use Rattle.std.proofs.Common.{◌≡◌, ℕ, Result, Ok, Err, refl}
+use Rattle.std.specs.Prelude.{IfErr, MatchResult, OnOk}
 use Rattle.cat_outside.specs.Causes.{Rose}
 use Rattle.cat_outside.specs.declared.faults.KeepFail.{KeepFail}
 use Rattle.cat_outside.specs.declared.faults.KeepFail.TheVariants as keep_fail
 use Rattle.script_player.specs.Stage.{CountsWrite}
 use Rattle.server.specs.declared.running.Stop.{Stop}
 use Rattle.server.specs.declared.running.Stop.TheVariants as stops
-use Rattle.server.specs.Served.{CountsSink, CountsStop, stop_of_write}
+use Rattle.server.specs.Served.{CountsKeepers, CountsServing, CountsSink, CountsStop, stop_of_write}
 
 -- a failed write
 pub counts_write : (fail : KeepFail) (why : Stop) (writes writes' : ℕ) → why ≡ stop_of_write fail → CountsWrite fail writes writes' → CountsSink why writes writes'
@@ -18,7 +19,38 @@ never_listener keep_fail.Failed why e f = cc (e, f)
 never_listener keep_fail.Memory why e f = cc (e, f)
 
 -- a server that broke off, by its sink's count and, where the listener failed, by that one's
-pub counts_stop : (why : Stop) (listens listens' writes writes' : ℕ) → (why ≡ stops.Listener → Rose listens listens') → CountsSink why writes writes' → CountsStop why listens listens' writes writes'
-counts_stop stops.Listener listens listens' writes writes' rose counts = (rose refl, counts)
-counts_stop stops.Sink listens listens' writes writes' rose counts = counts
-counts_stop stops.Memory listens listens' writes writes' rose counts = counts
+pub counts_serving : (why : Stop) (listens listens' writes writes' : ℕ) → (why ≡ stops.Listener → Rose listens listens') → CountsSink why writes writes' → CountsServing why listens listens' writes writes'
+counts_serving stops.Listener listens listens' writes writes' rose counts = (rose refl, counts)
+counts_serving stops.Sink listens listens' writes writes' rose counts = counts
+counts_serving stops.Keepers listens listens' writes writes' rose counts = counts
+counts_serving stops.Memory listens listens' writes writes' rose counts = counts
+
+-- a server whose stores were all made
+module _ {T : Type 0} where
+  pub counts_stop : (r : Result T Stop) (listens listens' writes writes' : ℕ) → MatchResult r (λ _. writes' ≡ writes) (λ why. CountsServing why listens listens' writes writes')
+      → MatchResult r (λ _. writes' ≡ writes) (λ why. CountsStop why listens listens' writes writes')
+  counts_stop (Ok done) listens listens' writes writes' counts = counts
+  counts_stop (Err stops.Listener) listens listens' writes writes' counts = counts
+  counts_stop (Err stops.Sink) listens listens' writes writes' counts = counts
+  counts_stop (Err stops.Keepers) listens listens' writes writes' counts = absurd counts
+  counts_stop (Err stops.Memory) listens listens' writes writes' counts = counts
+
+  pub counts_keepers : (r : Result T Stop) (keeps keeps' listens listens' writes writes' : ℕ) → keeps' ≡ keeps → MatchResult r (λ _. writes' ≡ writes) (λ why. CountsServing why listens listens' writes writes')
+      → MatchResult r (λ _. keeps' ≡ keeps) (λ why. CountsKeepers why keeps keeps')
+  counts_keepers (Ok done) keeps keeps' listens listens' writes writes' same counts = same
+  counts_keepers (Err stops.Listener) keeps keeps' listens listens' writes writes' same counts = same
+  counts_keepers (Err stops.Sink) keeps keeps' listens listens' writes writes' same counts = same
+  counts_keepers (Err stops.Keepers) keeps keeps' listens listens' writes writes' same counts = absurd counts
+  counts_keepers (Err stops.Memory) keeps keeps' listens listens' writes writes' same counts = same
+
+  pub all_made : (r : Result T Stop) (listens listens' writes writes' : ℕ) (P : Type 0) → MatchResult r (λ _. writes' ≡ writes) (λ why. CountsServing why listens listens' writes writes')
+      → IfErr r (λ why. why ≡ stops.Keepers → P)
+  all_made (Ok done) listens listens' writes writes' P counts = tt
+  all_made (Err stops.Listener) listens listens' writes writes' P counts = λ e. cc e
+  all_made (Err stops.Sink) listens listens' writes writes' P counts = λ e. cc e
+  all_made (Err stops.Keepers) listens listens' writes writes' P counts = absurd counts
+  all_made (Err stops.Memory) listens listens' writes writes' P counts = λ e. cc e
+
+  pub on_ok : (r : Result T Stop) (P : Type 0) → P → OnOk r P
+  on_ok (Ok done) P p = p
+  on_ok (Err why) P p = tt

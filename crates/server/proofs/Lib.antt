@@ -1,5 +1,6 @@
 pub mod Counts
 pub mod Numbers
+pub mod Making
 pub mod Texts
 pub mod Asking
 pub mod Events

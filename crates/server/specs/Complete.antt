@@ -12,10 +12,10 @@ use Rattle.serving_rules.specs.Serving.{Serves}
 use Rattle.serving_cluster.specs.Shown.{Shows}
 use Rattle.server.specs.declared.options.Options.{Options}
 use Rattle.server.specs.declared.running.Stop.{Stop}
-use Rattle.server.specs.Served.{CountsStop, Served, size_of}
+use Rattle.server.specs.Served.{CountsKeepers, CountsStop, Served, size_of}
 
--- A server from its call to its return: what was asked for and drawn, the links handed back, the counts of faults of the
--- spawner, the listener and the sink, what the sink holds, and how the server ended.
+-- A server from its call to its return: what was asked for and drawn, the links handed back, the counts of faults of
+-- what makes its stores, of the spawner, the listener and the sink, what the sink holds, and how the server ended.
 pub record Run : Type 0 where
   pub options : Options
   pub draws : Option (List Draw)
@@ -23,6 +23,8 @@ pub record Run : Type 0 where
   pub port : Option ℕ
   pub closed : List LinkState
   pub closed' : List LinkState
+  pub keeps : ℕ
+  pub keeps' : ℕ
   pub spawns : ℕ
   pub spawns' : ℕ
   pub listens : ℕ
@@ -33,13 +35,15 @@ pub record Run : Type 0 where
   pub held' : Option (List ℕ)
   pub ended : Result Report Stop
 
--- what the clauses `served` and `cause` of `serve` say of every run
+-- what the clauses `served`, `cause` and `keepers` of `serve` say of every run
 pub record IsServers (run : Run) : Type 0 where
   pub served : IfOk run.ended (Served run.options run.draws run.closed run.closed' run.spawns run.spawns' run.given run.port run.held run.held')
   pub cause : MatchResult run.ended (λ _. run.writes' ≡ run.writes) (λ why. CountsStop why run.listens run.listens' run.writes run.writes')
+  pub keepers : MatchResult run.ended (λ _. run.keeps' ≡ run.keeps) (λ why. CountsKeepers why run.keeps run.keeps')
 
 -- no count of faults rose
 pub record IsFaultless (run : Run) : Type 0 where
+  pub keepers : Rose run.keeps run.keeps' → ⊥
   pub spawner : Rose run.spawns run.spawns' → ⊥
   pub listener : Rose run.listens run.listens' → ⊥
   pub sink : Rose run.writes run.writes' → ⊥

@@ -1,5 +1,6 @@
 -- What a server did.
 use Rattle.std.specs.Prelude.{◌≡◌, ℕ, ◌+◌, Bool, true, false, List, [], ◌∷◌, reverse, Option, Some, Result, Ok, Err}
+use Rattle.std.specs.List.{range_with_len}
 use Rattle.std.specs.Io.KnownBytes.{Appends}
 use Rattle.cat_model.specs.declared.request.Draw.{Draw}
 use Rattle.cat_model.specs.declared.reply.Mark.{Mark}
@@ -76,14 +77,35 @@ abbrev pub stop_of_write : KeepFail → Stop
 stop_of_write keep_fail.Failed = stop.Sink
 stop_of_write keep_fail.Memory = stop.Memory
 
--- the sink's count of faults rose where it failed, and nowhere else
+-- the sink's count of faults rose where it failed, and nowhere else; whoever writes makes no store
 abbrev pub CountsSink : Stop → ℕ → ℕ → Type 0
 CountsSink stop.Listener writes writes' = writes' ≡ writes
 CountsSink stop.Sink writes writes' = Rose writes writes'
+CountsSink stop.Keepers writes writes' = ⊥
 CountsSink stop.Memory writes writes' = writes' ≡ writes
 
--- Why a server broke off: its listener or its sink failed, which has counted the fault, or there was no memory.
+-- Why a server with its stores broke off: its listener or its sink failed, which has counted the fault, or there was no
+-- memory.
+abbrev pub CountsServing : Stop → ℕ → ℕ → ℕ → ℕ → Type 0
+CountsServing stop.Listener listens listens' writes writes' = Rose listens listens' × (writes' ≡ writes)
+CountsServing stop.Sink listens listens' writes writes' = Rose writes writes'
+CountsServing stop.Keepers listens listens' writes writes' = ⊥
+CountsServing stop.Memory listens listens' writes writes' = writes' ≡ writes
+
+-- The same of any server. Where a store could not be made, neither the listener nor the sink counted a fault.
 abbrev pub CountsStop : Stop → ℕ → ℕ → ℕ → ℕ → Type 0
 CountsStop stop.Listener listens listens' writes writes' = Rose listens listens' × (writes' ≡ writes)
 CountsStop stop.Sink listens listens' writes writes' = Rose writes writes'
+CountsStop stop.Keepers listens listens' writes writes' = (listens' ≡ listens) × (writes' ≡ writes)
 CountsStop stop.Memory listens listens' writes writes' = writes' ≡ writes
+
+-- the count of failed calls of what makes stores rose where a store could not be made, and nowhere else
+abbrev pub CountsKeepers : Stop → ℕ → ℕ → Type 0
+CountsKeepers stop.Listener keeps keeps' = keeps' ≡ keeps
+CountsKeepers stop.Sink keeps keeps' = keeps' ≡ keeps
+CountsKeepers stop.Keepers keeps keeps' = Rose keeps keeps'
+CountsKeepers stop.Memory keeps keeps' = keeps' ≡ keeps
+
+-- the numbers of so many servers
+abbrev pub server_numbers : ℕ → List ℕ
+server_numbers count = range_with_len 1 count

@@ -5,6 +5,7 @@ pub mod laws;
 mod machine;
 mod options;
 mod running;
+mod stores;
 
 pub use machine::Machine;
 pub use options::{Options, options_of};

@@ -1,6 +1,6 @@
 //! A server, from its options to its last line.
 
-ghost use Rattle.std.specs.Prelude.{◌≡◌, ◌+◌, ◌-◌, ◌^◌, ◌<◌, [], Err, IfErr, IfOk, MatchResult, Ok, OnErr, OnOk, reverse};
+ghost use Rattle.std.specs.Prelude.{◌≡◌, ◌+◌, ◌-◌, ◌^◌, ◌<◌, [], All, Err, IfErr, IfOk, MatchResult, Ok, OnErr, OnOk, length, reverse};
 ghost use Rattle.std.specs.Arc.{arc_value};
 ghost use Rattle.std.specs.Io.KnownBytes.{Appends};
 ghost use Rattle.cat_outside.specs.Causes.{Rose};
@@ -11,6 +11,7 @@ ghost use Rattle.turn_lock.specs.Lists.{IsFront};
 ghost use Rattle.serve_loop.specs.declared.run.Stop.TheVariants as loop;
 ghost use Rattle.serve_loop.specs.Boards.{IsOurs, known};
 ghost use Rattle.serve_loop.specs.Runs.{HandsBack, HasDrawn};
+ghost use Rattle.serve_outside.specs.Keepers.{empty_store};
 ghost use Rattle.serving_rules.specs.Serving.{Serves};
 ghost use Rattle.server.specs.Options.{IsWithin};
 ghost use Rattle.server.specs.Served as spec;
@@ -18,13 +19,14 @@ ghost use Rattle.server.specs.Text.{listening_text as listening_text_of};
 
 use crate::machine::Machine;
 use crate::options::Options;
-use cat_model::{Mark, Memory};
-use cat_outside::{Failed, KeepFail, Sink};
+use crate::stores::make_stores;
+use cat_model::{List, Mark, Memory};
+use cat_outside::{Failed, KeepFail, MemKeeper, Sink};
 use cluster_interface::ClusterInterface;
 use crossbeam_utils::CachePadded;
 use script_player::{Report, write_all, write_report};
 use serve_loop::{Board, Served, Server, SharedCluster, serve_all};
-use serve_outside::{Clock, Gate, Listener, Spawner, Words};
+use serve_outside::{Clock, Gate, Keepers, Listener, Spawner, Words};
 use serving_cluster::{ClusterSize, ServingCluster};
 use std::alloc::{AllocError, Global};
 use std::marker::Brand;
@@ -41,6 +43,9 @@ pub enum Stop {
     Listener,
     #[error("the sink failed")]
     Sink,
+    /// A durable store could not be made. Nothing is written, and nothing was listened on.
+    #[error("a durable store could not be made")]
+    Keepers,
     /// There was no memory, for the server or for one of its connections.
     #[error("out of memory")]
     Memory,
@@ -97,7 +102,7 @@ fn listen<Si: Sink, L: Listener>(
     ensures part { OnErr result (WritesPart (Si.held sink.old) (Si.held sink.new) (listening_text_of port)) }
     ensures unsaid { IfErr result (λ why. why ≡ Stop.Listener → Appends (Si.held sink.old) (Si.held sink.new) []) }
     ensures cause { MatchResult result (λ _. Si.faults sink.new ≡ Si.faults sink.old)
-        (λ why. spec.CountsStop why (L.faults listener.old) (L.faults listener.new) (Si.faults sink.old) (Si.faults sink.new)) }
+        (λ why. spec.CountsServing why (L.faults listener.old) (L.faults listener.new) (Si.faults sink.old) (Si.faults sink.new)) }
     ensures given { L.given listener.new ≡ L.given listener.old }
     ensures closed { L.closed listener.new ≡ L.closed listener.old }
     ensures faults { OnOk result (L.faults listener.new ≡ L.faults listener.old) }
@@ -256,7 +261,7 @@ fn end<J: ClusterSize, S: ClusterInterface, Si: Sink>(
     }
 }
 
-// Serves by a cluster of the size that `J` tells.
+// Serves by a cluster over these empty stores, of the size that `J` tells.
 fn serve_sized<
     J: ClusterSize + Send + 'static,
     S: ClusterInterface + Send + 'static,
@@ -270,6 +275,7 @@ fn serve_sized<
 >(
     machine: Machine<R, Cl, G>,
     options: &Options,
+    stores: List<MemKeeper>,
     sink: &mut Si,
     listener: &mut L,
     words: &mut W,
@@ -278,6 +284,8 @@ fn serve_sized<
 where
     L::Link: Send + 'static,
     requires size { J.size ≡ spec.size_of options.now }
+    requires count { length stores ≡ options.now.servers }
+    requires empty { All (λ store. store ≡ empty_store) stores }
     requires bounds { IsWithin options.now }
     requires fresh { (L.given listener.old ≡ 0) × HasDrawn (W.draws words.old) 0 }
     ensures served { IfOk result (spec.Served options.now (W.draws words.new) (L.closed listener.old) (L.closed listener.new) (Sp.faults spawner.old) (Sp.faults spawner.new) (L.given listener.new) (L.listens_on listener.new) (Si.held sink.old) (Si.held sink.new)) }
@@ -285,14 +293,10 @@ where
     ensures part { OnErr result (spec.WritesFront options.now (Si.held sink.old) (Si.held sink.new)) }
     ensures lined { IfErr result (λ why. why ≡ Stop.Listener → spec.WritesWhole options.now (Si.held sink.old) (Si.held sink.new)) }
     ensures cause { MatchResult result (λ _. Si.faults sink.new ≡ Si.faults sink.old)
-        (λ why. spec.CountsStop why (L.faults listener.old) (L.faults listener.new) (Si.faults sink.old) (Si.faults sink.new)) }
+        (λ why. spec.CountsServing why (L.faults listener.old) (L.faults listener.new) (Si.faults sink.old) (Si.faults sink.new)) }
 {
-    let Ok(cluster) = ServingCluster::<J, S>::begin(
-        machine.alloc,
-        options.servers,
-        options.agents,
-        MOST,
-    ) else {
+    let Ok(cluster) = ServingCluster::<J, S>::begin(machine.alloc, stores, options.agents, MOST)
+    else {
         return Err(Stop::Memory);
     };
     match listen(machine.alloc, sink, listener, options.port) {
@@ -304,10 +308,10 @@ where
     }
 }
 
-/// Serves as the options say, over servers of the type `S` with empty stores in memory: server 1 stands for election,
-/// the port is listened on, which a line says, and so many connections are served, each by a job of its own. Then comes
-/// the last line, which tells the length of the agreed log and the requests without a reply. The report is of the
-/// cluster that is left.
+/// Serves as the options say, over servers of the type `S`, whose stores are made first, those of servers 1, 2, .. in
+/// this order: server 1 stands for election, the port is listened on, which a line says, and so many connections are
+/// served, each by a job of its own. Then comes the last line, which tells the length of the agreed log and the requests
+/// without a reply. The report is of the cluster that is left.
 pub fn serve<
     S: ClusterInterface + Send + 'static,
     R: Threads + Wait + Copy + Send + Drop + 'static,
@@ -317,6 +321,7 @@ pub fn serve<
     L: Listener,
     W: Words,
     Sp: Spawner,
+    Ks: Keepers,
 >(
     machine: Machine<R, Cl, G>,
     options: &Options,
@@ -324,6 +329,7 @@ pub fn serve<
     listener: &mut L,
     words: &mut W,
     spawner: &mut Sp,
+    keepers: &mut Ks,
 ) -> Result<Report, Stop>
 where
     L::Link: Send + 'static,
@@ -335,8 +341,17 @@ where
     ensures lined { IfErr result (λ why. why ≡ Stop.Listener → spec.WritesWhole options.now (Si.held sink.old) (Si.held sink.new)) }
     ensures cause { MatchResult result (λ _. Si.faults sink.new ≡ Si.faults sink.old)
         (λ why. spec.CountsStop why (L.faults listener.old) (L.faults listener.new) (Si.faults sink.old) (Si.faults sink.new)) }
+
+    // Which store could not be made is counted, and then nothing else was touched.
+    ensures keepers { MatchResult result (λ _. Ks.faults keepers.new ≡ Ks.faults keepers.old) (λ why. spec.CountsKeepers why (Ks.faults keepers.old) (Ks.faults keepers.new)) }
+    ensures untouched { IfErr result (λ why. why ≡ Stop.Keepers → (sink.new ≡ sink.old) × (listener.new ≡ listener.old) × (words.new ≡ words.old) × (spawner.new ≡ spawner.old)) }
+    ensures made { OnOk result (Appends (Ks.made keepers.old) (Ks.made keepers.new) (spec.server_numbers options.now.servers)) }
 {
-    serve_sized::<Brand, S, R, Cl, G, Si, L, W, Sp>(
-        machine, options, sink, listener, words, spawner,
-    )
+    match make_stores(machine.alloc, keepers, options.servers) {
+        Ok(stores) => serve_sized::<Brand, S, R, Cl, G, Si, L, W, Sp>(
+            machine, options, stores, sink, listener, words, spawner,
+        ),
+        Err(KeepFail::Failed) => Err(Stop::Keepers),
+        Err(KeepFail::Memory) => Err(Stop::Memory),
+    }
 }

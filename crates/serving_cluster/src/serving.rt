@@ -1,9 +1,11 @@
 //! A cluster that serves.
 
-ghost use Rattle.std.specs.Prelude.{◌≡◌, ◌<◌, ◌≤◌, IfOk};
+ghost use Rattle.std.specs.Prelude.{◌≡◌, ◌<◌, ◌≤◌, All, IfOk, length};
+ghost use Rattle.cluster_interface.specs.Stores.{empty_store};
 ghost use Rattle.serving_rules.specs.Serving.{Serves, Size};
 
-use cat_model::{Event, Memory};
+use cat_model::{Event, List, Memory};
+use cat_outside::MemKeeper;
 use cluster_interface::ClusterInterface;
 use std::alloc::Global;
 use std::marker::{Brand, Model, PhantomData};
@@ -35,14 +37,19 @@ impl<J: ClusterSize, S: ClusterInterface> Model for ServingCluster<J, S> {
     ghost invariant = { λ c. Serves J.size (S.state c.cluster) };
 }
 
-// So many servers over empty stores in memory, of which server 1 has stood for election.
-fn elected<S: ClusterInterface>(alloc: Global, servers: u32, agents: u32) -> Result<S, Memory>
-    requires some { 0 < servers }
-    requires most { servers ≤ 7 }
+// A server for each of these empty stores, of which server 1 has stood for election.
+fn elected<S: ClusterInterface>(
+    alloc: Global,
+    keepers: List<MemKeeper>,
+    agents: u32,
+) -> Result<S, Memory>
+    requires some { 0 < length keepers }
+    requires most { length keepers ≤ 7 }
     requires few { agents ≤ 64 }
-    ensures serves { IfOk result (λ c. Serves (record { servers = servers; agents = agents }) (S.state c)) }
+    requires empty { All (λ keeper. keeper ≡ empty_store) keepers }
+    ensures serves { IfOk result (λ c. Serves (record { servers = length keepers; agents = agents }) (S.state c)) }
 {
-    let mut cluster = S::start(alloc, servers, agents)?;
+    let mut cluster = S::start(alloc, keepers, agents)?;
     match cluster.step(alloc, Event::Timeout(1)) {
         Ok(()) => Ok(cluster),
         Err(Memory) => Err(Memory),
@@ -50,20 +57,21 @@ fn elected<S: ClusterInterface>(alloc: Global, servers: u32, agents: u32) -> Res
 }
 
 impl<J: ClusterSize, S: ClusterInterface> ServingCluster<J, S> {
-    /// So many servers over empty stores in memory and so many agents: server 1 has stood for election, and at most so
-    /// many messages were delivered.
+    /// A server for each of these empty stores and so many agents: server 1 has stood for election, and at most so many
+    /// messages were delivered.
     pub fn begin(
         alloc: Global,
-        servers: u32,
+        keepers: List<MemKeeper>,
         agents: u32,
         most: u32,
     ) -> Result<ServingCluster<J, S>, Memory>
-        requires some { 0 < servers }
-        requires most { servers ≤ 7 }
+        requires some { 0 < length keepers }
+        requires most { length keepers ≤ 7 }
         requires few { agents ≤ 64 }
-        requires size { J.size ≡ record { servers = servers; agents = agents } }
+        requires empty { All (λ keeper. keeper ≡ empty_store) keepers }
+        requires size { J.size ≡ record { servers = length keepers; agents = agents } }
     {
-        let mut cluster = elected(alloc, servers, agents)?;
+        let mut cluster = elected(alloc, keepers, agents)?;
         match S::settle(&mut cluster, alloc, most) {
             Ok(_) => Ok(ServingCluster {
                 cluster,

@@ -1,6 +1,9 @@
-use Rattle.std.proofs.Common.{◌∙◌}
+use Rattle.std.proofs.Common.{◌∙◌, sym}
 use Rattle.server.proofs.Ends.{back_of, front_of, lined_of, served_of}
 use Rattle.server.proofs.running.serve_sized.Goals as goal
+
+pub begin-requires-clause-size : goal.begin-requires-clause-size
+begin-requires-clause-size g c = c.requires.size ∙ (λ i. record { servers = sym c.requires.count i; agents = c.args.options.now.agents })
 
 pub returns-in-Ok-serve_over-clause-served : goal.returns-in-Ok-serve_over-clause-served
 returns-in-Ok-serve_over-clause-served g c =
