@@ -2,7 +2,7 @@ use anyhow::Result;
 use cat_model::{Bytes, List};
 use cat_outside::{SureSink, SureSource};
 use catalog_top::{Machine, run};
-use serve_outside::{CountWords, MemListener, MemSpawner, SetClock, SleepGate};
+use serve_outside::{CountWords, MemListener, MemSpawner, SetClock, SleepGate, SureKeepers};
 use std::alloc::Global;
 use std::sync::Wait;
 use std::thread::Threads;
@@ -37,6 +37,7 @@ pub fn play<R: Threads + Wait + time::Clock + Copy + Send + Drop + 'static>(
         &mut MemListener::new(alloc, Vec::new(alloc), List::new(alloc))?,
         &mut CountWords::new(),
         &mut MemSpawner::new(List::new(alloc)),
+        &mut SureKeepers,
     );
     Ok(Played {
         status: outcome.status,

@@ -8,7 +8,7 @@ use cat_outside::{SureSink, SureSource};
 use catalog_top::{Machine, run};
 use serve_outside::{
     Clock, CountWords, Gate, MachineClock, MemListener, MemSpawner, Script, SleepGate, Spawner,
-    ThreadSpawner,
+    SureKeepers, ThreadSpawner,
 };
 use std::alloc::Global;
 use std::sync::Wait;
@@ -102,6 +102,7 @@ fn serve_by<
         &mut listener,
         &mut CountWords::new(),
         spawner,
+        &mut SureKeepers,
     );
     Ok(Ended {
         status: outcome.status,

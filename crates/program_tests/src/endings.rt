@@ -1,7 +1,8 @@
 //! How runs end, and what they write.
 
-use crate::playing::{Failing, NONE_FAILS, play};
-use cat_model::Bytes;
+use crate::playing::{Failing, NONE_FAILS, play, play_with};
+use cat_model::{Bytes, List};
+use serve_outside::Script;
 use std::alloc::Global;
 use std::process::Abort;
 use std::sync::Wait;
@@ -82,6 +83,7 @@ static ENDINGS: [Ending; 15] = [
         failing: Failing {
             read: None,
             write: Some(1),
+            make: None,
         },
         status: 5,
         text: "",
@@ -91,6 +93,7 @@ static ENDINGS: [Ending; 15] = [
         failing: Failing {
             read: Some(1),
             write: None,
+            make: None,
         },
         status: 4,
         text: "",
@@ -100,6 +103,7 @@ static ENDINGS: [Ending; 15] = [
         failing: Failing {
             read: None,
             write: Some(1),
+            make: None,
         },
         status: 5,
         text: "",
@@ -109,6 +113,7 @@ static ENDINGS: [Ending; 15] = [
         failing: Failing {
             read: None,
             write: Some(2),
+            make: None,
         },
         status: 5,
         text: "#1 200 - true\n",
@@ -124,6 +129,7 @@ static ENDINGS: [Ending; 15] = [
         failing: Failing {
             read: None,
             write: Some(1),
+            make: None,
         },
         status: 5,
         text: "",
@@ -133,9 +139,48 @@ static ENDINGS: [Ending; 15] = [
         failing: Failing {
             read: None,
             write: Some(2),
+            make: None,
         },
         status: 5,
         text: "listening 8500\n",
+    },
+];
+
+/// The stores of three servers: the call that fails, the status and the text that are wanted, the servers whose stores
+/// are to be made, and the port that is to be listened on.
+#[derive(Clone, Copy)]
+struct Stores {
+    make: Option<u64>,
+    status: u8,
+    text: &'static str,
+    made: &'static [u32],
+    port: Option<u16>,
+}
+
+const THREE: &str = "serve --servers 3 --agents 1 --port 8500 --connections 1";
+
+// A connection comes that sends nothing.
+static STORES: [Stores; 3] = [
+    Stores {
+        make: None,
+        status: 0,
+        text: "listening 8500\nend log 1 open 0\n",
+        made: &[1, 2, 3],
+        port: Some(8500),
+    },
+    Stores {
+        make: Some(2),
+        status: 9,
+        text: "",
+        made: &[1],
+        port: None,
+    },
+    Stores {
+        make: Some(4),
+        status: 0,
+        text: "listening 8500\nend log 1 open 0\n",
+        made: &[1, 2, 3],
+        port: Some(8500),
     },
 ];
 
@@ -170,6 +215,45 @@ fn wrong_words_and_faults(rt: HostRuntime) -> Result<(), Fail> {
     for ending in &ENDINGS {
         let script = Bytes::new(rt.alloc(), PUT_AND_GET.as_bytes())?;
         expect_ending(rt, rt.alloc(), script, ending)?;
+    }
+    Ok(())
+}
+
+// Runs a server of three for a connection that sends nothing, and expects that its stores are made so.
+fn expect_stores<R: Abort + Threads + Wait + time::Clock + Copy + Send + Drop + 'static>(
+    rt: R,
+    alloc: Global,
+    wanted: &Stores,
+) -> Result<(), Fail> {
+    let failing = Failing {
+        make: wanted.make,
+        ..NONE_FAILS
+    };
+    let silent = Script {
+        bytes: Bytes::new(alloc, b"")?,
+        most: 1,
+        failing: List::new(alloc),
+    };
+    let connections = vec![in alloc; silent]?;
+    let script = Bytes::new(alloc, b"")?;
+    let played = play_with(rt, alloc, THREE, script, failing, connections)?;
+    assert_eq!(rt;
+        played.outcome.status,
+        wanted.status,
+        "of {:?}",
+        wanted.make
+    );
+    assert_eq!(rt; played.bytes(), wanted.text.as_bytes());
+    assert_eq!(rt; played.keepers.made(), wanted.made);
+    assert_eq!(rt; played.listener.port(), wanted.port);
+    assert_eq!(rt; played.outcome.report.is_some(), wanted.status == 0);
+    Ok(())
+}
+
+#[test]
+fn stores_are_made_first(rt: HostRuntime) -> Result<(), Fail> {
+    for wanted in &STORES {
+        expect_stores(rt, rt.alloc(), wanted)?;
     }
     Ok(())
 }

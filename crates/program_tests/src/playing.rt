@@ -3,28 +3,32 @@
 use cat_model::{Bytes, List, Memory};
 use cat_outside::{MemSink, MemSource};
 use catalog_top::{Machine, Outcome, run};
-use serve_outside::{CountWords, MemListener, MemSpawner, SetClock, SleepGate};
+use serve_outside::{CountWords, MemKeepers, MemListener, MemSpawner, Script, SetClock, SleepGate};
 use std::alloc::{AllocError, Global};
 use std::sync::Wait;
 use std::thread::Threads;
 use std::time;
 
-/// The calls of the source and of the sink that fail.
+/// The calls of the source, of the sink, and of what makes stores that fail.
 #[derive(Clone, Copy)]
 pub(crate) struct Failing {
     pub(crate) read: Option<u64>,
     pub(crate) write: Option<u64>,
+    pub(crate) make: Option<u64>,
 }
 
 pub(crate) const NONE_FAILS: Failing = Failing {
     read: None,
     write: None,
+    make: None,
 };
 
-/// How a run ended, and what it wrote.
+/// How a run ended, what it wrote, the port that it listened on, and the stores that it made.
 #[derive(Drop)]
 pub(crate) struct Played {
     pub(crate) outcome: Outcome,
+    pub(crate) listener: MemListener,
+    pub(crate) keepers: MemKeepers,
     sink: MemSink,
 }
 
@@ -47,13 +51,26 @@ fn words_of(alloc: Global, words: &str) -> Result<Vec<&str>, AllocError> {
     words.split(' ').collect(alloc)
 }
 
-/// Runs these words over a script.
+/// Runs these words over a script, and with no connection.
 pub(crate) fn play<R: Threads + Wait + time::Clock + Copy + Send + Drop + 'static>(
     rt: R,
     alloc: Global,
     words: &str,
     script: Bytes,
     failing: Failing,
+) -> Result<Played, Memory> {
+    let none = Vec::new(alloc);
+    play_with(rt, alloc, words, script, failing, none)
+}
+
+/// Runs these words over a script, and with these connections.
+pub(crate) fn play_with<R: Threads + Wait + time::Clock + Copy + Send + Drop + 'static>(
+    rt: R,
+    alloc: Global,
+    words: &str,
+    script: Bytes,
+    failing: Failing,
+    connections: Vec<Script>,
 ) -> Result<Played, Memory> {
     let machine = Machine {
         rt,
@@ -63,15 +80,23 @@ pub(crate) fn play<R: Threads + Wait + time::Clock + Copy + Send + Drop + 'stati
     };
     let mut source = MemSource::new(script, listed(alloc, failing.read)?);
     let mut sink = MemSink::new(alloc, listed(alloc, failing.write)?);
+    let mut listener = MemListener::new(alloc, connections, List::new(alloc))?;
+    let mut keepers = MemKeepers::new(alloc, listed(alloc, failing.make)?);
     let words = words_of(alloc, words)?;
     let outcome = run(
         machine,
         &words,
         &mut source,
         &mut sink,
-        &mut MemListener::new(alloc, Vec::new(alloc), List::new(alloc))?,
+        &mut listener,
         &mut CountWords::new(),
         &mut MemSpawner::new(List::new(alloc)),
+        &mut keepers,
     );
-    Ok(Played { outcome, sink })
+    Ok(Played {
+        outcome,
+        listener,
+        keepers,
+        sink,
+    })
 }

@@ -3,7 +3,7 @@
 use cat_model::{Bytes, List};
 use cat_outside::{MemSink, MemSource};
 use catalog_top::{Machine, run};
-use serve_outside::{MachineClock, SeededWords, SleepGate, TcpLinks, ThreadSpawner};
+use serve_outside::{MachineClock, SeededWords, SleepGate, SureKeepers, TcpLinks, ThreadSpawner};
 use std::alloc::Global;
 use std::io::Read;
 use std::net::{Ipv4Addr, Net, SocketAddr, TcpListener, TcpStream};
@@ -96,6 +96,7 @@ pub fn serve<
         &mut TcpLinks::new(rt),
         &mut SeededWords::new(&rt),
         &mut ThreadSpawner::new(),
+        &mut SureKeepers,
     );
     Some(outcome.status == 0 && sink.bytes().ends_with(b" open 0\n"))
 }

@@ -7,6 +7,7 @@ ghost use Rattle.serve_loop.specs.Boards.{IsOurs};
 use cat_model::{Bytes, Draw, List, Memory};
 use cat_outside::MemKeeper;
 use cluster::Cluster;
+use cluster_interface::empty_stores;
 use crossbeam_utils::CachePadded;
 use http_wire::RequestReader;
 use serve_loop::{Board, Cause, Finished, ServeJob, Served, serve_connection};
@@ -48,7 +49,8 @@ fn board<J: ClusterSize>(
     requires { J.size ≡ record { servers = 1; agents = 1 } }
     ensures { IfOk result (λ r. IsOurs (arc_value r.0) r.1) }
 {
-    let cluster = ServingCluster::begin(alloc, 1, 1, 4096)?;
+    let stores = empty_stores(alloc, 1)?;
+    let cluster = ServingCluster::begin(alloc, stores, 1, 4096)?;
     let Ok((lock, pass)) = HistoryLock::new(
         alloc,
         Served {
