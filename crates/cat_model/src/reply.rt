@@ -1,4 +1,4 @@
-use crate::{Asked, Bytes, Draw, Entry, Event, Mode, Text, Texts};
+use crate::{Asked, Bytes, Draw, Entry, Event, Mode, Shared, Text, Texts};
 
 /// What a server is in its term.
 #[derive(Clone, Copy, Debug, PartialEq, Eq)]
@@ -148,7 +148,7 @@ pub enum Mark {
     Asked {
         number: u64,
         agent: u32,
-        asked: Asked,
+        asked: Shared<Asked>,
         draw: Draw,
     },
     /// An event other than a request.

@@ -136,7 +136,7 @@ pub enum Event {
     FailKeep(u32, u32),
     Ask {
         agent: u32,
-        asked: Asked,
+        asked: Shared<Asked>,
         draw: Draw,
     },
     /// The agent makes the catalog's rows of its node equal to its own.

@@ -14,6 +14,7 @@ mod source;
 #[cfg(test)]
 mod tests;
 
+pub use failing::is_listed;
 pub use faults::{Failed, KeepFail};
 pub use keeper::Keeper;
 pub use mem_keeper::{MemKeeper, SureKeeper};

@@ -3,11 +3,10 @@ ghost use Rattle.std.specs.Io.KnownBytes.{append_known};
 ghost use Rattle.cat_outside.specs.Causes.{counted};
 ghost use Rattle.cat_outside.specs.InMemory.{is_listed};
 ghost use Rattle.cat_outside.specs.Keepers.{KeepHasCause};
-ghost use Rattle.serve_outside.specs.Keepers.{empty_store};
+ghost use Rattle.cat_outside.specs.KeepersInMemory.{empty_store};
 
-use crate::failing::is_listed;
 use cat_model::List;
-use cat_outside::{KeepFail, MemKeeper};
+use cat_outside::{KeepFail, MemKeeper, is_listed};
 use std::alloc::Global;
 
 /// What makes the durable stores of servers.

@@ -2,7 +2,6 @@
 //! caller, drawn words, durable stores of servers, a clock, and a pause. Each is there in memory, and over the machine.
 #![tactic(auto)]
 
-mod failing;
 mod job;
 mod keepers;
 mod link;

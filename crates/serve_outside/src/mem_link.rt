@@ -3,9 +3,8 @@ ghost use Rattle.cat_outside.specs.Causes.{counted};
 ghost use Rattle.cat_outside.specs.InMemory.{is_listed};
 
 use crate::Link;
-use crate::failing::is_listed;
 use cat_model::{Bytes, List};
-use cat_outside::{Failed, KeepFail};
+use cat_outside::{Failed, KeepFail, is_listed};
 use std::alloc::Global;
 
 /// What a connection in memory does.

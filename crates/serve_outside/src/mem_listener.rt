@@ -5,10 +5,9 @@ ghost use Rattle.cat_outside.specs.InMemory.{is_listed};
 ghost use Rattle.serve_outside.specs.Links.{IsNew};
 ghost use Rattle.serve_outside.specs.InMemory.{told};
 
-use crate::failing::is_listed;
 use crate::{Listener, MemLink, Script};
 use cat_model::{List, Memory};
-use cat_outside::Failed;
+use cat_outside::{Failed, is_listed};
 use http_server::Log;
 use std::alloc::Global;
 

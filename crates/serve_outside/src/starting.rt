@@ -3,8 +3,8 @@ ghost use Rattle.cat_outside.specs.Causes.{counted, Rose};
 ghost use Rattle.cat_outside.specs.InMemory.{is_listed};
 
 use crate::Spawner;
-use crate::failing::is_listed;
 use cat_model::List;
+use cat_outside::is_listed;
 
 /// Runs each job at once, and refuses those with the given numbers, counted from 1.
 #[derive(Drop)]
