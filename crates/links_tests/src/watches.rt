@@ -157,3 +157,49 @@ fn no_more_sleep_than_may(rt: HostRuntime) -> Result<(), Fail> {
     assert_eq!(rt; watch.awake().len(), 4_097);
     Ok(())
 }
+
+/// As above, with four requests in line: 5 and 6 at the first server for positions 7 and 8, 7 there for round 2 of term 3,
+/// and 8 at the second for position 7.
+fn four_in_line(alloc: Global) -> Result<Watch, Memory>
+    ensures { IfOk result (λ w. length w.servers ≡ 2) }
+{
+    let mut watch = three_asleep(alloc)?;
+    watch.await_position(1, 6, 8);
+    watch.await_position(1, 5, 7);
+    watch.await_round(1, 7, 3, 2);
+    watch.await_position(2, 8, 7);
+    Ok(watch)
+}
+
+#[test]
+fn an_applied_position_wakes_who_waits_for_it(rt: HostRuntime) -> Result<(), Fail> {
+    let mut watch = four_in_line(rt.alloc())?;
+    watch.wake_reached(1, 6);
+    assert!(rt; are_awake(&watch, &[4]));
+    watch.wake_reached(1, 7);
+    assert!(rt; are_awake(&watch, &[4, 5]));
+    watch.wake_reached(2, 9);
+    assert!(rt; are_awake(&watch, &[4, 5, 8]));
+    Ok(())
+}
+
+#[test]
+fn rounds_wake_from_the_first(rt: HostRuntime) -> Result<(), Fail> {
+    let mut watch = four_in_line(rt.alloc())?;
+    watch.await_round(1, 9, 2, 5);
+    assert!(rt; watch.first_round(1) == Some((2, 5)));
+    assert!(rt; watch.wake_first_round(1));
+    assert!(rt; watch.first_round(1) == Some((3, 2)));
+    assert!(rt; are_awake(&watch, &[4, 9]));
+    assert!(rt; watch.first_round(2).is_none());
+    Ok(())
+}
+
+#[test]
+fn all_of_a_halted_server_wake(rt: HostRuntime) -> Result<(), Fail> {
+    let mut watch = four_in_line(rt.alloc())?;
+    watch.rouse(1);
+    assert!(rt; are_awake(&watch, &[1, 2, 4, 5, 6, 7]));
+    assert!(rt; !watch.wake_first_round(1));
+    Ok(())
+}

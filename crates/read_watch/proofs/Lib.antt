@@ -3,3 +3,4 @@ pub mod Members
 pub mod Places
 pub mod Leavers
 pub mod Ascending
+pub mod Waiting

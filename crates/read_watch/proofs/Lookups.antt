@@ -1,10 +1,11 @@
 -- The numbers of requests among the keys of timers.
-use Rattle.std.proofs.Common.{◌≡◌, ℕ, ◌<◌, ◌^◌, Bool, true, false, cond, List, [], ◌∷◌, filter, refl, subst, Some}
+use Rattle.std.proofs.Common.{◌≡◌, ◌≢◌, ℕ, ◌<◌, ◌^◌, Bool, true, false, cond, List, [], ◌∷◌, length, filter, refl, subst, Some, None, arith}
 use Rattle.std.specs.Ordering.{nat_cmp, match_ordering}
 use Rattle.std.specs.declared.cmp.Ordering.{Ordering}
 use Rattle.std.specs.declared.cmp.Ordering.TheVariants.{Less, Equal, Greater}
 use Rattle.std.specs.Map.{lookup, remove_entry}
 use Rattle.std.specs.BTreeMap.{is_at, insert_entry}
+use Rattle.cat_model.specs.declared.query.Chan.{Chan}
 use Rattle.watch_registry.proofs.Holds.{key_same}
 use Rattle.read_watch.specs.Watch.{AreNumbers}
 
@@ -41,3 +42,12 @@ number_found k v (e ∷ es) h f = go (number_found k v es h.1) (is_at (nat_cmp k
     go : (lookup (is_at (nat_cmp k)) es ≡ Some v → k < 2 ^ 64) → (b : Bool) → is_at (nat_cmp k) e.0 ≡ b → cond b (Some e.1) (lookup (is_at (nat_cmp k)) es) ≡ Some v → k < 2 ^ 64
     go more true a g = subst (λ n. n < 2 ^ 64) (key_same k e.0 a) h.0
     go more false a g = more g
+
+-- where one is found, fewer are left without it
+pub shorter : (t : ℕ → Bool) (es : List (ℕ × List Chan)) → lookup t es ≢ None → length (remove_entry t es) < length es
+shorter t [] d = absurd (d refl)
+shorter t (e ∷ es) d = go (shorter t es) (t e.0) d
+  where
+    go : (lookup t es ≢ None → length (remove_entry t es) < length es) → (b : Bool) → cond b (Some e.1) (lookup t es) ≢ None → length (cond b es (e ∷ remove_entry t es)) < length (e ∷ es)
+    go more true d = omega arith
+    go more false d = omega (arith, more d)

@@ -6,15 +6,18 @@ use Rattle.std.specs.Map.{lookup}
 use Rattle.std.specs.BTreeMap.{is_at}
 use Rattle.cat_model.specs.Reach.{is_on}
 use Rattle.cat_model.specs.declared.query.Chan.{Chan}
+use Rattle.read_watch.specs.Lines.{Line, WaitsIn}
 
 -- The reads that sleep at a server, ascending by number: each with the channels on which it hangs, and each with the time of the server's clock at which its wait is over.
 pub record Sleepers : Type 0 where
   pub asleep : List (ℕ × List Chan)
   pub timers : List (ℕ × ℕ)
 
--- The requests of all servers: those that are awake, and those that sleep at each server, which are numbered from 1. Where `all` holds memory ran out, and any request may be awake.
+-- The requests of all servers, which are numbered from 1: those that are awake, and at each server those that sleep, those that wait for a position of its log, and those that wait for a round of acknowledgements. Where `all` holds memory ran out, and any request may be awake.
 pub record Watch : Type 0 where
   pub servers : List Sleepers
+  pub positions : List Line
+  pub rounds : List Line
   pub awake : List ℕ
   pub all : Bool
 
@@ -23,7 +26,7 @@ no_sleeper = record { asleep = []; timers = [] }
 
 -- no request at so many servers
 abbrev pub nobody : ℕ → Watch
-nobody servers = record { servers = replicate servers no_sleeper; awake = []; all = false }
+nobody servers = record { servers = replicate servers no_sleeper; positions = replicate servers []; rounds = replicate servers []; awake = []; all = false }
 
 -- a server's number
 abbrev pub IsServer : ℕ → Watch → Type 0
@@ -46,6 +49,18 @@ pub record SleepsAmong (n : ℕ) (chans : List Chan) (deadline : ℕ) (s : Sleep
 -- at server i the request sleeps on these channels until this time of the server's clock
 abbrev pub Sleeps : (i n : ℕ) (chans : List Chan) (deadline : ℕ) → Watch → Type 0
 Sleeps i n chans deadline w = SleepsAmong n chans deadline (sleepers_of w.servers i)
+
+-- at server i the request waits for this position, which has no term here
+abbrev pub AwaitsPosition : (i n index : ℕ) → Watch → Type 0
+AwaitsPosition i n index w = WaitsIn i n 0 index w.positions
+
+-- at server i the request waits for the round of this term and number
+abbrev pub AwaitsRound : (i n term number : ℕ) → Watch → Type 0
+AwaitsRound i n term number w = WaitsIn i n term number w.rounds
+
+-- nobody joined or left a line
+abbrev pub SameLines : Watch → Watch → Type 0
+SameLines old new = (new.positions ≡ old.positions) × (new.rounds ≡ old.rounds)
 
 -- Who slept is among these numbers now, or sleeps on, and the latter only on channels and until a time of which `stays` holds.
 pub record Leave (stays : List Chan → ℕ → Type 0) (numbers : List ℕ) (before after : Sleepers) : Type 0 where

@@ -1,11 +1,13 @@
 //! Which of the requests that a cluster holds may have something due. A read that waits for an index sleeps until a
-//! channel on which it hangs is fired at its server, or its deadline comes by that server's clock; so an event looks only
-//! at the requests that are awake. Nothing is evaluated here.
+//! channel on which it hangs is fired at its server, or its deadline comes by that server's clock. What waits for a
+//! position of a log or for a round of acknowledgements stands in line until that is reached. So an event looks only at
+//! the requests that are awake. Nothing is evaluated here.
 #![tactic(auto)]
 
 mod awake;
 mod entering;
 mod leaving;
+mod lines;
 mod sleeping;
 mod watching;
 

@@ -1,8 +1,8 @@
 //! The reads that sleep at one server.
 
-ghost use Rattle.std.specs.Prelude.{◌≡◌, ◌<◌, ◌≤◌, ℕ, true, false, None, filter, length, nat_le, not, IfOk, OnErr, OnOk};
+ghost use Rattle.std.specs.Prelude.{◌≡◌, ◌≢◌, ◌<◌, ◌≤◌, ℕ, [], true, false, None, filter, length, nat_le, not, IfNone, IfOk, IfSome, OnErr, OnOk};
 ghost use Rattle.std.specs.Ordering.{nat_cmp};
-ghost use Rattle.std.specs.Map.{lookup};
+ghost use Rattle.std.specs.Map.{lookup, remove_entry};
 ghost use Rattle.std.specs.BTreeMap.{is_at};
 ghost use Rattle.cat_model.specs.Reach.{is_on};
 ghost use Rattle.timer_wheel.specs.Dues.{AreDue};
@@ -46,10 +46,19 @@ impl SleepingReads {
         }
     }
 
+    /// One of those that sleep.
+    pub fn any(&self) -> Option<u64>
+        ensures none { IfNone result (self.now.asleep ≡ []) }
+        ensures some { IfSome result (λ number. lookup (is_at (nat_cmp number)) self.now.asleep ≢ None) }
+    {
+        self.registry.first()
+    }
+
     /// A read sleeps no more, if it did. Takes no memory.
     pub fn forget(&mut self, number: u64)
         ensures others { OthersStay number self.old self.new }
         ensures gone { lookup (is_at (nat_cmp number)) self.new.asleep ≡ None }
+        ensures left { self.new.asleep ≡ remove_entry (is_at (nat_cmp number)) self.old.asleep }
     {
         self.registry.remove(number);
         self.timers.cancel(u128::from(number));

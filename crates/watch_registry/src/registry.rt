@@ -1,6 +1,6 @@
 //! The registry.
 
-ghost use Rattle.std.specs.Prelude.{◌≡◌, ◌<◌, ◌≤◌, [], length, None, is_some, OnOk, OnErr, IfOk, map, filter, not};
+ghost use Rattle.std.specs.Prelude.{◌≡◌, ◌≢◌, ◌<◌, ◌≤◌, [], length, None, Some, is_some, slice_get, OnOk, OnErr, IfNone, IfOk, IfSome, map, filter, not};
 ghost use Rattle.std.specs.BTreeMap.{is_at, insert_entry, IsOrdered};
 ghost use Rattle.std.specs.List.Sorted.{IsStrictlySortedBy};
 ghost use Rattle.std.specs.Map.{lookup, remove_entry};
@@ -69,6 +69,18 @@ impl WatchRegistry {
         ensures { result ≡ is_some (lookup (is_at (nat_cmp waiter)) self.now) }
     {
         self.waiters.contains_key(&waiter)
+    }
+
+    /// The waiter with the least number.
+    pub fn first(&self) -> Option<u64>
+        ensures none { IfNone result (self.now ≡ []) }
+        ensures some { IfSome result (λ waiter. lookup (is_at (nat_cmp waiter)) self.now ≢ None) }
+        ensures least { IfSome result (λ waiter. slice_get (map (λ w. w.0) self.now) 0 ≡ Some waiter) }
+    {
+        match self.waiters.first_key_value() {
+            Some((waiter, _)) => Some(*waiter),
+            None => None,
+        }
     }
 
     /// Adds a new waiter on its channels.

@@ -11,6 +11,7 @@ loop-number-preserved c = record {
   alone = λ n h. both n (c.wake.ensures.alone n h);
   kept = λ n h. c.wake.ensures.kept n (c.loop-number.invariant.kept n h);
   servers = c.wake.ensures.servers ∙ c.loop-number.invariant.servers;
+  lines = (c.wake.ensures.lines.0 ∙ c.loop-number.invariant.lines.0, c.wake.ensures.lines.1 ∙ c.loop-number.invariant.lines.1);
 }
   where
     go : (n : ℕ) → is_among n (take (c.loop-number.number-index + 1) c.args.numbers.now) ≡ true → (b : Bool) → nat_eq n (get_or c.args.numbers.now c.loop-number.number-index 0) ≡ b → IsAwake n c.wake.new.self
