@@ -112,10 +112,9 @@ abbrev pub shelved_all : Requests → Requests
 shelved_all r = record r { tray = r.tray ++ r.fresh; fresh = [] }
 
 -- what lies in store for so many calls, by lengths and capacities, and by what room there is for held requests
-pub record HasRoom (room notes notes_room held_room starts starts_room fresh fresh_room tray tray_room : ℕ) : Type 0 where
+pub record HasRoom (room notes notes_room held_room fresh fresh_room tray tray_room : ℕ) : Type 0 where
   pub of_notes : notes + (fresh + tray) + 2 * room ≤ notes_room
   pub of_held : room ≤ held_room
-  pub of_starts : starts + room ≤ starts_room
   pub of_fresh : fresh + room ≤ fresh_room
   pub of_tray : tray + fresh + room ≤ tray_room
 

@@ -8,14 +8,13 @@ ghost use Rattle.open_requests.specs.Plain.{refusal_of};
 ghost use Rattle.open_requests.specs.Requests.{answered_with, came_with, closed_with, given_with, used};
 
 use crate::content::Content;
-use crate::copies::copy_asked;
 use crate::marked::MarkedReply;
 use crate::note::Note;
 use crate::out::{Given, Out, Reply};
 use crate::plain::Plain;
 use crate::requests::Requests;
 use crate::{giving, noting};
-use cat_model::{Asked, Draw, Kind, Mark, Memory, Refusal};
+use cat_model::{Asked, Draw, Kind, Mark, Memory, Refusal, Shared};
 
 impl Requests {
     // Lets go of a request for its reply and the note of the answer. There is room for them.
@@ -69,7 +68,7 @@ impl Requests {
     fn come_with(
         &mut self,
         agent: u32,
-        asked: Asked,
+        asked: Shared<Asked>,
         draw: Draw,
         why: &Refusal,
     ) -> Result<(), Memory>
@@ -95,7 +94,7 @@ impl Requests {
     pub fn come_refused(
         &mut self,
         agent: u32,
-        asked: &Asked,
+        asked: &Shared<Asked>,
         draw: Draw,
         why: &Refusal,
     ) -> Result<(), Memory>
@@ -103,7 +102,7 @@ impl Requests {
         ensures err { OnErr result (self.new ≡ self.old) }
     {
         self.prepare_two()?;
-        match copy_asked(asked) {
+        match asked.share() {
             Ok(copy) => self.come_with(agent, copy, draw, why),
             Err(Memory) => {
                 self.room -= 2;

@@ -20,11 +20,11 @@ mod question;
 mod requests;
 mod room;
 mod slot;
+mod starts;
 mod syncs;
 
 pub use collected::{Awaits, Collected};
 pub use content::Content;
-pub use copies::copy_asked;
 pub use marked::MarkedReply;
 pub use note::Note;
 pub use out::{Given, Out, Reply};

@@ -22,8 +22,9 @@ use crate::pending::{Pending, Stand, Start};
 use crate::question::Question;
 use crate::room::reserve;
 use crate::slot::HeldSlot;
+use crate::starts::Starts;
 use crate::{giving, noting};
-use cat_model::{Asked, Draw, Entry, Event, List, Mark, Memory};
+use cat_model::{Asked, Draw, Entry, Event, List, Mark, Memory, Shared};
 use std::alloc::Global;
 use std::collections::VecDeque;
 use std::marker::Model;
@@ -39,7 +40,7 @@ pub struct Requests {
     pub(crate) asked: u64,
     pub(crate) events: u64,
     pub(crate) held: HeldRequests,
-    pub(crate) starts: Vec<Start>,
+    pub(crate) starts: Starts,
     pub(crate) fresh: Vec<Out>,
     pub(crate) tray: VecDeque<Out>,
     pub(crate) notes: Vec<Note>,
@@ -59,7 +60,7 @@ impl Model for Requests {
     ghost view = { λ r. record {
       asked = r.asked;
       held = r.held.requests;
-      starts = reverse (map start_of r.starts.items);
+      starts = map start_of r.starts.items;
       fresh = r.fresh.items;
       tray = r.tray.items;
       notes = reverse r.notes.items;
@@ -67,7 +68,7 @@ impl Model for Requests {
     } };
 
     ghost invariant = { λ r.
-        spec.HasRoom r.room (vec_len r.notes) (vec_capacity r.notes) r.held.room (vec_len r.starts) (vec_capacity r.starts) (vec_len r.fresh) (vec_capacity r.fresh) (deque_len r.tray) (deque_capacity r.tray)
+        spec.HasRoom r.room (vec_len r.notes) (vec_capacity r.notes) r.held.room (vec_len r.fresh) (vec_capacity r.fresh) (deque_len r.tray) (deque_capacity r.tray)
         × spec.HasNumbers r.room r.asked r.events (reverse r.notes.items)
         × IsOrdered r.fresh.items };
 }
@@ -81,7 +82,7 @@ impl Requests {
             asked: 0,
             events: 0,
             held: HeldRequests::new(alloc),
-            starts: Vec::new(alloc),
+            starts: Starts::new(),
             fresh: Vec::new(alloc),
             tray: VecDeque::new(alloc),
             notes: Vec::new(alloc),
@@ -100,7 +101,6 @@ impl Requests {
         reserve(
             &mut self.notes,
             &mut self.held,
-            &mut self.starts,
             &mut self.fresh,
             &mut self.tray,
             room,
@@ -244,7 +244,7 @@ impl Requests {
 
     /// The request that was noted last takes its number, and its mark. Answers alone were given since. There is room
     /// for it, so that it takes no memory.
-    pub fn number(&mut self, agent: u32, asked: Asked, draw: Draw)
+    pub fn number(&mut self, agent: u32, asked: Shared<Asked>, draw: Draw)
         requires room { 0 < self.old.room }
         requires made { IsMadeLast self.old.notes }
         ensures { self.new ≡ used (numbered_with agent asked draw self.old) }
@@ -272,7 +272,7 @@ impl Requests {
     }
 
     /// Marks a request that comes with its number. There is room for it, so that it takes no memory.
-    pub fn come(&mut self, agent: u32, asked: Asked, draw: Draw)
+    pub fn come(&mut self, agent: u32, asked: Shared<Asked>, draw: Draw)
         requires { 0 < self.old.room }
         ensures { self.new ≡ used (came_with agent asked draw self.old) }
     {
@@ -296,16 +296,18 @@ impl Requests {
         ensures { self.new ≡ used (holding_with question server (stand_of stand) (start_of start) self.old) }
     {
         self.held.push(Pending::new(question, server, stand));
-        self.starts.push_reserved(start);
+        self.starts = self.starts.with(&start);
+        drop(start);
         self.room -= 1;
     }
 
-    /// Keeps what the act of a request's asking did. There is room for it, so that it takes no memory.
+    /// Notes what the act of a request's asking did, for proofs alone. There is room for it.
     pub fn start(&mut self, start: Start)
         requires { 0 < self.old.room }
         ensures { self.new ≡ used (record self.old { starts = start_of start ∷ self.old.starts }) }
     {
-        self.starts.push_reserved(start);
+        self.starts = self.starts.with(&start);
+        drop(start);
         self.room -= 1;
     }
 

@@ -7,7 +7,6 @@ ghost use Rattle.open_requests.specs.Requests.{HasRoom};
 use crate::held::HeldRequests;
 use crate::note::Note;
 use crate::out::Out;
-use crate::pending::Start;
 use cat_model::Memory;
 use std::collections::VecDeque;
 
@@ -24,23 +23,20 @@ fn notes_of(fresh: usize, tray: usize, room: u64) -> Result<usize, Memory>
 pub fn reserve(
     notes: &mut Vec<Note>,
     held: &mut HeldRequests,
-    starts: &mut Vec<Start>,
     fresh: &mut Vec<Out>,
     tray: &mut VecDeque<Out>,
     room: u64,
 ) -> Result<(), Memory>
     ensures notes { (notes.new.items ≡ notes.old.items) × (vec_len notes.new ≡ vec_len notes.old) × (vec_capacity notes.old ≤ vec_capacity notes.new) }
     ensures held { (held.new.requests ≡ held.old.requests) × (held.old.room ≤ held.new.room) }
-    ensures starts { (starts.new.items ≡ starts.old.items) × (vec_len starts.new ≡ vec_len starts.old) × (vec_capacity starts.old ≤ vec_capacity starts.new) }
     ensures fresh { (fresh.new.items ≡ fresh.old.items) × (vec_len fresh.new ≡ vec_len fresh.old) × (vec_capacity fresh.old ≤ vec_capacity fresh.new) }
     ensures tray { (tray.new.items ≡ tray.old.items) × (deque_len tray.new ≡ deque_len tray.old) × (deque_capacity tray.old ≤ deque_capacity tray.new) }
-    ensures room { OnOk result (HasRoom room (vec_len notes.new) (vec_capacity notes.new) held.new.room (vec_len starts.new) (vec_capacity starts.new) (vec_len fresh.new) (vec_capacity fresh.new) (deque_len tray.new) (deque_capacity tray.new)) }
+    ensures room { OnOk result (HasRoom room (vec_len notes.new) (vec_capacity notes.new) held.new.room (vec_len fresh.new) (vec_capacity fresh.new) (deque_len tray.new) (deque_capacity tray.new)) }
 {
     let coming = notes_of(fresh.len(), tray.len(), room)?;
     let waiting = fresh.len().checked_add(room as usize).ok_or(Memory)?;
     notes.reserve(coming)?;
     held.reserve(room as usize)?;
-    starts.reserve(room as usize)?;
     fresh.reserve(room as usize)?;
     tray.reserve(waiting)?;
     Ok(())

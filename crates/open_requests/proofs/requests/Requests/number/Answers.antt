@@ -15,7 +15,6 @@ invariant_of-self c =
       record {
         of_notes = omega (arith, lies.of_notes, c.replace_made.ensures.len, c.replace_made.ensures.capacity);
         of_held = omega (arith, lies.of_held);
-        of_starts = omega (arith, lies.of_starts);
         of_fresh = omega (arith, lies.of_fresh);
         of_tray = omega (arith, lies.of_tray);
       },
