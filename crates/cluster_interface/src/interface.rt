@@ -9,10 +9,10 @@ ghost use Rattle.script_runs.specs.Lines.{misfit};
 ghost use Rattle.script_runs.specs.Holds.{IsFirstStart};
 ghost use Rattle.request_rules.specs.Taken.{IsTakenAsked};
 ghost use Rattle.cluster_interface.specs.Interface.{IsPlayed, SettlesTo, TakesFirst, held_numbers};
-ghost use Rattle.cluster_interface.specs.Stores.{empty_store};
+ghost use Rattle.cat_outside.specs.KeepersInMemory.{empty_store};
 ghost use Rattle.cluster_interface.specs.Taking.{Collects, DropsSyncs};
 
-use cat_model::{Asked, Draw, Entry, Event, List, Mark, Memory};
+use cat_model::{Asked, Draw, Entry, Event, List, Mark, Memory, Shared};
 use cat_outside::MemKeeper;
 use open_requests::{Collected, Out};
 use script_runs::Misfit;
@@ -57,7 +57,13 @@ pub trait ClusterInterface: Drop {
 
     /// Asks an agent, and gives the request's number. What it gives waits to be taken. After `Memory` nothing has
     /// changed, or the event was cut short.
-    fn ask(&mut self, alloc: Global, agent: u32, asked: &Asked, draw: Draw) -> Result<u64, Memory>
+    fn ask(
+        &mut self,
+        alloc: Global,
+        agent: u32,
+        asked: &Shared<Asked>,
+        draw: Draw,
+    ) -> Result<u64, Memory>
         requires agent { IsAgentNumber (state self.old) agent }
         requires built { IsTakenAsked asked.now }
         ensures whole { OnOk result (ClusterStep (state self.old) (event.Ask agent asked.now draw) (state self.new) true) }

@@ -1,7 +1,7 @@
 //! Durable stores in memory.
 
 ghost use Rattle.std.specs.Prelude.{◌≡◌, All, IfOk, length};
-ghost use Rattle.cluster_interface.specs.Stores.{empty_store};
+ghost use Rattle.cat_outside.specs.KeepersInMemory.{empty_store};
 
 use cat_model::{List, Memory};
 use cat_outside::MemKeeper;

@@ -1,7 +1,7 @@
 ghost use Rattle.std.specs.Prelude.{◌≡◌};
 ghost use Rattle.cluster_turns.specs.AgentEvents.{agent_in, event_of_agent, is_for_agent};
 
-use cat_model::{Asked, Draw, Request};
+use cat_model::{Asked, Draw, Request, Shared};
 
 /// An agent's event. Agents are numbered from 1.
 #[derive(Clone, Copy, Debug)]
@@ -18,7 +18,7 @@ pub enum AgentEvent<'a> {
     /// A request that the agent itself answers.
     Ask {
         agent: u32,
-        asked: &'a Asked,
+        asked: &'a Shared<Asked>,
         draw: Draw,
     },
 }

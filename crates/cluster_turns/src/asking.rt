@@ -12,7 +12,7 @@ use crate::cut::Cut;
 use crate::parts::{Parts, Way};
 use crate::syncing::happen;
 use crate::turns::{cut_after, finish, make_up};
-use cat_model::{Asked, Draw, Memory, Refusal, Steps};
+use cat_model::{Asked, Draw, Memory, Refusal, Shared, Steps};
 use std::alloc::Global;
 use std::sync::ledger::Ledger;
 
@@ -23,7 +23,7 @@ fn serve<P: Parts, L: Ledger>(
     alloc: Global,
     server: u32,
     agent: u32,
-    asked: &Asked,
+    asked: &Shared<Asked>,
     draw: Draw,
     steps: &mut Steps<L>,
 ) -> Result<(), Cut>
@@ -52,7 +52,7 @@ fn ask_at<P: Parts, L: Ledger>(
     alloc: Global,
     server: u32,
     agent: u32,
-    asked: &Asked,
+    asked: &Shared<Asked>,
     draw: Draw,
     steps: &mut Steps<L>,
 ) -> Result<(), Memory>
@@ -85,7 +85,7 @@ fn ask_none<P: Parts>(
     parts: &mut P,
     alloc: Global,
     agent: u32,
-    asked: &Asked,
+    asked: &Shared<Asked>,
     draw: Draw,
     why: Refusal,
 ) -> Result<(), Memory>
@@ -107,7 +107,7 @@ fn ask_by<P: Parts, L: Ledger>(
     alloc: Global,
     way: Way,
     agent: u32,
-    asked: &Asked,
+    asked: &Shared<Asked>,
     draw: Draw,
     steps: &mut Steps<L>,
 ) -> Result<(), Memory>
@@ -130,7 +130,7 @@ fn ask_servers<P: Parts, L: Ledger>(
     parts: &mut P,
     alloc: Global,
     agent: u32,
-    asked: &Asked,
+    asked: &Shared<Asked>,
     draw: Draw,
     steps: &mut Steps<L>,
 ) -> Result<(), Memory>
@@ -151,7 +151,7 @@ pub fn request<P: Parts, L: Ledger>(
     parts: &mut P,
     alloc: Global,
     agent: u32,
-    asked: &Asked,
+    asked: &Shared<Asked>,
     draw: Draw,
     steps: &mut Steps<L>,
 ) -> Result<(), Memory>
@@ -174,7 +174,7 @@ pub fn ask<P: Parts, L: Ledger>(
     parts: &mut P,
     alloc: Global,
     agent: u32,
-    asked: &Asked,
+    asked: &Shared<Asked>,
     draw: Draw,
     steps: &mut Steps<L>,
 ) -> Result<u64, Memory>

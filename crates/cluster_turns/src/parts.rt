@@ -18,7 +18,7 @@ ghost use Rattle.cluster_turns.specs.Pairs.{HasLowest, settled};
 use crate::agent_event::AgentEvent;
 use crate::cut::Cut;
 use crate::impulse::Impulse;
-use cat_model::{Asked, Draw, Event, Memory, Refusal, Steps};
+use cat_model::{Asked, Draw, Event, Memory, Refusal, Shared, Steps};
 use std::alloc::Global;
 use std::sync::ledger::Ledger;
 
@@ -62,7 +62,7 @@ pub trait Parts {
         &mut self,
         alloc: Global,
         agent: u32,
-        asked: &Asked,
+        asked: &Shared<Asked>,
         draw: Draw,
     ) -> Result<(), Memory>
         requires { takes asked.now }
@@ -120,7 +120,7 @@ pub trait Parts {
         ensures err { OnErr result (state self.new ≡ state self.old) };
 
     /// Where a request goes that no agent answers.
-    fn way(&self, alloc: Global, agent: u32, asked: &Asked) -> Result<Way, Memory>
+    fn way(&self, alloc: Global, agent: u32, asked: &Shared<Asked>) -> Result<Way, Memory>
         requires agent { IsAgentNumber (state self.now) agent }
         requires takes { takes asked.now }
         requires plain { is_for_agent asked.now ≡ false }
@@ -132,7 +132,7 @@ pub trait Parts {
         &mut self,
         alloc: Global,
         agent: u32,
-        asked: &Asked,
+        asked: &Shared<Asked>,
         draw: Draw,
         why: Refusal,
     ) -> Result<(), Memory>
@@ -146,7 +146,7 @@ pub trait Parts {
         alloc: Global,
         server: u32,
         agent: u32,
-        asked: &Asked,
+        asked: &Shared<Asked>,
         draw: Draw,
     ) -> Result<(), Memory>
         requires server { IsServerNumber (state self.old) server }

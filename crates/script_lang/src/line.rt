@@ -11,7 +11,7 @@ use crate::form::{Form, form_of};
 use crate::numbers::{Bounds, number_in, one_number, two_numbers};
 use crate::requests::asked_of;
 use crate::words::{cut, is_nothing, last_word, next_word};
-use cat_model::{Draw, Event};
+use cat_model::{Draw, Event, Shared};
 use http_routes::Routes;
 use std::alloc::Global;
 
@@ -97,7 +97,7 @@ fn asks(
     let asked = asked_of(alloc, routes, method, target, rest)?;
     Ok(Line::Event(Event::Ask {
         agent,
-        asked,
+        asked: Shared::new(alloc, asked)?,
         draw: Draw {
             hi: seed,
             lo: number,

@@ -126,10 +126,12 @@ module _ (shows : ℕ → Ask → Reply → List Mark → Type 0) (c : Connectio
   routed_reply m n (Ok reply) asked v e i = replies m n reply asked v e i
   routed_reply m n (Err f) asked v e i = tt
 
-  pub answered_reply : (request : Request) (n : ℕ) (d : Draw) (r : Result Reply Memory) (v : Knowledge Mark) → d ≡ draw_of c.draw n
-      → IfOk r (λ reply. IsAnswered shows (record { agent = c.agent; asked = Good request; draw = d }) reply v.seen v.mine) → IfOk r (IsReplyTo shows c request n v)
-  answered_reply request n d (Ok reply) v f a = subst (λ (z : Draw). IsAnswered shows (record { agent = c.agent; asked = Good request; draw = z }) reply v.seen v.mine) f a
-  answered_reply request n d (Err m) v f a = tt
+  pub answered_reply : (request : Request) (n : ℕ) (asked : Asked) (d : Draw) (r : Result Reply Memory) (v : Knowledge Mark) → asked ≡ Good request → d ≡ draw_of c.draw n
+      → IfOk r (λ reply. IsAnswered shows (record { agent = c.agent; asked = asked; draw = d }) reply v.seen v.mine) → IfOk r (IsReplyTo shows c request n v)
+  answered_reply request n asked d (Ok reply) v e f a =
+      subst (λ (z : Asked). IsAnswered shows (record { agent = c.agent; asked = z; draw = draw_of c.draw n }) reply v.seen v.mine) e
+      (subst (λ (z : Draw). IsAnswered shows (record { agent = c.agent; asked = asked; draw = z }) reply v.seen v.mine) f a)
+  answered_reply request n asked d (Err m) v e f a = tt
 
   -- all that is due was written
   came_whole : (link : LinkState) (v : Knowledge Mark) (es : List Exchange) (stream rest : List ℕ) → Passed shows c link v es (stream ++ rest) (bytes_of es) → GivesAll stream (items_of es) None → Came shows c link v es None rest []

@@ -8,7 +8,7 @@ ghost use Rattle.serve_loop.specs.Collects.{Collects};
 ghost use Rattle.serve_loop.specs.Marks.{AddsAsked, AddsCut, AddsQuiet, AreKept, Delivers, TicksAll, TicksBy, TicksNone};
 ghost use Rattle.serve_loop.specs.Turns.{MayAsk};
 
-use cat_model::{Asked, Draw, Memory};
+use cat_model::{Asked, Draw, Memory, Shared};
 use open_requests::Reply;
 use std::alloc::Global;
 
@@ -16,7 +16,7 @@ use std::alloc::Global;
 #[derive(Drop)]
 pub struct Ask {
     pub agent: u32,
-    pub asked: Asked,
+    pub asked: Shared<Asked>,
     pub draw: Draw,
 }
 

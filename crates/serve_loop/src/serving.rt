@@ -21,7 +21,7 @@ use crate::replies::refusing;
 use crate::served::Served;
 use crate::turning::ask_and_wait;
 use crate::writing::{send, send_continue, send_refusal};
-use cat_model::{Asked, Draw, Memory, Request};
+use cat_model::{Asked, Draw, Memory, Request, Shared};
 use cat_outside::Failed;
 use crossbeam_utils::CachePadded;
 use http_routes::Routes;
@@ -97,7 +97,7 @@ fn ask<R: Wait, C: SharedCluster, Cl: Clock, G: Gate, L: Link>(
 {
     let ask = Ask {
         agent: service.agent,
-        asked: Asked::Good(request),
+        asked: Shared::new(service.alloc, Asked::Good(request))?,
         draw: nth_draw(service.draw, n),
     };
     let lock = &**service.board;

@@ -7,7 +7,7 @@ use Rattle.std.proofs.KnownBytes.{Appends-trans}
 use Rattle.std.proofs.lemmas.List.{length-append}
 use Rattle.std.proofs.lemmas.List.Elements.{All-push, All-same}
 use Rattle.cat_outside.specs.KeepersInMemory.{FaultyKeeper}
-use Rattle.serve_outside.specs.Keepers.{empty_store}
+use Rattle.cat_outside.specs.KeepersInMemory.{empty_store}
 use Rattle.server.specs.Served.{server_numbers}
 
 -- what is told grew by these numbers

@@ -11,7 +11,7 @@ ghost use Rattle.turn_lock.specs.Lists.{IsFront};
 ghost use Rattle.serve_loop.specs.declared.run.Stop.TheVariants as loop;
 ghost use Rattle.serve_loop.specs.Boards.{IsOurs, known};
 ghost use Rattle.serve_loop.specs.Runs.{HandsBack, HasDrawn};
-ghost use Rattle.serve_outside.specs.Keepers.{empty_store};
+ghost use Rattle.cat_outside.specs.KeepersInMemory.{empty_store};
 ghost use Rattle.serving_rules.specs.Serving.{Serves};
 ghost use Rattle.server.specs.Options.{IsWithin};
 ghost use Rattle.server.specs.Served as spec;

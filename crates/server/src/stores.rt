@@ -3,7 +3,7 @@
 ghost use Rattle.std.specs.Prelude.{◌≡◌, [], ◌∷◌, ◌++◌, All, IfOk, OnOk, length};
 ghost use Rattle.std.specs.Io.KnownBytes.{Appends};
 ghost use Rattle.cat_outside.specs.Keepers.{KeepHasCause};
-ghost use Rattle.serve_outside.specs.Keepers.{empty_store};
+ghost use Rattle.cat_outside.specs.KeepersInMemory.{empty_store};
 ghost use Rattle.server.specs.Served.{server_numbers};
 
 use cat_model::{List, Memory};

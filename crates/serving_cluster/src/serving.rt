@@ -1,7 +1,7 @@
 //! A cluster that serves.
 
 ghost use Rattle.std.specs.Prelude.{◌≡◌, ◌<◌, ◌≤◌, All, IfOk, length};
-ghost use Rattle.cluster_interface.specs.Stores.{empty_store};
+ghost use Rattle.cat_outside.specs.KeepersInMemory.{empty_store};
 ghost use Rattle.serving_rules.specs.Serving.{Serves, Size};
 
 use cat_model::{Event, List, Memory};

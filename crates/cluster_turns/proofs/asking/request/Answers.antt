@@ -1,4 +1,5 @@
-use Rattle.std.proofs.Common.{sym}
+use Rattle.std.proofs.Common.{ap, sym, ◌∙◌}
+use Rattle.cluster_turns.specs.AgentEvents.{is_for_agent}
 use Rattle.cluster_turns.proofs.AgentSteps.{for_agent}
 use Rattle.cluster_turns.proofs.asking.request.Goals as goal
 
@@ -6,7 +7,7 @@ pub happen-requires-clause-fits : goal.happen-requires-clause-fits
 happen-requires-clause-fits g c = c.requires.agent
 
 pub happen-requires-clause-agents : goal.happen-requires-clause-agents
-happen-requires-clause-agents g c = for_agent c.args.agent c.args.asked.now c.args.draw (sym c.if-is_for_agent.ensures)
+happen-requires-clause-agents g c = for_agent c.args.agent c.args.asked.now c.args.draw (ap is_for_agent (sym c.deref.ensures) ∙ sym c.if-is_for_agent.ensures)
 
 pub happen-requires-clause-takes : goal.happen-requires-clause-takes
 happen-requires-clause-takes g c = c.requires.takes
@@ -18,7 +19,7 @@ pub ask_servers-requires-clause-takes : goal.ask_servers-requires-clause-takes
 ask_servers-requires-clause-takes g c = c.requires.takes
 
 pub ask_servers-requires-clause-plain : goal.ask_servers-requires-clause-plain
-ask_servers-requires-clause-plain g c = sym c.if-is_for_agent.ensures
+ask_servers-requires-clause-plain g c = ap is_for_agent (sym c.deref.ensures) ∙ sym c.if-is_for_agent.ensures
 
 pub returns-then-is_for_agent-clause-whole : goal.returns-then-is_for_agent-clause-whole
 returns-then-is_for_agent-clause-whole g c = c.happen.ensures.whole

@@ -1,7 +1,7 @@
 use Rattle.std.proofs.Common.{◌≡◌, ◌-◌, ◌≤◌, length}
 use Rattle.std.specs.Prelude.{All}
 use Rattle.std.specs.Io.KnownBytes.{Appends}
-use Rattle.serve_outside.specs.Keepers.{empty_store}
+use Rattle.cat_outside.specs.KeepersInMemory.{empty_store}
 use Rattle.server.specs.Served.{server_numbers}
 use Rattle.server.proofs.stores.make_stores.Given as goal
 
