@@ -1,21 +1,18 @@
 -- Which requests may have something due, as a watch goes on.
-use Rattle.std.proofs.Common.{◌≡◌, ◌≢◌, inl, inr, ℕ, ◌+◌, ◌<◌, false, List, [], ◌∷◌, ◌++◌, get_or, length, take, None, Some, refl, sym, ap, ◌∙◌, subst, arith}
-use Rattle.std.specs.List.{AllByRecursion as Each}
+use Rattle.std.proofs.Common.{◌≡◌, ◌≢◌, inl, inr, ℕ, ◌+◌, ◌<◌, false, List, [], ◌∷◌, ◌++◌, get_or, length, take, refl, sym, ap, ◌∙◌, subst, arith}
 use Rattle.std.proofs.lemmas.List.{take_more}
-use Rattle.cluster_rules.specs.Cluster.{Pending}
-use Rattle.cluster_rules.proofs.Tools.{each_append}
 use Rattle.std.specs.Prelude.{◌==◌}
 use Rattle.raft_model.proofs.Tests.{at_bool, eq_tells}
 use Rattle.std.proofs.lemmas.Bool.Decides.{nat_tests}
 use Rattle.read_watch.specs.Watch as plain
 use Rattle.read_watch.specs.Watch.{Watch}
 use Rattle.open_requests.specs.declared.slot.HeldSlot.{HeldSlot}
-use Rattle.open_requests.specs.declared.slot.HeldSlot.TheVariants.{Held, LetGo}
-use Rattle.open_requests.specs.Held.{held_in, pending_of}
+use Rattle.open_requests.specs.Held.{held_in}
 use Rattle.open_requests.proofs.Slots.{held_more}
 use Rattle.cluster_parts.specs.Watching.{MayBeDue, StayAwake, Watching}
 
-one_awake : (old new : Watching) (n : ℕ) → new.seen ≡ old.seen → (plain.IsAwake n old.watch → plain.IsAwake n new.watch) → MayBeDue n old → MayBeDue n new
+-- who is awake stays so, of one number
+pub one_awake : (old new : Watching) (n : ℕ) → new.seen ≡ old.seen → (plain.IsAwake n old.watch → plain.IsAwake n new.watch) → MayBeDue n old → MayBeDue n new
 one_awake old new n seen kept (inl later) = inl (subst (λ k. k < n) (sym seen) later)
 one_awake old new n seen kept (inr awake) = inr (kept awake)
 
@@ -43,38 +40,6 @@ then_stay a b c f g n x = g n (f n x)
 pub stay_here : (w : Watching) → StayAwake w w
 stay_here w n x = x
 
--- all that a server holds of a list
-abbrev pub AwakeOf : Watching → ℕ → List Pending → Type 0
-AwakeOf watch server held = Each (λ (h : Pending). h.server ≡ server → MayBeDue h.question.number watch) held
-
-still_awake : (old new : Watching) (server : ℕ) (held : List Pending) → StayAwake old new → AwakeOf old server held → AwakeOf new server held
-still_awake old new server [] up all = tt
-still_awake old new server (h ∷ held) up all = ((λ e. up h.question.number (all.0 e)), still_awake old new server held up all.1)
-
 -- the requests of one slot more
-held_next : (slots : List HeldSlot) (k : ℕ) (x : HeldSlot) → k < length slots → x ≡ get_or slots k x → held_in (take (k + 1) slots) ≡ held_in (take k slots) ++ held_in (x ∷ [])
+pub held_next : (slots : List HeldSlot) (k : ℕ) (x : HeldSlot) → k < length slots → x ≡ get_or slots k x → held_in (take (k + 1) slots) ≡ held_in (take k slots) ++ held_in (x ∷ [])
 held_next slots k x l is = ap held_in (take_more slots k x l ∙ ap (λ (y : HeldSlot). take k slots ++ y ∷ []) (sym is)) ∙ held_more (take k slots) (x ∷ [])
-
-wake_next : (old new : Watching) (server : ℕ) (slots : List HeldSlot) (k : ℕ) (x : HeldSlot) → k < length slots → x ≡ get_or slots k x → StayAwake old new → AwakeOf new server (held_in (x ∷ [])) → AwakeOf old server (held_in (take k slots)) → AwakeOf new server (held_in (take (k + 1) slots))
-wake_next old new server slots k x l is up one all =
-    subst (AwakeOf new server) (sym (held_next slots k x l is))
-    (each_append (λ (h : Pending). h.server ≡ server → MayBeDue h.question.number new) (held_in (take k slots)) (held_in (x ∷ [])) (still_awake old new server (held_in (take k slots)) up all) one)
-
--- the slot of a request, or one that holds none
-pub slot_awake : (watch : Watching) (server : ℕ) (slot : HeldSlot) (h : Pending) → Some h ≡ pending_of slot → (h.server ≡ server → MayBeDue h.question.number watch) → AwakeOf watch server (held_in (slot ∷ []))
-slot_awake watch server (Held own) h is one =
-    let same : h ≡ own = cc in
-    (subst (λ (g : Pending). g.server ≡ server → MayBeDue g.question.number watch) same one, tt)
-slot_awake watch server (LetGo number) h is one = tt
-
-pub none_awake : (watch : Watching) (server : ℕ) (slot : HeldSlot) → None ≡ pending_of slot → AwakeOf watch server (held_in (slot ∷ []))
-none_awake watch server (Held own) is = absurd cc
-none_awake watch server (LetGo number) is = tt
-
--- what a loop over held requests keeps
-abbrev pub IsWoken : Watching → ℕ → List Pending → Watching → Type 0
-IsWoken first server held new = AwakeOf new server held × StayAwake first new × (new.watch.servers ≡ first.watch.servers) × (new.seen ≡ first.seen)
-
-pub wake_step : (first old new : Watching) (server : ℕ) (slots : List HeldSlot) (k : ℕ) (x : HeldSlot) → k < length slots → x ≡ get_or slots k x → AwakeOf new server (held_in (x ∷ [])) → StayAwake old new → new.watch.servers ≡ old.watch.servers → new.seen ≡ old.seen
-    → IsWoken first server (held_in (take k slots)) old → IsWoken first server (held_in (take (k + 1) slots)) new
-wake_step first old new server slots k x l is one up servers seen all = (wake_next old new server slots k x l is up one all.0, then_stay first old new all.1 up, servers ∙ all.2, seen ∙ all.3)

@@ -1,5 +1,5 @@
 -- What is due first is due.
-use Rattle.std.proofs.Common.{◌≡◌, inl, inr, ℕ, ◌<◌, Bool, true, false, cond, List, [], ◌∷◌, length, map, Option, Some, None, Result, Ok, Err, refl, sym, ap, ◌∙◌, subst}
+use Rattle.std.proofs.Common.{◌≡◌, inl, inr, ℕ, ◌<◌, ◌≤◌, Bool, true, false, cond, List, [], ◌∷◌, length, map, Option, Some, None, Result, Ok, Err, refl, sym, ap, ◌∙◌, subst}
 use Rattle.std.specs.Prelude.{OnOk, ◌==◌, ◌&&◌, ◌||◌, is_some, nat_le, nat_lt, not}
 use Rattle.cat_model.specs.declared.command.Entry.{Entry}
 use Rattle.cat_model.specs.declared.reply.Kind.{Kind}
@@ -25,14 +25,13 @@ use Rattle.cluster_parts.specs.declared.work.Work as own
 use Rattle.cluster_parts.specs.declared.work.Work.TheVariants.{Answer, Hold, Close, Apply}
 use Rattle.cluster_parts.specs.Looking.{is_early, servers_of}
 use Rattle.cluster_parts.specs.Standing as standing
-use Rattle.cluster_parts.specs.Standing.{IsWatched}
+use Rattle.cluster_parts.specs.Standing.{IsAwaited}
 use Rattle.cluster_parts.proofs.Finding.{early_is}
-use Rattle.cluster_parts.proofs.Watched.{rests_as}
 use Rattle.cluster_rules.proofs.Steps.{or_left, or_right}
 use Rattle.cat_model.specs.declared.request.Asked.{Asked}
 use Rattle.cat_model.specs.declared.request.Asked.TheVariants.{Good, Bad}
 use Rattle.cat_model.specs.declared.request.Request.TheVariants.{Read, Execute, Write, Renew, Agent as AsksAgent}
-use Rattle.raft_model.specs.declared.message.Round.{Round}
+use Rattle.request_rules.specs.Taken.{IsTakenAsked}
 use Rattle.cluster_parts.specs.Working.{DidWork, IsWork, closed, whole}
 use Rattle.cluster_parts.specs.Watching.{MayBeDue, Watching}
 
@@ -148,7 +147,9 @@ module _ (wt : Watching) where
     from : Pending
     among : IsAmong from c.held
     is : h ≡ record from { stand = h.stand }
-    held : IsHeld c.world c.servers c.asked h
+    numbered : h.question.number ≤ c.asked
+    taken : IsTakenAsked h.question.asked
+    awaited : IsAwaited c.world (length (server_of c.servers h.server).applied) h.question h.stand
 
   abbrev HoldsRight : Cluster → Work → Type 0
   HoldsRight c (Holds h) = HoldsOn c h
@@ -157,30 +158,15 @@ module _ (wt : Watching) where
   abbrev IsHeldThere : Cluster → Pending → Type 0
   IsHeldThere c h = IsAmong h c.held × IsHeld c.world c.servers c.asked h
 
-  -- of a request that waits for nothing that can sleep, something may be due
-  awake_by : (c : Cluster) (h : Pending) → ((deadline : ℕ) → h.stand ≡ ForIndex deadline true → ⊥) → IsWatched wt (server_of c.servers h.server).applied h → MayBeDue h.question.number wt
-  awake_by c h never (inl awake) = awake
-  awake_by c h never (inr rests) = let r = rests_as wt (server_of c.servers h.server).applied h.server h.question.number h.question.asked h.stand rests in absurd (never r.deadline r.stand_is)
-
-  held_for : (c : Cluster) (h : Pending) (deadline : ℕ) (looked : Bool) → IsHeldThere c h → ((until : ℕ) → h.stand ≡ ForIndex until true → ⊥) → HoldsOn c (record h { stand = ForIndex deadline looked })
-  held_for c h deadline looked x never = record {
+  held_for : (c : Cluster) (h : Pending) (deadline : ℕ) (looked : Bool) → IsHeldThere c h → HoldsOn c (record h { stand = ForIndex deadline looked })
+  held_for c h deadline looked x = record {
     from = h;
     among = x.0;
     is = refl;
-    held = record { numbered = x.1.numbered; taken = x.1.taken; awaited = tt; watched = inl (awake_by c h never x.1.watched) };
+    numbered = x.1.numbered;
+    taken = x.1.taken;
+    awaited = tt;
   }
-
-  is_looked : Stand → Bool
-  is_looked (ForIndex deadline looked) = looked
-  is_looked other = false
-
-  new_not : (s : Stand) (deadline : ℕ) → s ≡ ForIndex deadline false → (until : ℕ) → s ≡ ForIndex until true → ⊥
-  unfolding is_looked
-  new_not s deadline st until e = cc (ap is_looked st, ap is_looked e)
-
-  round_not : (s : Stand) (round : Round) (deadline : ℕ) → s ≡ InRound round deadline → (until : ℕ) → s ≡ ForIndex until true → ⊥
-  unfolding is_looked
-  round_not s round deadline st until e = cc (ap is_looked st, ap is_looked e)
 
   leaves_right : (c : Cluster) (i : ℕ) (h : Pending) → IsHeldThere c h → h.server ≡ i → Leaves c i (HoldsRight c) h
   leaves_right c i h x here = record {
@@ -190,9 +176,9 @@ module _ (wt : Watching) where
     rises = λ _ _ _ _. tt;
     answers = λ _ _ _ _ _ _ _ _ _ _. tt;
     refuses = λ _ _ _ _ _ _ _ _ _ _ _. tt;
-    sees = λ deadline query mode least wait raw st ask low. held_for c h deadline true x (new_not h.stand deadline st);
+    sees = λ deadline query mode least wait raw st ask low. held_for c h deadline true x;
     runs = λ _ _ _ _ _ _ _. tt;
-    turns = λ round deadline st up confirmed reached. held_for c h deadline false x (round_not h.stand round deadline st);
+    turns = λ round deadline st up confirmed reached. held_for c h deadline false x;
   }
 
   all_there : (c : Cluster) (held : List Pending) → ((h : Pending) → IsAmong h held → IsAmong h c.held) → Each (IsHeld c.world c.servers c.asked) held → Each (IsHeldThere c) held
@@ -212,8 +198,12 @@ module _ (wt : Watching) where
         let is : record on.from { stand = stand } ≡ h = ap (λ (t : Stand). record on.from { stand = t }) same ∙ sym on.is in
         ap (λ k. map (restood k stand) r.held) (sym from) ∙ restands_by on.from stand r.held s.ascends on.among ∙ ap (λ (g : Pending). with_held g r.held) is
 
-    pub restood_stands : Stands w servers (record r { held = map (restood number stand) r.held })
-    restood_stands = record {
+    -- something may be due of it, so that it is watched wherever it stands
+    held_on : MayBeDue number wt → IsHeld w servers r.asked h
+    held_on awake = record { numbered = on.numbered; taken = on.taken; awaited = on.awaited; watched = inl (subst (λ k. MayBeDue k wt) n awake) }
+
+    pub restood_stands : MayBeDue number wt → Stands w servers (record r { held = map (restood number stand) r.held })
+    restood_stands awake = record {
       reached = s.reached;
       some = s.some;
       count = s.count;
@@ -222,13 +212,13 @@ module _ (wt : Watching) where
       joined = s.joined;
       proposed = s.proposed;
       ascends = subst Ascends (sym restood_is) (ascends_with h r.held s.ascends);
-      held = subst (Each (IsHeld w servers r.asked)) (sym restood_is) (each_with (IsHeld w servers r.asked) h r.held on.held s.held);
+      held = subst (Each (IsHeld w servers r.asked)) (sym restood_is) (each_with (IsHeld w servers r.asked) h r.held (held_on awake) s.held);
     }
 
   pub restand_stands : (w : World) (servers : List Server) (r new : Requests) (c : Cluster) (number : ℕ) (stand : Stand) → Stands w servers r → cluster_of w servers r ≡ c
-      → (i : ℕ) (h : Pending) → IsDue i c (Holds h) → number ≡ h.question.number → stand ≡ h.stand → new ≡ record r { held = map (restood number stand) r.held } → Stands w servers new
-  restand_stands w servers r new c number stand s view i h e n same is =
-      subst (Stands w servers) (sym is) (restood_stands w servers r s i h (subst (λ (d : Cluster). IsDue i d (Holds h)) (sym view) e) number stand n same)
+      → (i : ℕ) (h : Pending) → IsDue i c (Holds h) → number ≡ h.question.number → stand ≡ h.stand → MayBeDue number wt → new ≡ record r { held = map (restood number stand) r.held } → Stands w servers new
+  restand_stands w servers r new c number stand s view i h e n same awake is =
+      subst (Stands w servers) (sym is) (restood_stands w servers r s i h (subst (λ (d : Cluster). IsDue i d (Holds h)) (sym view) e) number stand n same awake)
 
   pub restand_is : (w : World) (servers : List Server) (r new : Requests) (c : Cluster) (number : ℕ) (stand : Stand) → Stands w servers r → cluster_of w servers r ≡ c → new ≡ record r { held = map (restood number stand) r.held }
       → (i : ℕ) (h : Pending) → IsDue i c (Holds h) → number ≡ h.question.number → stand ≡ h.stand → cluster_of w servers new ≡ record c { held = with_held h c.held }

@@ -25,10 +25,10 @@ use Rattle.cluster_parts.specs.Looking.{is_early, is_stand_due, servers_of}
 use Rattle.cluster_parts.specs.Standing as standing
 use Rattle.cluster_parts.specs.Standing.{IsAwaited, IsWatched}
 use Rattle.cluster_parts.proofs.Numbered.{others_left}
-use Rattle.cluster_parts.proofs.Watched.{fired_watched, others_stand, watched_by}
+use Rattle.cluster_parts.proofs.Watched.{fired_watched, others_stand, same_leave, watched_by}
 use Rattle.replica.specs.Sparing.{SparesOthers}
 use Rattle.cluster_parts.proofs.Carried.{sound_with}
-use Rattle.cluster_parts.specs.Watching.{MayBeDue, Sleeps, StayAwake, Watching}
+use Rattle.cluster_parts.specs.Watching.{LeaveLine, MayBeDue, SameLines, Sleeps, StayAwake, Watching}
 
 -- a server at which more is committed than applied is one of them
 no_commit : (w : World) (i : ℕ) → (i ≡ 0) ⊎ (length w.nodes < i) → (node_of w i).commit ≡ 0
@@ -109,9 +109,9 @@ module _ (wt : Watching) where
 
   -- the request of a number is let go of, and is not watched any more
   pub forget_stands : (new : Watching) (w : World) (servers : List Server) (r : Requests) (held : List Pending) (number : ℕ) → r.held ≡ without number held → ((n : ℕ) → n ≢ number → MayBeDue n wt → MayBeDue n new)
-      → ((i n : ℕ) (on : List Chan) (until : ℕ) → n ≢ number → Sleeps i n on until wt → Sleeps i n on until new) → length new.watch.servers ≡ length wt.watch.servers → new.seen ≡ wt.seen → Stands w servers r → standing.Stands new w servers r
-  forget_stands new w servers r held number is up down size seen s =
-      others_stand wt new w servers r number up down size (omega (arith, seen, s.watching.1))
+      → ((i n : ℕ) (on : List Chan) (until : ℕ) → n ≢ number → Sleeps i n on until wt → Sleeps i n on until new) → length new.watch.servers ≡ length wt.watch.servers → SameLines wt new → new.seen ≡ wt.seen → Stands w servers r → standing.Stands new w servers r
+  forget_stands new w servers r held number is up down size lines seen s =
+      others_stand wt new w servers r number up down size (λ i n stand _ waits. same_leave wt new lines i n stand waits) (omega (arith, seen, s.watching.1))
       (each_map (λ (h : Pending). h.question.number ≢ number) (λ (h : Pending). (h.question.number ≢ number) ⊎ IsWatched new (server_of servers h.server).applied h) (λ h n. inl n) r.held
       (subst (Each (λ (h : Pending). h.question.number ≢ number)) (sym is) (others_left number held))) s
 
@@ -119,7 +119,7 @@ module _ (wt : Watching) where
   abbrev Wakes : ℕ → List Chan → Watching → Type 0
   Wakes i fired new = (server n : ℕ) (on : List Chan) (until : ℕ) → Sleeps server n on until wt → MayBeDue n new ⊎ (Sleeps server n on until new × (server ≡ i → is_on fired on ≡ false))
 
-  module _ (c : Cluster) (i : ℕ) (x : Server) (more : length x.applied ≤ suc (length (applied_of c i))) (new : Watching) (fired : List Chan) (spares : SparesOthers (commands_of (applied_of c i)) (commands_of x.applied) fired) (up : StayAwake wt new) (wakes : Wakes i fired new) where
+  module _ (c : Cluster) (i : ℕ) (x : Server) (more : length x.applied ≤ suc (length (applied_of c i))) (new : Watching) (fired : List Chan) (spares : SparesOthers (commands_of (applied_of c i)) (commands_of x.applied) fired) (up : StayAwake wt new) (wakes : Wakes i fired new) (lines : LeaveLine wt new) where
     still_asleep : (h : Pending) (on : List Chan) (until : ℕ) → Sleeps h.server h.question.number on until wt → MayBeDue h.question.number new ⊎ Sleeps h.server h.question.number on until new
     still_asleep h on until s = by (wakes h.server h.question.number on until s)
       where
@@ -136,8 +136,8 @@ module _ (wt : Watching) where
 
     one_watched : (h : Pending) → IsWatched wt (server_of c.servers h.server).applied h → IsWatched new (server_of (set_server c.servers i x) h.server).applied h
     one_watched h w = at_item (λ (y : Server). IsWatched new y.applied h) no_server c.servers i x h.server
-        (λ e. fired_watched wt new (applied_of c i) x.applied fired h spares (up h.question.number) (off_fired h e) (subst (λ k. IsWatched wt (server_of c.servers k).applied h) e w))
-        (watched_by wt new (server_of c.servers h.server).applied h (up h.question.number) (still_asleep h) w)
+        (λ e. fired_watched wt new (applied_of c i) x.applied fired h spares (up h.question.number) (off_fired h e) (lines h.server h.question.number h.stand) (subst (λ k. IsWatched wt (server_of c.servers k).applied h) e w))
+        (watched_by wt new (server_of c.servers h.server).applied h (up h.question.number) (still_asleep h) (lines h.server h.question.number h.stand) w)
 
     one_held : (h : Pending) → is_early (servers_of c) i h ≡ false → IsHeld c.world c.servers c.asked h → standing.IsHeld new c.world (set_server c.servers i x) c.asked h
     one_held h none held = record {
@@ -159,9 +159,9 @@ module _ (wt : Watching) where
   -- a server's next position is applied, where nothing is due before
   applying_stands : (s : Servers) (r : Requests) (i : ℕ) (new : Watching) (fired : List Chan) → Stands s.world s.servers r
       → length (server_of s.servers i).applied < (node_of s.world i).commit → Each (λ (h : Pending). is_early s i h ≡ false) r.held
-      → SparesOthers (commands_of (server_of s.servers i).applied) (commands_of (server_of (applies_next i s).servers i).applied) fired → StayAwake wt new → Wakes i fired new → length new.watch.servers ≡ length wt.watch.servers → new.seen ≡ wt.seen
+      → SparesOthers (commands_of (server_of s.servers i).applied) (commands_of (server_of (applies_next i s).servers i).applied) fired → StayAwake wt new → Wakes i fired new → length new.watch.servers ≡ length wt.watch.servers → SameLines wt new → new.seen ≡ wt.seen
       → standing.Stands new (applies_next i s).world (applies_next i s).servers r
-  applying_stands s r i new fired a more none spares up wakes size seen =
+  applying_stands s r i new fired a more none spares up wakes size lines seen =
       let o = entry_at (suc (length (server_of s.servers i).applied)) (node_of s.world i).log in
       let x = applies_entry (clock_of s.world i) (server_of s.servers i) o in
       let sound = next_sound s.world.agreed (node_of s.world i).log (node_of s.world i).commit (clock_of s.world i) (server_of s.servers i) (commit_agrees s.world a.reached i) more (a.sound i) o refl in
@@ -177,13 +177,13 @@ module _ (wt : Watching) where
         proposed = a.proposed;
         ascends = a.ascends;
         held = all_held (cluster_of s.world s.servers r) i x (one_longer (clock_of s.world i) (server_of s.servers i) o) new fired
-            (subst (λ (y : Server). SparesOthers (commands_of (server_of s.servers i).applied) (commands_of y.applied) fired) here spares) up wakes r.held none a.held;
+            (subst (λ (y : Server). SparesOthers (commands_of (server_of s.servers i).applied) (commands_of y.applied) fired) here spares) up wakes (same_leave wt new lines) r.held none a.held;
       }
 
   pub applied_stands : (s next : Servers) (r : Requests) (i : ℕ) (new : Watching) (fired : List Chan) → Stands s.world s.servers r
       → length (server_of s.servers i).applied < (node_of s.world i).commit → Each (λ (h : Pending). is_early s i h ≡ false) r.held → next ≡ applies_next i s
-      → SparesOthers (commands_of (server_of s.servers i).applied) (commands_of (server_of next.servers i).applied) fired → StayAwake wt new → Wakes i fired new → length new.watch.servers ≡ length wt.watch.servers → new.seen ≡ wt.seen
+      → SparesOthers (commands_of (server_of s.servers i).applied) (commands_of (server_of next.servers i).applied) fired → StayAwake wt new → Wakes i fired new → length new.watch.servers ≡ length wt.watch.servers → SameLines wt new → new.seen ≡ wt.seen
       → standing.Stands new next.world next.servers r
-  applied_stands s next r i new fired stands more none is spares up wakes size seen =
+  applied_stands s next r i new fired stands more none is spares up wakes size lines seen =
       subst (λ (q : Servers). standing.Stands new q.world q.servers r) (sym is)
-      (applying_stands s r i new fired stands more none (subst (λ (q : Servers). SparesOthers (commands_of (server_of s.servers i).applied) (commands_of (server_of q.servers i).applied) fired) is spares) up wakes size seen)
+      (applying_stands s r i new fired stands more none (subst (λ (q : Servers). SparesOthers (commands_of (server_of s.servers i).applied) (commands_of (server_of q.servers i).applied) fired) is spares) up wakes size lines seen)

@@ -20,16 +20,16 @@ use Rattle.cluster_rules.proofs.Tools.{eq_self, eq_tells_not, neither}
 use Rattle.open_requests.specs.Requests.{Requests, cluster_of}
 use Rattle.cluster_parts.specs.Looking.{is_early, is_look_due, is_stand_due, numbered_in, servers_of}
 use Rattle.cluster_parts.specs.Standing.{IsWatched, Stands}
-use Rattle.cluster_parts.specs.Watching.{MayBeDue, Sleeps, Watching}
+use Rattle.cluster_parts.specs.Watching.{MayBeDue, SameLines, Sleeps, Watching}
 use Rattle.cluster_parts.proofs.Finding.{early_is}
 use Rattle.cluster_parts.proofs.Numbered.{each_numbered, each_one, none_found, number_of_found, one_found}
-use Rattle.cluster_parts.proofs.Watched.{others_stand, rests_so}
+use Rattle.cluster_parts.proofs.Watched.{others_stand, rests_so, same_leave}
 
 -- no request of this number is held
 pub gone_stands : (old new : Watching) (w : World) (servers : List Server) (r : Requests) (number : ℕ) → numbered_in number r.held ≡ None → ((n : ℕ) → n ≢ number → MayBeDue n old → MayBeDue n new)
-    → ((i n : ℕ) (on : List Chan) (until : ℕ) → n ≢ number → Sleeps i n on until old → Sleeps i n on until new) → length new.watch.servers ≡ length old.watch.servers → new.seen ≡ old.seen → Stands old w servers r → Stands new w servers r
-gone_stands old new w servers r number none up down size seen s =
-    others_stand old new w servers r number up down size (omega (arith, seen, s.watching.1)) (go r.held (none_found (λ (h : Pending). h.question.number == number) r.held none)) s
+    → ((i n : ℕ) (on : List Chan) (until : ℕ) → n ≢ number → Sleeps i n on until old → Sleeps i n on until new) → length new.watch.servers ≡ length old.watch.servers → SameLines old new → new.seen ≡ old.seen → Stands old w servers r → Stands new w servers r
+gone_stands old new w servers r number none up down size lines seen s =
+    others_stand old new w servers r number up down size (λ i n stand _ waits. same_leave old new lines i n stand waits) (omega (arith, seen, s.watching.1)) (go r.held (none_found (λ (h : Pending). h.question.number == number) r.held none)) s
   where
     go : (held : List Pending) → Each (λ (h : Pending). (h.question.number == number) ≡ false) held → Each (λ (h : Pending). (h.question.number ≢ number) ⊎ IsWatched new (server_of servers h.server).applied h) held
     go [] all = tt
@@ -56,9 +56,9 @@ not_above wt c i h query mode least wait raw deadline number none found here ask
 pub slept_stands : (old new : Watching) (w : World) (servers : List Server) (r : Requests) (c : Cluster) (i : ℕ) (h : Pending) (query : Query) (mode : Mode) (least wait : ℕ) (raw : Bool) (deadline number : ℕ) (on : List Chan)
     → Stands old w servers r → cluster_of w servers [] r ≡ c → due i c ≡ None → numbered_in number r.held ≡ Some h → h.server ≡ i → h.question.asked ≡ Good (Read query mode least wait raw) → h.stand ≡ ForIndex deadline true
     → on ≡ chans query (catalog_at (commands_of (server_of servers i).applied)) → ((n : ℕ) → n ≢ number → MayBeDue n old → MayBeDue n new) → ((j n : ℕ) (at : List Chan) (until : ℕ) → n ≢ number → Sleeps j n at until old → Sleeps j n at until new)
-    → MayBeDue number new ⊎ Sleeps i number on deadline new → length new.watch.servers ≡ length old.watch.servers → new.seen ≡ old.seen → Stands new w servers r
-slept_stands old new w servers r c i h query mode least wait raw deadline number on s view none found here asked stand hangs up down rests size seen =
-    others_stand old new w servers r number up down size (omega (arith, seen, s.watching.1)) (go r.held (each_numbered r.held s.ascends)) s
+    → MayBeDue number new ⊎ Sleeps i number on deadline new → length new.watch.servers ≡ length old.watch.servers → SameLines old new → new.seen ≡ old.seen → Stands new w servers r
+slept_stands old new w servers r c i h query mode least wait raw deadline number on s view none found here asked stand hangs up down rests size lines seen =
+    others_stand old new w servers r number up down size (λ j n at _ waits. same_leave old new lines j n at waits) (omega (arith, seen, s.watching.1)) (go r.held (each_numbered r.held s.ascends)) s
   where
     own : Cluster
     own = cluster_of w servers [] r
@@ -71,7 +71,7 @@ slept_stands old new w servers r c i h query mode least wait raw deadline number
 
     asleep : MayBeDue number new ⊎ Sleeps i number on deadline new → IsWatched new (server_of servers h.server).applied h
     asleep (inl awake) = inl (subst (λ k. MayBeDue k new) (sym numbered) awake)
-    asleep (inr sleeps) = inr (rests_so new (server_of servers h.server).applied h.server h.question.number h.question.asked h.stand (record {
+    asleep (inr sleeps) = inr (inl (rests_so new (server_of servers h.server).applied h.server h.question.number h.question.asked h.stand (record {
       query = query;
       mode = mode;
       least = least;
@@ -83,7 +83,7 @@ slept_stands old new w servers r c i h query mode least wait raw deadline number
       sleeps = subst (λ k. Sleeps k h.question.number (chans query (catalog_at (commands_of (server_of servers k).applied))) deadline new) (sym here)
           (subst (λ k. Sleeps i k (chans query (catalog_at (commands_of (server_of servers i).applied))) deadline new) (sym numbered) (subst (λ (l : List Chan). Sleeps i number l deadline new) hangs sleeps));
       low = subst (λ k. index_of query (commands_of (server_of servers k).applied) ≤ least) (sym here) low;
-    }))
+    })))
 
     one : (g : Pending) → numbered_in g.question.number r.held ≡ Some g → (g.question.number ≢ number) ⊎ IsWatched new (server_of servers g.server).applied g
     one g mine = at_bool (λ b. (g.question.number == number) ≡ b → (g.question.number ≢ number) ⊎ IsWatched new (server_of servers g.server).applied g) (g.question.number == number)

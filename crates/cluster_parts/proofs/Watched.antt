@@ -1,5 +1,5 @@
 -- What is watched stays watched, whichever requests wake, sleep or are let go of.
-use Rattle.std.proofs.Common.{◌≡◌, ◌≢◌, ◌⊎◌, inl, inr, ℕ, ◌≤◌, Bool, true, false, List, [], ◌∷◌, length, refl, sym, ap, ◌∙◌, subst, arith}
+use Rattle.std.proofs.Common.{◌≡◌, ◌≢◌, ◌⊎◌, inl, inr, ℕ, ◌≤◌, Bool, true, false, List, [], ◌∷◌, length, refl, sym, ap, ◌∙◌, subst}
 use Rattle.std.specs.List.{AllByRecursion as Each}
 use Rattle.cat_model.specs.Channels.{chans}
 use Rattle.cat_model.specs.Indexes.{index_of}
@@ -14,12 +14,13 @@ use Rattle.cat_model.specs.declared.request.Mode.{Mode}
 use Rattle.cat_model.specs.declared.request.Request.TheVariants.{Read, Execute, Write, Renew, Agent}
 use Rattle.raft_model.specs.Log.{Log}
 use Rattle.raft_model.specs.World.{World}
+use Rattle.read_watch.specs.Lines.{Line, WaitsIn}
 use Rattle.read_watch.specs.Watch as plain
 use Rattle.cluster_rules.specs.Cluster.{AtPlace, Ended, ForIndex, InRound, Pending, Server, Stand, server_of}
 use Rattle.replica.specs.Sparing.{SparesOthers}
 use Rattle.open_requests.specs.Requests.{Requests}
 use Rattle.cluster_parts.specs.Standing.{IsHeld, IsWatched, Rests, Stands}
-use Rattle.cluster_parts.specs.Watching.{MayBeDue, Sleeps, StayAwake, Watching}
+use Rattle.cluster_parts.specs.Watching.{IsInLine, LeaveLine, MayBeDue, SameLines, Sleeps, StayAwake, StayInLine, Watching}
 
 -- a request that rests, with what it asks and where it stands
 pub record RestsAs (watch : Watching) (applied : Log) (server number : ℕ) (asked : Asked) (stand : Stand) : Type 0 where
@@ -62,31 +63,54 @@ rests_so watch applied server number asked stand x =
     subst (λ (a : Asked). Rests watch applied server number a stand) (sym x.asked_is)
     (subst (λ (s : Stand). Rests watch applied server number (Good (Read x.query x.mode x.least x.wait x.raw)) s) (sym x.stand_is) (x.sleeps, x.low))
 
+-- where nobody joined or left a line, who is in line stays there
+pub same_stay : (old new : Watching) → SameLines old new → StayInLine old new
+same_stay old new same i n (AtPlace index term) x = subst (λ (lines : List Line). WaitsIn i n 0 index lines) (sym same.0) x
+same_stay old new same i n (InRound round deadline) x = subst (λ (lines : List Line). WaitsIn i n round.term round.number lines) (sym same.1) x
+same_stay old new same i n (ForIndex deadline looked) x = absurd x
+same_stay old new same i n (Ended event) x = absurd x
+
+pub stay_leave : (old new : Watching) → StayInLine old new → LeaveLine old new
+stay_leave old new stay i n stand x = inr (stay i n stand x)
+
+pub same_leave : (old new : Watching) → SameLines old new → LeaveLine old new
+same_leave old new same = stay_leave old new (same_stay old new same)
+
+-- what is awake or in line is watched
+pub in_line : (watch : Watching) (applied : Log) (h : Pending) → MayBeDue h.question.number watch ⊎ IsInLine h.server h.question.number h.stand watch → IsWatched watch applied h
+in_line watch applied h (inl awake) = inl awake
+in_line watch applied h (inr waits) = inr (inr waits)
+
 -- The request waits at this server, whose log is the same.
 pub watched_by : (old new : Watching) (applied : Log) (h : Pending) → (MayBeDue h.question.number old → MayBeDue h.question.number new)
-    → ((on : List Chan) (until : ℕ) → Sleeps h.server h.question.number on until old → MayBeDue h.question.number new ⊎ Sleeps h.server h.question.number on until new) → IsWatched old applied h → IsWatched new applied h
-watched_by old new applied h up down (inl awake) = inl (up awake)
-watched_by old new applied h up down (inr rests) = go (rests_as old applied h.server h.question.number h.question.asked h.stand rests)
+    → ((on : List Chan) (until : ℕ) → Sleeps h.server h.question.number on until old → MayBeDue h.question.number new ⊎ Sleeps h.server h.question.number on until new)
+    → (IsInLine h.server h.question.number h.stand old → MayBeDue h.question.number new ⊎ IsInLine h.server h.question.number h.stand new) → IsWatched old applied h → IsWatched new applied h
+watched_by old new applied h up down lines (inl awake) = inl (up awake)
+watched_by old new applied h up down lines (inr (inr waits)) = in_line new applied h (lines waits)
+watched_by old new applied h up down lines (inr (inl rests)) = go (rests_as old applied h.server h.question.number h.question.asked h.stand rests)
   where
     by : (r : RestsAs old applied h.server h.question.number h.question.asked h.stand) → MayBeDue h.question.number new ⊎ Sleeps h.server h.question.number (chans r.query (catalog_at (commands_of applied))) r.deadline new → IsWatched new applied h
     by r (inl awake) = inl awake
-    by r (inr sleeps) = inr (rests_so new applied h.server h.question.number h.question.asked h.stand (record { query = r.query; mode = r.mode; least = r.least; wait = r.wait; raw = r.raw; deadline = r.deadline; asked_is = r.asked_is; stand_is = r.stand_is; sleeps = sleeps; low = r.low }))
+    by r (inr sleeps) =
+        inr (inl (rests_so new applied h.server h.question.number h.question.asked h.stand (record { query = r.query; mode = r.mode; least = r.least; wait = r.wait; raw = r.raw; deadline = r.deadline; asked_is = r.asked_is; stand_is = r.stand_is; sleeps = sleeps; low = r.low })))
 
     go : RestsAs old applied h.server h.question.number h.question.asked h.stand → IsWatched new applied h
     go r = by r (down (chans r.query (catalog_at (commands_of applied))) r.deadline r.sleeps)
 
 -- At its server, more was applied, which fired these channels.
 pub fired_watched : (old new : Watching) (applied applied' : Log) (fired : List Chan) (h : Pending) → SparesOthers (commands_of applied) (commands_of applied') fired → (MayBeDue h.question.number old → MayBeDue h.question.number new)
-    → ((on : List Chan) (until : ℕ) → Sleeps h.server h.question.number on until old → MayBeDue h.question.number new ⊎ (Sleeps h.server h.question.number on until new × (is_on fired on ≡ false))) → IsWatched old applied h → IsWatched new applied' h
-fired_watched old new applied applied' fired h spares up down (inl awake) = inl (up awake)
-fired_watched old new applied applied' fired h spares up down (inr rests) = go (rests_as old applied h.server h.question.number h.question.asked h.stand rests)
+    → ((on : List Chan) (until : ℕ) → Sleeps h.server h.question.number on until old → MayBeDue h.question.number new ⊎ (Sleeps h.server h.question.number on until new × (is_on fired on ≡ false)))
+    → (IsInLine h.server h.question.number h.stand old → MayBeDue h.question.number new ⊎ IsInLine h.server h.question.number h.stand new) → IsWatched old applied h → IsWatched new applied' h
+fired_watched old new applied applied' fired h spares up down lines (inl awake) = inl (up awake)
+fired_watched old new applied applied' fired h spares up down lines (inr (inr waits)) = in_line new applied' h (lines waits)
+fired_watched old new applied applied' fired h spares up down lines (inr (inl rests)) = go (rests_as old applied h.server h.question.number h.question.asked h.stand rests)
   where
     by : (r : RestsAs old applied h.server h.question.number h.question.asked h.stand)
         → MayBeDue h.question.number new ⊎ (Sleeps h.server h.question.number (chans r.query (catalog_at (commands_of applied))) r.deadline new × (is_on fired (chans r.query (catalog_at (commands_of applied))) ≡ false)) → IsWatched new applied' h
     by r (inl awake) = inl awake
     by r (inr (sleeps, off)) =
         let same = spares r.query off in
-        inr (rests_so new applied' h.server h.question.number h.question.asked h.stand (record {
+        inr (inl (rests_so new applied' h.server h.question.number h.question.asked h.stand (record {
           query = r.query;
           mode = r.mode;
           least = r.least;
@@ -97,7 +121,7 @@ fired_watched old new applied applied' fired h spares up down (inr rests) = go (
           stand_is = r.stand_is;
           sleeps = subst (λ (on : List Chan). Sleeps h.server h.question.number on r.deadline new) (sym same.1) sleeps;
           low = subst (λ k. k ≤ r.least) (sym same.0) r.low;
-        }))
+        })))
 
     go : RestsAs old applied h.server h.question.number h.question.asked h.stand → IsWatched new applied' h
     go r = by r (down (chans r.query (catalog_at (commands_of applied))) r.deadline r.sleeps)
@@ -132,19 +156,19 @@ each_so P f (h ∷ held) = (f h, each_so P f held)
 sleeps_same : (old new : Watching) → new.watch.servers ≡ old.watch.servers → (i n : ℕ) (on : List Chan) (until : ℕ) → Sleeps i n on until old → Sleeps i n on until new
 sleeps_same old new same i n on until s = subst (λ (ss : List plain.Sleepers). plain.SleepsAmong n on until (plain.sleepers_of ss i)) (sym same) s
 
-pub woken_stands : (old new : Watching) (w : World) (servers : List Server) (r : Requests) → StayAwake old new → new.watch.servers ≡ old.watch.servers → new.seen ≤ r.asked → Stands old w servers r → Stands new w servers r
-woken_stands old new w servers r up same seen s =
+pub woken_stands : (old new : Watching) (w : World) (servers : List Server) (r : Requests) → StayAwake old new → new.watch.servers ≡ old.watch.servers → LeaveLine old new → new.seen ≤ r.asked → Stands old w servers r → Stands new w servers r
+woken_stands old new w servers r up same lines seen s =
     stands_by old new w servers r (ap length same) seen
     (each_so (λ (h : Pending). IsWatched old (server_of servers h.server).applied h → IsWatched new (server_of servers h.server).applied h)
-    (λ h. watched_by old new (server_of servers h.server).applied h (up h.question.number) (λ on until x. inr (sleeps_same old new same h.server h.question.number on until x))) r.held) s
+    (λ h. watched_by old new (server_of servers h.server).applied h (up h.question.number) (λ on until x. inr (sleeps_same old new same h.server h.question.number on until x)) (lines h.server h.question.number h.stand)) r.held) s
 
 -- those of a server wake whose time is over
 pub over_stands : (old new : Watching) (w : World) (servers : List Server) (r : Requests) (Later : ℕ → ℕ → Type 0) → StayAwake old new
-    → ((i n : ℕ) (on : List Chan) (until : ℕ) → Sleeps i n on until old → MayBeDue n new ⊎ (Sleeps i n on until new × Later i until)) → length new.watch.servers ≡ length old.watch.servers → new.seen ≤ r.asked → Stands old w servers r → Stands new w servers r
-over_stands old new w servers r Later up down size seen s =
+    → ((i n : ℕ) (on : List Chan) (until : ℕ) → Sleeps i n on until old → MayBeDue n new ⊎ (Sleeps i n on until new × Later i until)) → length new.watch.servers ≡ length old.watch.servers → LeaveLine old new → new.seen ≤ r.asked → Stands old w servers r → Stands new w servers r
+over_stands old new w servers r Later up down size lines seen s =
     stands_by old new w servers r size seen
     (each_so (λ (h : Pending). IsWatched old (server_of servers h.server).applied h → IsWatched new (server_of servers h.server).applied h)
-    (λ h. watched_by old new (server_of servers h.server).applied h (up h.question.number) (λ on until x. first (down h.server h.question.number on until x))) r.held) s
+    (λ h. watched_by old new (server_of servers h.server).applied h (up h.question.number) (λ on until x. first (down h.server h.question.number on until x)) (lines h.server h.question.number h.stand)) r.held) s
   where
     first : {A B C : Type 0} → A ⊎ (B × C) → A ⊎ B
     first (inl a) = inl a
@@ -152,23 +176,17 @@ over_stands old new w servers r Later up down size seen s =
 
 -- All but those of one number stay as they are. Of that one no request is held, or the held one is watched.
 pub others_stand : (old new : Watching) (w : World) (servers : List Server) (r : Requests) (number : ℕ) → ((n : ℕ) → n ≢ number → MayBeDue n old → MayBeDue n new)
-    → ((i n : ℕ) (on : List Chan) (until : ℕ) → n ≢ number → Sleeps i n on until old → Sleeps i n on until new) → length new.watch.servers ≡ length old.watch.servers → new.seen ≤ r.asked
+    → ((i n : ℕ) (on : List Chan) (until : ℕ) → n ≢ number → Sleeps i n on until old → Sleeps i n on until new) → length new.watch.servers ≡ length old.watch.servers
+    → ((i n : ℕ) (stand : Stand) → n ≢ number → IsInLine i n stand old → MayBeDue n new ⊎ IsInLine i n stand new) → new.seen ≤ r.asked
     → Each (λ (h : Pending). (h.question.number ≢ number) ⊎ IsWatched new (server_of servers h.server).applied h) r.held → Stands old w servers r → Stands new w servers r
-others_stand old new w servers r number up down size seen each s = stands_by old new w servers r size seen (go r.held each) s
+others_stand old new w servers r number up down size lines seen each s = stands_by old new w servers r size seen (go r.held each) s
   where
     one : (h : Pending) → (h.question.number ≢ number) ⊎ IsWatched new (server_of servers h.server).applied h → IsWatched old (server_of servers h.server).applied h → IsWatched new (server_of servers h.server).applied h
-    one h (inl other) x = watched_by old new (server_of servers h.server).applied h (up h.question.number other) (λ on until z. inr (down h.server h.question.number on until other z)) x
+    one h (inl other) x =
+        watched_by old new (server_of servers h.server).applied h (up h.question.number other) (λ on until z. inr (down h.server h.question.number on until other z)) (lines h.server h.question.number h.stand other) x
     one h (inr there) x = there
 
     go : (held : List Pending) → Each (λ (h : Pending). (h.question.number ≢ number) ⊎ IsWatched new (server_of servers h.server).applied h) held
         → Each (λ (h : Pending). IsWatched old (server_of servers h.server).applied h → IsWatched new (server_of servers h.server).applied h) held
     go [] e = tt
     go (h ∷ held) e = (one h e.0, go held e.1)
-
--- new requests are taken in, and those of a server wake whose time is over
-pub looked_at : (old mid new : Watching) (w : World) (servers : List Server) (r : Requests) (asked : ℕ) (Later : ℕ → ℕ → Type 0) → asked ≡ r.asked → StayAwake old mid → mid.watch.servers ≡ old.watch.servers → mid.seen ≤ asked → StayAwake mid new
-    → ((i n : ℕ) (on : List Chan) (until : ℕ) → Sleeps i n on until mid → MayBeDue n new ⊎ (Sleeps i n on until new × Later i until)) → length new.watch.servers ≡ length mid.watch.servers → new.seen ≡ mid.seen → Stands old w servers r
-    → Stands mid w servers r × Stands new w servers r
-looked_at old mid new w servers r asked Later n up same seen on down size still s =
-    let first = woken_stands old mid w servers r up same (omega (arith, seen, n)) s in
-    (first, over_stands mid new w servers r Later on down size (omega (arith, seen, n, still)) first)

@@ -1,6 +1,6 @@
 -- Which of the held requests has something due at a server, by the servers of the cluster.
-use Rattle.std.specs.Prelude.{◌≡◌, ℕ, ◌-◌, nat_le, nat_lt, ◌==◌, not, ◌&&◌, ◌||◌, if◌then◌else◌, Bool, true, false, List, length, take, Option, None, Some}
-use Rattle.std.specs.List.{find}
+use Rattle.std.specs.Prelude.{◌≡◌, ◌⊎◌, ℕ, ◌-◌, nat_le, nat_lt, ◌==◌, not, ◌&&◌, ◌||◌, if◌then◌else◌, Bool, true, false, List, length, take, Option, None, Some}
+use Rattle.std.specs.List.{AllByRecursion as Each, find}
 use Rattle.cat_model.specs.declared.command.Command.{Command}
 use Rattle.cat_model.specs.declared.query.Query.{Query}
 use Rattle.cat_model.specs.declared.request.Request.TheVariants.{Read, Execute}
@@ -20,6 +20,7 @@ use Rattle.cluster_rules.specs.Replies.{Question, entered}
 use Rattle.cluster_rules.specs.Cluster.{Cluster, Pending, Stand, AtPlace, InRound, ForIndex, Ended, clock_of, node_of, server_of}
 use Rattle.cluster_rules.specs.Due.{Work, Replies, Holds}
 use Rattle.cluster_servers.specs.Servers.{Servers}
+use Rattle.cluster_parts.specs.Watching.{Watching, MayBeDue}
 
 -- what a server has applied
 abbrev pub applied_at : Servers → ℕ → Log
@@ -53,6 +54,10 @@ is_early s i h = h.server == i && ((node_of s.world i).halted || is_stand_due s 
 -- A round that is confirmed at a server that runs, with its commit applied.
 abbrev pub is_round_over : Servers → ℕ → Round → Bool
 is_round_over s i round = not (node_of s.world i).halted && (is_confirmed (node_of s.world i) round && nat_le round.commit (length (applied_at s i)))
+
+-- A round of this term and number waits for nothing more: its term is over, or it is confirmed.
+abbrev pub is_round_past : Servers → (i term number : ℕ) → Bool
+is_round_past s i term number = nat_lt term (node_of s.world i).term || is_confirmed (node_of s.world i) (record { term = term; number = number; commit = 0 })
 
 -- what waits for a round that is over
 abbrev pub is_stand_late : Servers → ℕ → Stand → Bool
@@ -90,3 +95,7 @@ RepliesLast q position log command = last_reply (commands_of log) ≡ Some (repl
 -- The request is a write, and what was applied last is its entry at this position.
 abbrev pub IsAppliedLast : Question → ℕ → Log → Type 0
 IsAppliedLast q position log = IsWrite q.asked (RepliesLast q position log)
+
+-- Nothing is due of any of these held requests at server i, but for those of which something may be.
+abbrev pub OnlyAwakeIsDue : Watching → Servers → ℕ → List Pending → Type 0
+OnlyAwakeIsDue watch s i held = Each (λ h. MayBeDue h.question.number watch ⊎ ((is_early s i h ≡ false) × (is_late s i h ≡ false))) held

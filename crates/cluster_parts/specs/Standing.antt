@@ -12,7 +12,7 @@ use Rattle.cat_model.specs.Machine.{catalog_at}
 use Rattle.raft_model.specs.Facts.{IsPlaced}
 use Rattle.raft_model.specs.Log.{Log}
 use Rattle.raft_model.specs.World.{World, IsReached}
-use Rattle.cluster_parts.specs.Watching.{Watching, MayBeDue, Sleeps}
+use Rattle.cluster_parts.specs.Watching.{Watching, IsInLine, MayBeDue, Sleeps}
 use Rattle.request_rules.specs.Taken.{IsTakenAsked}
 use Rattle.cluster_rules.specs.Cluster.{Stand, AtPlace, ForIndex, Pending, Server, node_of, server_of}
 use Rattle.cluster_rules.specs.Lasting.{IsWrite}
@@ -37,10 +37,10 @@ Rests watch applied server number (Good (Read query mode least wait raw)) (ForIn
     Sleeps server number (chans query (catalog_at (commands_of applied))) deadline watch × (index_of query (commands_of applied) ≤ least)
 Rests watch applied server number asked stand = ⊥
 
--- A held request of which nothing may be due rests: nothing is due of it before its server applies what changes its answer, or its
--- time is over.
+-- A held request of which nothing may be due rests, so that nothing is due of it before its server applies what changes its answer
+-- or its time is over, or it is in line at its server for what it waits for.
 abbrev pub IsWatched : Watching → Log → Pending → Type 0
-IsWatched watch applied h = MayBeDue h.question.number watch ⊎ Rests watch applied h.server h.question.number h.question.asked h.stand
+IsWatched watch applied h = MayBeDue h.question.number watch ⊎ (Rests watch applied h.server h.question.number h.question.asked h.stand ⊎ IsInLine h.server h.question.number h.stand watch)
 
 -- a held request is one of those that are taken so far, with a number that was given, and is watched
 pub record IsHeld (watch : Watching) (w : World) (servers : List Server) (asked : ℕ) (h : Pending) : Type 0 where

@@ -3,7 +3,7 @@
 ghost use Rattle.std.specs.Prelude.{◌≡◌, IfOk};
 
 use cat_model::{Asked, Command, Draw, Entry, List, Memory, Refusal, Shared};
-use open_requests::{Question, copy_asked};
+use open_requests::Question;
 use std::alloc::Global;
 
 /// A copy of a command.
@@ -39,10 +39,10 @@ pub fn copy_entries(alloc: Global, entries: &[Entry]) -> Result<List<Entry>, Mem
 pub fn copied_question(
     number: u64,
     agent: u32,
-    asked: &Asked,
+    asked: &Shared<Asked>,
     draw: Draw,
 ) -> Result<Question, Memory>
     ensures { IfOk result (λ question. question ≡ record { number = number; agent = agent; asked = asked.now; draw = draw }) }
 {
-    Ok(Question::new(number, agent, copy_asked(asked)?, draw))
+    Ok(Question::new(number, agent, asked.share()?, draw))
 }

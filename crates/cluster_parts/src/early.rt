@@ -8,7 +8,7 @@ ghost use Rattle.cluster_rules.specs.Cluster.{node_of};
 ghost use Rattle.cluster_rules.specs.Sound.{Ascends};
 ghost use Rattle.open_requests.specs.Contents.{stand_of};
 ghost use Rattle.open_requests.specs.Held.{held_in, pending_of};
-ghost use Rattle.cluster_parts.specs.Looking.{is_early, is_look_due, is_number_early, is_read_due, is_stand_due, test_held};
+ghost use Rattle.cluster_parts.specs.Looking.{OnlyAwakeIsDue, is_early, is_look_due, is_number_early, is_read_due, is_stand_due, test_held};
 ghost use Rattle.cluster_parts.specs.Standing.{Stands};
 
 use crate::watching::Watching;
@@ -16,7 +16,6 @@ use cat_model::{Asked, Query, Request};
 use cat_outside::Keeper;
 use cluster_servers::Servers;
 use open_requests::{HeldSlot, Pending, Requests, Stand};
-use std::alloc::Global;
 
 /// The server's durable store failed, and it has not restarted since.
 pub(crate) fn is_halted<K: Keeper>(servers: &Servers<K>, server: u32) -> bool
@@ -166,26 +165,21 @@ fn early_held<K: Keeper>(servers: &Servers<K>, requests: &Requests, server: u32)
     }
 }
 
-/// The number of a held request of which something is due at the server. Those that sleep are not looked at, unless the
-/// server has halted, or memory ran out.
+/// The number of a held request of which something is due at the server. Those that are not awake are not looked at,
+/// unless memory ran out.
 pub(crate) fn early_number<K: Keeper>(
     servers: &Servers<K>,
     requests: &Requests,
-    watch: &mut Watching,
-    alloc: Global,
+    watch: &Watching,
     server: u32,
 ) -> Option<u64>
     requires server { IsNumber server servers.now.world }
-    requires stands { Stands watch.old servers.now.world servers.now.servers requests.now }
-    ensures stands { Stands watch.new servers.now.world servers.now.servers requests.now }
+    requires stands { Stands watch.now servers.now.world servers.now.servers requests.now }
+    requires awake { OnlyAwakeIsDue watch.now servers.now server requests.now.held }
     ensures some { IfSome result (λ number. is_number_early servers.now requests.now.held server number ≡ true) }
     ensures none { IfNone result (Each (λ h. is_early servers.now server h ≡ false) requests.now.held) }
 {
-    let asked = requests.asked();
-    watch.take_in(asked);
-    let clock = servers.clock(server);
-    watch.wake_over(alloc, server, clock);
-    if is_halted(servers, server) || !watch.covers(asked) {
+    if !watch.covers(requests.asked()) {
         return early_held(servers, requests, server);
     }
     early_awake(servers, requests, server, watch.awake())

@@ -8,7 +8,7 @@ ghost use Rattle.cluster_rules.specs.Due.{next_work};
 ghost use Rattle.cluster_rules.specs.Sound.{Ascends};
 ghost use Rattle.open_requests.specs.Contents.{stand_of};
 ghost use Rattle.open_requests.specs.Held.{held_in, pending_of};
-ghost use Rattle.cluster_parts.specs.Looking.{is_early, is_late, is_number_late, is_round_over, is_stand_late, test_held};
+ghost use Rattle.cluster_parts.specs.Looking.{OnlyAwakeIsDue, is_early, is_late, is_number_late, is_round_over, is_stand_late, test_held};
 ghost use Rattle.cluster_parts.specs.Standing.{Stands};
 ghost use Rattle.cluster_parts.specs.Evaluating.{evaluations_of};
 ghost use Rattle.cluster_parts.specs.Working.{Finds, whole};
@@ -136,7 +136,8 @@ fn late_held<K: Keeper + Drop>(
     }
 }
 
-// The number of a held request of the server whose round is over. One that sleeps waits for no round.
+// The number of a held request of the server whose round is over. Those that are not awake are not looked at, unless
+// memory ran out.
 fn late_number<K: Keeper + Drop>(
     servers: &Servers<K>,
     requests: &Requests,
@@ -145,6 +146,7 @@ fn late_number<K: Keeper + Drop>(
 ) -> Option<u64>
     requires server { IsNumber server servers.now.world }
     requires stands { Stands watch.now servers.now.world servers.now.servers requests.now }
+    requires awake { OnlyAwakeIsDue watch.now servers.now server requests.now.held }
     ensures some { IfSome result (λ number. is_number_late servers.now requests.now.held server number ≡ true) }
     ensures none { IfNone result (Each (λ h. is_late servers.now server h ≡ false) requests.now.held) }
 {
@@ -182,6 +184,7 @@ pub(crate) fn late_due<K: Keeper + Drop>(
 ) -> Option<Work>
     requires server { IsNumber server servers.now.world }
     requires stands { Stands watch.now servers.now.world servers.now.servers requests.now }
+    requires awake { OnlyAwakeIsDue watch.now servers.now server requests.now.held }
     requires none { Each (λ h. is_early servers.now server h ≡ false) requests.now.held }
     requires applied { next_work (whole servers.now requests.now) server ≡ None }
     ensures found { Finds (whole servers.now requests.now) server result }

@@ -9,7 +9,7 @@ ghost use Rattle.cluster_rules.specs.Cluster.{AtPlace, node_of, server_of};
 ghost use Rattle.cluster_rules.specs.Due.{Replies, due, early_stand, early_work, landed};
 ghost use Rattle.cluster_rules.specs.Sound.{ServerIsSound};
 ghost use Rattle.cluster_parts.specs.Evaluating.{Counts, evaluations, evaluations_of};
-ghost use Rattle.cluster_parts.specs.Looking.{IsAppliedLast, applied_at, is_early, is_number_early};
+ghost use Rattle.cluster_parts.specs.Looking.{IsAppliedLast, OnlyAwakeIsDue, applied_at, is_early, is_number_early};
 ghost use Rattle.cluster_parts.specs.Standing.{IsAwaited, Stands};
 ghost use Rattle.cluster_parts.specs.Watching.{Watching as SpecWatching};
 ghost use Rattle.cluster_parts.specs.Working.{Finds, IsFound, IsWork, whole};
@@ -20,6 +20,7 @@ use crate::late::late_due;
 use crate::reading::read_due;
 use crate::replying::written;
 use crate::waiting::is_ended;
+use crate::waking::wake_due;
 use crate::watching::Watching;
 use crate::work::Work;
 use cat_model::{Kind, Memory, Steps};
@@ -172,6 +173,7 @@ fn later_due<K: Keeper + Drop>(
 ) -> Option<Work>
     requires server { IsNumber server servers.now.world }
     requires stands { Stands watch.now servers.now.world servers.now.servers requests.now }
+    requires awake { OnlyAwakeIsDue watch.now servers.now server requests.now.held }
     requires none { Each (λ h. is_early servers.now server h ≡ false) requests.now.held }
     ensures found { Finds (whole servers.now requests.now) server result }
     ensures evaluated { evaluations_of result ≡ 0 }
@@ -200,7 +202,8 @@ pub(crate) fn find<K: Keeper + Drop, L: Ledger>(
     ensures behind { OnErr result (due server (whole servers.now requests.now) ≢ None) }
     ensures counted { Counts evaluations_of steps.old steps.new result }
 {
-    match early_number(servers, requests, watch, alloc, server) {
+    wake_due(servers, requests, watch, alloc, server);
+    match early_number(servers, requests, watch, server) {
         Some(number) => match early_of(servers, requests, alloc, server, number, steps) {
             Ok(work) => Ok(Some(work)),
             Err(Memory) => Err(Memory),

@@ -16,24 +16,24 @@ ghost use Rattle.cluster_parts.specs.Newest.{DiffersInRoom, GivesRenewal, answer
 use crate::agents::Agents;
 use crate::copying::copied_question;
 use crate::replying::{own_reply, renewed};
-use cat_model::{AgentOp, Asked, Draw, Memory};
+use cat_model::{AgentOp, Asked, Draw, Memory, Shared};
 use cat_outside::Keeper;
 use cluster_servers::Servers;
-use open_requests::{MarkedReply, Plain, Question, Requests, Stand, Start, copy_asked};
+use open_requests::{MarkedReply, Plain, Question, Requests, Stand, Start};
 use std::alloc::Global;
 
 // Takes room, and gives the request its number.
 fn number_newest(
     requests: &mut Requests,
     agent: u32,
-    asked: &Asked,
+    asked: &Shared<Asked>,
     draw: Draw,
 ) -> Result<(), Memory>
     requires { IsMadeLast requests.old.notes }
     ensures ok { OnOk result (requests.new ≡ numbered_newest agent asked.now draw requests.old) }
     ensures err { OnErr result (requests.new ≡ requests.old) }
 {
-    let copy = copy_asked(asked)?;
+    let copy = asked.share()?;
     if requests.prepare().is_err() {
         drop(copy);
         return Err(Memory);
@@ -46,7 +46,7 @@ fn number_newest(
 pub fn refuse_newest(
     requests: &mut Requests,
     agent: u32,
-    asked: &Asked,
+    asked: &Shared<Asked>,
     draw: Draw,
     why: Plain,
 ) -> Result<(), Memory>
@@ -64,7 +64,7 @@ pub fn refuse_newest(
 fn hold_question(
     requests: &mut Requests,
     server: u32,
-    asked: &Asked,
+    asked: &Shared<Asked>,
     question: Question,
     deadline: u64,
     applied: u64,
@@ -99,7 +99,7 @@ pub fn hold_newest(
     requests: &mut Requests,
     server: u32,
     agent: u32,
-    asked: &Asked,
+    asked: &Shared<Asked>,
     draw: Draw,
     deadline: u64,
     applied: u64,
@@ -118,7 +118,7 @@ pub fn hold_newest(
 pub fn answer_newest(
     requests: &mut Requests,
     agent: u32,
-    asked: &Asked,
+    asked: &Shared<Asked>,
     draw: Draw,
     reply: MarkedReply,
 ) -> Result<(), Memory>
@@ -137,15 +137,15 @@ pub fn answer_newest(
 // An answer that was made before, with a copy of what was asked.
 #[derive(Drop)]
 struct NewAnswer {
-    asked: Asked,
+    asked: Shared<Asked>,
     reply: MarkedReply,
 }
 
 // A copy of what was asked beside its reply.
-fn with_copy(asked: &Asked, reply: MarkedReply) -> Result<NewAnswer, Memory>
+fn with_copy(asked: &Shared<Asked>, reply: MarkedReply) -> Result<NewAnswer, Memory>
     ensures { IfOk result (λ answer. answer ≡ record { asked = asked.now; reply = reply }) }
 {
-    match copy_asked(asked) {
+    match asked.share() {
         Ok(asked) => Ok(NewAnswer { asked, reply }),
         Err(Memory) => {
             drop(reply);
@@ -202,7 +202,7 @@ pub fn renew_newest<K: Keeper>(
     requests: &mut Requests,
     server: u32,
     agent: u32,
-    asked: &Asked,
+    asked: &Shared<Asked>,
     draw: Draw,
     id: u128,
 ) -> Result<(), Memory>
@@ -250,7 +250,7 @@ pub fn answer_own(
     requests: &mut Requests,
     alloc: Global,
     agent: u32,
-    asked: &Asked,
+    asked: &Shared<Asked>,
     op: &AgentOp,
     draw: Draw,
 ) -> Result<(), Memory>

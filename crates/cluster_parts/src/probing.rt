@@ -7,8 +7,8 @@ ghost use Rattle.cluster_parts.specs.Asking.{EndsProbe, HoldsRead};
 
 use crate::copying::copied_question;
 use crate::moving::{Seen, mark_step};
-use cat_model::{Asked, Draw, Memory};
-use open_requests::{Question, Requests, Stand, Start, copy_asked};
+use cat_model::{Asked, Draw, Memory, Shared};
+use open_requests::{Question, Requests, Stand, Start};
 use raft_model::Round;
 use raft_node::ProbeFault;
 
@@ -16,7 +16,7 @@ use raft_node::ProbeFault;
 #[derive(Drop)]
 pub struct NewRead {
     /// What is asked.
-    pub asked: Asked,
+    pub asked: Shared<Asked>,
     /// The same with its number.
     pub question: Question,
 }
@@ -79,11 +79,16 @@ pub fn end_probe(
 }
 
 /// The copies of a read with this number.
-pub fn read_copies(number: u64, agent: u32, asked: &Asked, draw: Draw) -> Result<NewRead, Memory>
+pub fn read_copies(
+    number: u64,
+    agent: u32,
+    asked: &Shared<Asked>,
+    draw: Draw,
+) -> Result<NewRead, Memory>
     ensures { IfOk result (λ read. read ≡ record { asked = asked.now; question = record { number = number; agent = agent; asked = asked.now; draw = draw } }) }
 {
     let question = copied_question(number, agent, asked, draw)?;
-    match copy_asked(asked) {
+    match asked.share() {
         Ok(asked) => Ok(NewRead { asked, question }),
         Err(Memory) => {
             drop(question);

@@ -116,6 +116,8 @@ pub(crate) fn perform<K: Keeper>(
         }
         Work::Hold { number, stand } => {
             requests.restand(number, stand);
+            // It waits no more for what it may be in line for.
+            watch.wake(number);
             Ok(())
         }
         Work::Close { number, event } => close(requests, watch, server, number, event),

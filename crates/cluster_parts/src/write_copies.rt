@@ -7,7 +7,7 @@ ghost use Rattle.cluster_rules.specs.Replies.{entered};
 use crate::entering::entered;
 use crate::writing::Write;
 use cat_model::{Asked, Command, Entry, Memory, Shared};
-use open_requests::{Question, copy_asked};
+use open_requests::Question;
 use raft_node::batch::command_bytes;
 use std::alloc::Global;
 
@@ -39,13 +39,13 @@ fn total(alloc: Global, bytes: u64, command: &Command) -> Result<u64, Memory>
 fn with_bytes(
     question: Question,
     entry: Entry,
-    asked: &Asked,
+    asked: &Shared<Asked>,
     entries: u64,
     bytes: u64,
 ) -> Result<Write, Memory>
     ensures { IfOk result (λ write. write ≡ record { asked = asked.now; question = question; entry = entry; entries = entries; bytes = bytes }) }
 {
-    match copy_asked(asked) {
+    match asked.share() {
         Ok(asked) => Ok(Write {
             asked,
             question,
@@ -66,7 +66,7 @@ fn with_entry(
     alloc: Global,
     question: Question,
     entry: Entry,
-    asked: &Asked,
+    asked: &Shared<Asked>,
     entries: u64,
     before: u64,
 ) -> Result<Write, Memory>
@@ -87,7 +87,7 @@ pub fn with_question(
     alloc: Global,
     question: Question,
     term: u64,
-    asked: &Asked,
+    asked: &Shared<Asked>,
     command: &Shared<Command>,
     entries: u64,
     before: u64,

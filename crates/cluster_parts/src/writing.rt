@@ -7,7 +7,7 @@ ghost use Rattle.open_requests.specs.Plain.{refusal_of};
 ghost use Rattle.cluster_parts.specs.Asking.{EndsWrite, HoldsWrite, RefusesWrite};
 
 use crate::moving::{Seen, mark_step};
-use cat_model::{Asked, Entry, Memory};
+use cat_model::{Asked, Entry, Memory, Shared};
 use open_requests::{Plain, Question, Requests, Stand, Start};
 use raft_model::Place;
 use raft_node::ProposeFault;
@@ -16,7 +16,7 @@ use raft_node::ProposeFault;
 #[derive(Drop)]
 pub struct Write {
     /// What is asked.
-    pub asked: Asked,
+    pub asked: Shared<Asked>,
     /// The same with its number.
     pub question: Question,
     /// The entry that it enters.

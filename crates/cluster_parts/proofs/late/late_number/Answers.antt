@@ -9,5 +9,5 @@ returns-clause-some g c = some_awake (is_number_late c.args.servers.now c.args.r
 
 pub returns-clause-none : goal.returns-clause-none
 returns-clause-none g c =
-    late_none c.args.watch.now c.args.servers.now c.args.requests.now c.args.server c.asked.result c.awake.result.now c.late_awake.result c.requires.stands c.asked.ensures
+    late_none c.args.watch.now c.args.servers.now c.args.requests.now c.args.server c.asked.result c.awake.result.now c.late_awake.result c.requires.stands c.requires.awake c.asked.ensures
     (c.if-not-covers.ensures refl) c.awake.ensures c.late_awake.ensures

@@ -1,8 +1,9 @@
-use Rattle.std.proofs.Common.{◌≡◌, [], refl}
+use Rattle.std.proofs.Common.{◌≡◌, [], refl, arith}
 use Rattle.open_requests.specs.Contents.{stand_of}
 use Rattle.open_requests.specs.Requests.{cluster_of}
 use Rattle.cluster_parts.specs.Working.{closed, whole}
 use Rattle.cluster_parts.proofs.Dues.{answer_done, answer_told, apply_done, apply_due, close_done, closed_told, hold_done, hold_due, restand_is, restand_stands}
+use Rattle.cluster_parts.proofs.Watched.{same_leave, woken_stands}
 use Rattle.cluster_parts.proofs.working.perform.Goals as goal
 
 pub apply_next-requires-clause-next : goal.apply_next-requires-clause-next
@@ -24,7 +25,9 @@ returns-in-Hold-clause-done g c =
 pub returns-in-Hold-clause-stands : goal.returns-in-Hold-clause-stands
 returns-in-Hold-clause-stands g c =
     let h = hold_due c.args.watch.now (whole c.args.servers.now c.args.requests.now) c.args.server c.args.work c.in-Hold.number c.in-Hold.stand c.requires.due c.in-Hold.is in
-    restand_stands c.args.watch.now c.args.servers.now.world c.args.servers.now.servers c.args.requests.now c.restand.new.self (whole c.args.servers.now c.args.requests.now) c.in-Hold.number (stand_of c.in-Hold.stand) c.requires.stands refl h.0 h.1 h.2 h.3 h.4 c.restand.ensures
+    let woken = woken_stands c.args.watch.now c.wake.new.self c.args.servers.now.world c.args.servers.now.servers c.args.requests.now c.wake.ensures.kept c.wake.ensures.servers (same_leave c.args.watch.now c.wake.new.self c.wake.ensures.lines)
+    (omega (arith, c.wake.ensures.seen, c.requires.stands.watching.1)) c.requires.stands in
+    restand_stands c.wake.new.self c.args.servers.now.world c.args.servers.now.servers c.args.requests.now c.restand.new.self (whole c.args.servers.now c.args.requests.now) c.in-Hold.number (stand_of c.in-Hold.stand) woken refl h.0 h.1 h.2 h.3 h.4 c.wake.ensures.woken c.restand.ensures
 
 pub returns-in-Close-clause-done : goal.returns-in-Close-clause-done
 returns-in-Close-clause-done g c =
