@@ -8,6 +8,7 @@ ghost use Rattle.session_table.specs.contracts.table.SessionTable as sessions;
 ghost use Rattle.query_table.specs.contracts.table.QueryTable as queries;
 ghost use Rattle.table_index.specs.contracts.index.TableIndex as indexes;
 ghost use Rattle.cat_model.specs.contracts.command.Command as command;
+ghost use Rattle.cat_model.specs.contracts.request.Asked as asked;
 ghost use Rattle.cat_model.specs.contracts.shared.Shared as shared;
 ghost use Rattle.catalog_store.specs.contracts.store.Store as store;
 ghost use Rattle.cat_model.specs.contracts.applied.Applied as applied;
@@ -16,6 +17,9 @@ ghost use Rattle.session_ttl.specs.contracts.office.Office as office;
 ghost use Rattle.session_ttl.specs.contracts.timers.SessionTimers as timers;
 ghost use Rattle.replica.specs.contracts.replica.Replica as replica;
 ghost use Rattle.agent_state.specs.contracts.agent.Agent as agent;
+ghost use Rattle.open_requests.specs.contracts.content.Content as content;
+ghost use Rattle.open_requests.specs.contracts.note.Note as note;
+ghost use Rattle.open_requests.specs.contracts.out.Out as out;
 ghost use Rattle.open_requests.specs.contracts.requests.Requests as requests;
 ghost use Rattle.cat_outside.specs.contracts.mem_keeper.MemKeeper as mem_keeper;
 ghost use Rattle.cat_outside.specs.contracts.mem_keeper.MemKeeperKeeper.TheImpl.{ghosts};
@@ -27,7 +31,7 @@ ghost use Rattle.read_watch.specs.contracts.watching.Watch as watch;
 ghost use Rattle.cluster.specs.contracts.cluster.Cluster as cluster;
 
 use agent_state::Agent;
-use cat_model::{Applied, Command, Shared};
+use cat_model::{Applied, Asked, Command, Shared};
 use cat_outside::MemKeeper;
 use catalog_store::Store;
 use catalog_table::CatalogTable;
@@ -35,7 +39,7 @@ use cluster::Cluster;
 use cluster_servers::Servers;
 use kv_table::KvTable;
 use lock_delay::LockDelay;
-use open_requests::Requests;
+use open_requests::{Content, Note, Out, Requests};
 use query_table::QueryTable;
 use raft_world::World;
 use read_watch::Watch;
@@ -147,9 +151,39 @@ fn agents_send()
     sends::<Agent>();
 }
 
+fn asked_sends()
+    ensures { IsSend (shared.the_row asked.the_row) }
+{
+    sends::<Shared<Asked>>();
+}
+
+fn contents_send()
+    ensures { IsSend content.the_row }
+{
+    sends::<Content>();
+}
+
+fn outs_send()
+    ensures { IsSend out.the_row }
+{
+    contents_send();
+    sends::<Out>();
+}
+
+fn notes_send()
+    ensures { IsSend note.the_row }
+{
+    asked_sends();
+    commands_send();
+    sends::<Note>();
+}
+
 fn requests_send()
     ensures { IsSend requests.the_row }
 {
+    asked_sends();
+    outs_send();
+    notes_send();
     sends::<Requests>();
 }
 

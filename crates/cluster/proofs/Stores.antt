@@ -11,7 +11,7 @@ use Rattle.cluster_rules.specs.Cluster.{Cluster}
 use Rattle.cluster_rules.specs.Reached.{AreUnarmed}
 use Rattle.script_runs.specs.Holds.{IsFirstStart}
 use Rattle.cluster.specs.Beginning.{HasBegun, MayBegin}
-use Rattle.cluster_interface.specs.Stores.{empty_store}
+use Rattle.cat_outside.specs.KeepersInMemory.{empty_store}
 
 -- the stores as the rules see them
 abbrev pub seen : FaultyKeeper → Store

@@ -57,7 +57,7 @@ impl<K: Keeper + Drop> Cluster<K> {
         ensures whole { OnOk result (ActsWhole server (event.Restart server) self.old self.new) }
         ensures cut { IfErr result (λ cut. ActsCut server (event.Restart server) cut self.old self.new) }
     {
-        wake_held(&mut self.watch, self.requests.held(), server);
+        wake_held(&self.requests, &mut self.watch, server);
         restart(&mut self.servers, &mut self.requests, alloc, server)
     }
 }

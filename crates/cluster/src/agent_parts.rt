@@ -13,11 +13,12 @@ ghost use Rattle.cluster_turns.specs.Turns.{IsCome, numbered};
 ghost use Rattle.cluster.specs.Syncing.{own_done};
 
 use crate::cluster::Cluster;
-use cat_model::{AgentOp, Asked, Draw, Memory, Request};
+use cat_model::{AgentOp, Asked, Draw, Memory, Request, Shared};
 use cat_outside::Keeper;
 use cluster_parts::{answer_own, changes};
 use cluster_turns::AgentEvent;
 use std::alloc::Global;
+use std::ops::Deref;
 
 impl<K: Keeper> Cluster<K> {
     /// The agent of a request to itself, where a sync follows it.
@@ -38,7 +39,7 @@ impl<K: Keeper> Cluster<K> {
         &mut self,
         alloc: Global,
         agent: u32,
-        asked: &Asked,
+        asked: &Shared<Asked>,
         op: &AgentOp,
         draw: Draw,
     ) -> Result<(), Memory>
@@ -79,7 +80,7 @@ impl<K: Keeper> Cluster<K> {
         match event {
             AgentEvent::Sync { .. } => Ok(()),
             AgentEvent::Tick { agent, ms } => self.tick_agent(alloc, *agent, *ms),
-            AgentEvent::Ask { agent, asked, draw } => match asked {
+            AgentEvent::Ask { agent, asked, draw } => match (*asked).deref() {
                 Asked::Good(Request::Agent(op)) => {
                     self.answer_asked(alloc, *agent, asked, op, *draw)
                 }

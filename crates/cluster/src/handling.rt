@@ -49,7 +49,7 @@ impl<K: Keeper + Drop> Cluster<K> {
         alloc: Global,
         server: u32,
         agent: u32,
-        asked: &Asked,
+        asked: &Shared<Asked>,
         draw: Draw,
         command: &Shared<Command>,
     ) -> Result<Write, Memory>
@@ -71,7 +71,7 @@ impl<K: Keeper + Drop> Cluster<K> {
         &mut self,
         server: u32,
         agent: u32,
-        asked: &Asked,
+        asked: &Shared<Asked>,
         draw: Draw,
     ) -> Result<(), Memory>
         requires server { IsServerNumber self.old server }
@@ -94,7 +94,7 @@ impl<K: Keeper + Drop> Cluster<K> {
         &mut self,
         server: u32,
         agent: u32,
-        asked: &Asked,
+        asked: &Shared<Asked>,
         draw: Draw,
         wait_ms: u64,
     ) -> Result<(), Memory>
@@ -126,7 +126,7 @@ impl<K: Keeper + Drop> Cluster<K> {
         alloc: Global,
         server: u32,
         agent: u32,
-        asked: &Asked,
+        asked: &Shared<Asked>,
         draw: Draw,
         mode: Mode,
         wait_ms: u64,
@@ -182,7 +182,7 @@ impl<K: Keeper + Drop> Cluster<K> {
         alloc: Global,
         server: u32,
         agent: u32,
-        asked: &Asked,
+        asked: &Shared<Asked>,
         draw: Draw,
         command: &Shared<Command>,
     ) -> Result<(), Memory>
@@ -212,7 +212,7 @@ impl<K: Keeper + Drop> Cluster<K> {
         alloc: Global,
         server: u32,
         agent: u32,
-        asked: &Asked,
+        asked: &Shared<Asked>,
         draw: Draw,
         command: &Shared<Command>,
     ) -> Result<(), Memory>

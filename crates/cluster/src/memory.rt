@@ -1,7 +1,7 @@
 //! A cluster over stores in memory.
 
 ghost use Rattle.std.specs.Prelude.{◌≡◌, ◌<◌, ◌≤◌, All, IfOk, length};
-ghost use Rattle.cluster_interface.specs.Stores.{empty_store};
+ghost use Rattle.cat_outside.specs.KeepersInMemory.{empty_store};
 ghost use Rattle.script_runs.specs.Holds.{IsFirstStart};
 
 use crate::cluster::Cluster;

@@ -8,9 +8,8 @@ ghost use Rattle.cluster_rules.specs.Cluster.{Cluster as SpecCluster};
 ghost use Rattle.cluster_rules.specs.Step.{noted};
 
 use crate::cluster::Cluster;
-use cat_model::{Asked, Draw, Event, Memory};
+use cat_model::{Asked, Draw, Event, Memory, Shared};
 use cat_outside::Keeper;
-use open_requests::copy_asked;
 
 impl<K: Keeper> Cluster<K> {
     /// Marks an event, whatever it is.
@@ -25,14 +24,14 @@ impl<K: Keeper> Cluster<K> {
     pub(crate) fn mark_request(
         &mut self,
         agent: u32,
-        asked: &Asked,
+        asked: &Shared<Asked>,
         draw: Draw,
     ) -> Result<(), Memory>
         requires { IsTakenAsked asked.now }
         ensures ok { OnOk result (self.new ≡ noted (event.Ask agent asked.now draw) self.old) }
         ensures err { OnErr result (self.new ≡ self.old) }
     {
-        let asked = copy_asked(asked)?;
+        let asked = asked.share()?;
         self.mark_event(Event::Ask { agent, asked, draw })
     }
 

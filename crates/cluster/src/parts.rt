@@ -1,11 +1,12 @@
 //! A cluster as what its events are made up of.
 
 use crate::cluster::Cluster;
-use cat_model::{Asked, Draw, Event, Memory, Refusal, Request, Steps};
+use cat_model::{Asked, Draw, Event, Memory, Refusal, Request, Shared, Steps};
 use cat_outside::Keeper;
 use cluster_parts::{asked_server, copy_refusal, is_stale_read, way_from};
 use cluster_turns::{AgentEvent, Cut, Impulse, Parts, Way};
 use std::alloc::Global;
+use std::ops::Deref;
 use std::sync::ledger::Ledger;
 
 impl<K: Keeper + Drop> Parts for Cluster<K> {
@@ -32,7 +33,7 @@ impl<K: Keeper + Drop> Parts for Cluster<K> {
         &mut self,
         _alloc: Global,
         agent: u32,
-        asked: &Asked,
+        asked: &Shared<Asked>,
         draw: Draw,
     ) -> Result<(), Memory> {
         self.mark_request(agent, asked, draw)
@@ -92,8 +93,8 @@ impl<K: Keeper + Drop> Parts for Cluster<K> {
     }
 
     #[tactic(auto, using(crate::proofs::Going::way_is, crate::proofs::Numbers::is_number, crate::proofs::Numbers::number_is))]
-    fn way(&self, _alloc: Global, agent: u32, asked: &Asked) -> Result<Way, Memory> {
-        match asked {
+    fn way(&self, _alloc: Global, agent: u32, asked: &Shared<Asked>) -> Result<Way, Memory> {
+        match asked.deref() {
             Asked::Good(_) => {
                 let stale = is_stale_read(asked);
                 Ok(way_from(&self.servers, asked_server(&self.servers, agent), stale))
@@ -106,7 +107,7 @@ impl<K: Keeper + Drop> Parts for Cluster<K> {
         &mut self,
         _alloc: Global,
         agent: u32,
-        asked: &Asked,
+        asked: &Shared<Asked>,
         draw: Draw,
         why: Refusal,
     ) -> Result<(), Memory> {
@@ -121,13 +122,13 @@ impl<K: Keeper + Drop> Parts for Cluster<K> {
         alloc: Global,
         server: u32,
         agent: u32,
-        asked: &Asked,
+        asked: &Shared<Asked>,
         draw: Draw,
     ) -> Result<(), Memory> {
         if !self.may_go(server, asked) {
             return self.refuse_unready(server, agent, asked, draw);
         }
-        match asked {
+        match asked.deref() {
             Asked::Good(Request::Write { command }) => {
                 self.write(alloc, server, agent, asked, draw, command)
             }

@@ -2,7 +2,7 @@
 
 use crate::cluster::Cluster;
 use crate::uncounted;
-use cat_model::{Asked, Draw, Entry, Event, List, Memory};
+use cat_model::{Asked, Draw, Entry, Event, List, Memory, Shared};
 use cat_outside::MemKeeper;
 use cluster_interface::{ClusterInterface, History};
 use open_requests::{Collected, Out};
@@ -32,7 +32,13 @@ impl ClusterInterface for Cluster<MemKeeper> {
         made
     }
 
-    fn ask(&mut self, alloc: Global, agent: u32, asked: &Asked, draw: Draw) -> Result<u64, Memory> {
+    fn ask(
+        &mut self,
+        alloc: Global,
+        agent: u32,
+        asked: &Shared<Asked>,
+        draw: Draw,
+    ) -> Result<u64, Memory> {
         uncounted::ask::<MemKeeper, Brand>(self, alloc, agent, asked, draw, Blank::new(1))
     }
 

@@ -10,7 +10,7 @@ ghost use Rattle.cluster_turns.specs.Turns.{HandlesNewest, IsCome};
 ghost use Rattle.cluster_parts.specs.Asking.{IsNewRead};
 
 use crate::cluster::Cluster;
-use cat_model::{Asked, Draw, Memory};
+use cat_model::{Asked, Draw, Memory, Shared};
 use cat_outside::Keeper;
 use cluster_parts::{NewRead, end_probe, read_copies, see, wait_of};
 use std::alloc::Global;
@@ -59,7 +59,7 @@ impl<K: Keeper + Drop> Cluster<K> {
         alloc: Global,
         server: u32,
         agent: u32,
-        asked: &Asked,
+        asked: &Shared<Asked>,
         draw: Draw,
         wait_ms: u64,
     ) -> Result<(), Memory>

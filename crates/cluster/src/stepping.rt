@@ -11,7 +11,7 @@ ghost use Rattle.script_runs.specs.Lines.{misfit};
 ghost use Rattle.request_rules.specs.Taken.{IsTakenAsked};
 
 use crate::cluster::Cluster;
-use cat_model::{Asked, Draw, Event, Memory, Steps};
+use cat_model::{Asked, Draw, Event, Memory, Shared, Steps};
 use cat_outside::Keeper;
 use std::alloc::Global;
 use std::sync::ledger::Ledger;
@@ -45,7 +45,7 @@ impl<K: Keeper + Drop> Cluster<K> {
         &mut self,
         alloc: Global,
         agent: u32,
-        asked: &Asked,
+        asked: &Shared<Asked>,
         draw: Draw,
         steps: &mut Steps<L>,
     ) -> Result<u64, Memory>

@@ -19,6 +19,7 @@ use cat_model::{Asked, Event, List, Local, Memory, Remote, Request, ServiceRow};
 use cat_outside::Keeper;
 use cluster_turns::{AgentEvent, Cut};
 use std::alloc::Global;
+use std::ops::Deref;
 
 // What the event's cut is where its sync has not begun.
 fn cut_first(event: &AgentEvent) -> Cut
@@ -27,7 +28,7 @@ fn cut_first(event: &AgentEvent) -> Cut
     match event {
         AgentEvent::Sync { .. } => Cut::Before,
         AgentEvent::Tick { .. } => Cut::Within,
-        AgentEvent::Ask { asked, .. } => match asked {
+        AgentEvent::Ask { asked, .. } => match (*asked).deref() {
             Asked::Good(Request::Agent(_)) => Cut::Within,
             _ => Cut::Before,
         },

@@ -10,7 +10,7 @@ ghost use Rattle.script_runs.specs.Lines.{misfit};
 ghost use Rattle.request_rules.specs.Taken.{IsTakenAsked};
 
 use crate::cluster::Cluster;
-use cat_model::{Asked, Draw, Event, Memory, Steps};
+use cat_model::{Asked, Draw, Event, Memory, Shared, Steps};
 use cat_outside::Keeper;
 use std::alloc::Global;
 use std::sync::ledger::{Blank, Ledger};
@@ -39,7 +39,7 @@ pub(crate) fn ask<K: Keeper + Drop, L: Ledger>(
     cluster: &mut Cluster<K>,
     alloc: Global,
     agent: u32,
-    asked: &Asked,
+    asked: &Shared<Asked>,
     draw: Draw,
     blank: Blank,
 ) -> Result<u64, Memory>
