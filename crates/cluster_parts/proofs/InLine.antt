@@ -1,7 +1,7 @@
 -- Who stays in line at the servers and who leaves it, as a watch goes on.
 use Rattle.std.proofs.Common.{◌≡◌, ◌⊎◌, inl, inr, ℕ, suc, ◌<◌, Bool, true, List, ◌∷◌, length, refl, sym, ap, subst, arith}
 use Rattle.raft_model.specs.declared.message.Round.{Round}
-use Rattle.read_watch.specs.Lines.{Line, SpecEntry, WaitsIn, line_of}
+use Rattle.read_watch.specs.Lines.{Line, Waiter, WaitsIn, line_of}
 use Rattle.read_watch.specs.Watch as plain
 use Rattle.cluster_rules.specs.Cluster.{AtPlace, Ended, ForIndex, InRound, Stand}
 use Rattle.cluster_parts.specs.Watching.{IsInLine, LeaveLine, MayBeDue, StayAwake, StayInLine, Watching}
@@ -86,7 +86,7 @@ pub leave_here : (w : Watching) → LeaveLine w w
 leave_here w i n stand x = inr x
 
 -- the first leaves the line for rounds
-pub one_less : (now old new : Watching) (server : ℕ) (woke : Bool) → old ≡ now → (woke ≡ true → (e : SpecEntry) × (line_of old.watch.rounds server ≡ e ∷ line_of new.watch.rounds server)) → woke ≡ true
+pub one_less : (now old new : Watching) (server : ℕ) (woke : Bool) → old ≡ now → (woke ≡ true → (e : Waiter) × (line_of old.watch.rounds server ≡ e ∷ line_of new.watch.rounds server)) → woke ≡ true
     → length (line_of new.watch.rounds server) < length (line_of now.watch.rounds server)
 one_less now old new server woke is first e =
     let same : length (line_of old.watch.rounds server) ≡ suc (length (line_of new.watch.rounds server)) = ap length (first e).1 in

@@ -9,7 +9,7 @@ use Rattle.raft_model.proofs.Tests.{le_is, le_tells, lt_is, lt_tells, or_false}
 use Rattle.raft_model.specs.Node.{Node, of_server}
 use Rattle.raft_model.specs.Quorum.{count, is_majority}
 use Rattle.raft_model.specs.Rules.{has_round, is_confirmed, is_leader}
-use Rattle.read_watch.specs.Lines.{IsFrom, Line, SpecEntry, WaitsIn, line_of}
+use Rattle.read_watch.specs.Lines.{IsFrom, Line, Waiter, WaitsIn, line_of}
 use Rattle.cluster_rules.specs.Cluster.{node_of}
 use Rattle.cluster_servers.specs.Servers.{Servers}
 use Rattle.cluster_parts.specs.Looking.{is_round_past}
@@ -78,7 +78,7 @@ first_waits s i term number lines past each is fails n term' number' x =
     behind_first (node_of s.world i) term number term' number'
     (All-contains (IsFrom (term, number)) (line_of lines i) (term', number', n) (All-from_recursion (IsFrom (term, number)) (line_of lines i) each) x) (sym is ∙ fails)
 
-in_none : {A : Type 0} (e : SpecEntry) → Contains [] e → A
+in_none : {A : Type 0} (e : Waiter) → Contains [] e → A
 in_none e (k, l, is) = absurd (omega (arith, l))
 
 pub none_wait : (s : Servers) (i : ℕ) (lines : List Line) → line_of lines i ≡ [] → (n term number : ℕ) → WaitsIn i n term number lines → is_round_past s i term number ≡ false

@@ -9,3 +9,4 @@ pub mod LastOut
 pub mod Ordering
 pub mod Slots
 pub mod Counting
+pub mod Ending

@@ -8,7 +8,7 @@ ghost use Rattle.std.specs.List.{AllByRecursion as Each, find, position};
 ghost use Rattle.std.specs.Option.{option_copied};
 ghost use Rattle.cluster_rules.specs.Due.{waiting};
 ghost use Rattle.cluster_rules.specs.Replies.{number_of};
-ghost use Rattle.open_requests.specs.Held.{held_in};
+ghost use Rattle.open_requests.specs.Held.{NumbersAll, held_in};
 ghost use Rattle.open_requests.specs.Notes.{IsJustMade, IsMadeLast, events_noted, past_of};
 ghost use Rattle.open_requests.specs.Requests.{came_with, empty, ended_all, forgotten, holding_with, joining, noted, numbered_with, restood, shelved_all, used, with_note};
 ghost use Rattle.open_requests.specs.Taking.{IsCollected, TakesAt, TakesFirst, is_of};
@@ -324,6 +324,16 @@ impl Requests {
     {
         let event = self.events;
         self.held.end_all(server, event);
+    }
+
+    /// The same, where these are the numbers of all that the server holds. Each is found in a logarithm, and no other is
+    /// looked at.
+    pub fn end_among(&mut self, server: u32, numbers: &[u64])
+        requires { NumbersAll server numbers.now self.old.held }
+        ensures { self.new ≡ ended_all server self.old }
+    {
+        let event = self.events;
+        self.held.end_among(server, event, numbers);
     }
 
     /// Lets the outs of the event join the tray. It takes no memory.

@@ -14,9 +14,9 @@ use Rattle.std.proofs.lemmas.Cmp.{ranked}
 use Rattle.std.proofs.lemmas.List.{get_or_default, get_or-set_same, get_or-set_other}
 use Rattle.std.proofs.lemmas.List.Elements.{All-weaker, recursion_from_All}
 use Rattle.std.proofs.lemmas.Option.{slice_get_past, unwrap_or-slice_get}
-use Rattle.read_watch.specs.Lines.{SpecEntry, Line, IsFrom, WaitsIn, line_of}
+use Rattle.read_watch.specs.Lines.{Waiter, Line, IsFrom, WaitsIn, line_of}
 
-abbrev pub entry_cmp : SpecEntry → SpecEntry → Ordering
+abbrev pub entry_cmp : Waiter → Waiter → Ordering
 entry_cmp x y = ordering_then (ordering_then (nat_cmp x.0 y.0) (nat_cmp x.1 y.1)) (nat_cmp x.2 y.2)
 
 then_equal : (a b : Ordering) → ordering_then a b ≡ Equal → (a ≡ Equal) × (b ≡ Equal)
@@ -28,14 +28,14 @@ equal_is : (a b : ℕ) → nat_cmp a b ≡ Equal → a ≡ b
 equal_is a b h = ranked a b Equal (sym h)
 
 -- the order tells all entries apart
-exact : (x y : SpecEntry) → entry_cmp x y ≡ Equal → x ≡ y
+exact : (x y : Waiter) → entry_cmp x y ≡ Equal → x ≡ y
 exact x y h =
     let p = then_equal (ordering_then (nat_cmp x.0 y.0) (nat_cmp x.1 y.1)) (nat_cmp x.2 y.2) h in
     let q = then_equal (nat_cmp x.0 y.0) (nat_cmp x.1 y.1) p.0 in
     λ i. (equal_is x.0 y.0 q.0 i, equal_is x.1 y.1 q.1 i, equal_is x.2 y.2 p.1 i)
 
 -- what does not go before an entry waits for its place or a later one
-not_before : (x y : SpecEntry) → is_gt (entry_cmp x y) ≡ false → IsFrom (x.0, x.1) y
+not_before : (x y : Waiter) → is_gt (entry_cmp x y) ≡ false → IsFrom (x.0, x.1) y
 not_before x y h = go (nat_cmp x.0 y.0) refl (nat_cmp x.1 y.1) refl h
   where
     go : (a : Ordering) → nat_cmp x.0 y.0 ≡ a → (b : Ordering) → nat_cmp x.1 y.1 ≡ b → is_gt (ordering_then (ordering_then a b) (nat_cmp x.2 y.2)) ≡ false → IsFrom (x.0, x.1) y
@@ -45,24 +45,24 @@ not_before x y h = go (nat_cmp x.0 y.0) refl (nat_cmp x.1 y.1) refl h
     go Equal e Greater f h = absurd (true≢false h)
     go Greater e b f h = absurd (true≢false h)
 
-pub firsts : (x : SpecEntry) (xs : Line) → All (λ y. is_gt (entry_cmp x y) ≡ false) xs → Each (IsFrom (x.0, x.1)) xs
+pub firsts : (x : Waiter) (xs : Line) → All (λ y. is_gt (entry_cmp x y) ≡ false) xs → Each (IsFrom (x.0, x.1)) xs
 firsts x xs h = recursion_from_All (IsFrom (x.0, x.1)) xs (All-weaker (λ y. is_gt (entry_cmp x y) ≡ false) (IsFrom (x.0, x.1)) (not_before x) xs h)
 
-pub at_head : (x e : SpecEntry) (xs : Line) → x ≡ e → Contains (x ∷ xs) e
+pub at_head : (x e : Waiter) (xs : Line) → x ≡ e → Contains (x ∷ xs) e
 at_head x e xs q = (zero, omega arith, q)
 
-pub behind : (x e : SpecEntry) (xs : Line) → Contains xs e → Contains (x ∷ xs) e
+pub behind : (x e : Waiter) (xs : Line) → Contains xs e → Contains (x ∷ xs) e
 behind x e xs h = (suc h.0, omega (arith, h.1), h.2)
 
-pub either : (x e : SpecEntry) (xs : Line) → Contains (x ∷ xs) e → (x ≡ e) ⊎ Contains xs e
+pub either : (x e : Waiter) (xs : Line) → Contains (x ∷ xs) e → (x ≡ e) ⊎ Contains xs e
 either x e xs (zero, low, q) = inl q
 either x e xs (suc k, low, q) = inr (k, omega (arith, low), q)
 
-pub nobody_there : (e : SpecEntry) → Contains [] e → ⊥
+pub nobody_there : (e : Waiter) → Contains [] e → ⊥
 nobody_there e h = omega (arith, h.1)
 
 -- one more waits
-pub there_new : (k : SpecEntry) (xs : Line) → Contains (insert_key entry_cmp xs k) k
+pub there_new : (k : Waiter) (xs : Line) → Contains (insert_key entry_cmp xs k) k
 there_new k [] = at_head k k [] refl
 there_new k (x ∷ xs) = go (there_new k xs) (entry_cmp k x) refl
   where
@@ -71,7 +71,7 @@ there_new k (x ∷ xs) = go (there_new k xs) (entry_cmp k x) refl
     go more Equal h = at_head x k xs (sym (exact k x h))
     go more Greater h = behind x k (insert_key entry_cmp xs k) more
 
-pub kept_new : (k e : SpecEntry) (xs : Line) → Contains xs e → Contains (insert_key entry_cmp xs k) e
+pub kept_new : (k e : Waiter) (xs : Line) → Contains xs e → Contains (insert_key entry_cmp xs k) e
 kept_new k e [] h = absurd (nobody_there e h)
 kept_new k e (x ∷ xs) h = go (kept_new k e xs) (entry_cmp k x)
   where
@@ -84,7 +84,7 @@ kept_new k e (x ∷ xs) h = go (kept_new k e xs) (entry_cmp k x)
     go more Equal = h
     go more Greater = past more (either x e xs h)
 
-pub only_new : (k e : SpecEntry) (xs : Line) → Contains (insert_key entry_cmp xs k) e → Contains xs e ⊎ (e ≡ k)
+pub only_new : (k e : Waiter) (xs : Line) → Contains (insert_key entry_cmp xs k) e → Contains xs e ⊎ (e ≡ k)
 only_new k e [] h = last (either k e [] h)
   where
     last : (k ≡ e) ⊎ Contains [] e → Contains [] e ⊎ (e ≡ k)
@@ -110,19 +110,19 @@ only_new k e (x ∷ xs) h = go (only_new k e xs) (entry_cmp k x) h
     go more Greater h = past more (either x e (insert_key entry_cmp xs k) h)
 
 -- what is tried is done, or nothing is
-pub tried : {E : Type 0} (r : Result Bool E) (k : SpecEntry) (old new : Line) → OnOk r (new ≡ insert_key entry_cmp old k) → OnErr r (new ≡ old) → (new ≡ insert_key entry_cmp old k) ⊎ ((is_ok r ≡ false) × (new ≡ old))
+pub tried : {E : Type 0} (r : Result Bool E) (k : Waiter) (old new : Line) → OnOk r (new ≡ insert_key entry_cmp old k) → OnErr r (new ≡ old) → (new ≡ insert_key entry_cmp old k) ⊎ ((is_ok r ≡ false) × (new ≡ old))
 tried (Ok b) k old new done same = inl done
 tried (Err e) k old new done same = inr (refl, same)
 
-pub tried_there : (b : Bool) (k : SpecEntry) (old new : Line) → (new ≡ insert_key entry_cmp old k) ⊎ ((b ≡ false) × (new ≡ old)) → b ≡ true → Contains new k
+pub tried_there : (b : Bool) (k : Waiter) (old new : Line) → (new ≡ insert_key entry_cmp old k) ⊎ ((b ≡ false) × (new ≡ old)) → b ≡ true → Contains new k
 tried_there b k old new (inl e) h = subst (λ l. Contains l k) (sym e) (there_new k old)
 tried_there b k old new (inr p) h = absurd (true≢false (sym h ∙ p.0))
 
-pub tried_kept : (b : Bool) (k : SpecEntry) (old new : Line) → (new ≡ insert_key entry_cmp old k) ⊎ ((b ≡ false) × (new ≡ old)) → (e : SpecEntry) → Contains old e → Contains new e
+pub tried_kept : (b : Bool) (k : Waiter) (old new : Line) → (new ≡ insert_key entry_cmp old k) ⊎ ((b ≡ false) × (new ≡ old)) → (e : Waiter) → Contains old e → Contains new e
 tried_kept b k old new (inl q) e h = subst (λ l. Contains l e) (sym q) (kept_new k e old h)
 tried_kept b k old new (inr p) e h = subst (λ l. Contains l e) (sym p.1) h
 
-pub tried_only : (b : Bool) (k : SpecEntry) (old new : Line) → (new ≡ insert_key entry_cmp old k) ⊎ ((b ≡ false) × (new ≡ old)) → (e : SpecEntry) → Contains new e → Contains old e ⊎ (e ≡ k)
+pub tried_only : (b : Bool) (k : Waiter) (old new : Line) → (new ≡ insert_key entry_cmp old k) ⊎ ((b ≡ false) × (new ≡ old)) → (e : Waiter) → Contains new e → Contains old e ⊎ (e ≡ k)
 tried_only b k old new (inl q) e h = only_new k e old (subst (λ l. Contains l e) q h)
 tried_only b k old new (inr p) e h = inl (subst (λ l. Contains l e) p.1 h)
 
@@ -141,7 +141,7 @@ module _ (ls xs : List Line) (at s : ℕ) (v w : Line) (e : xs ≡ ls) (h : at +
   pub is : line_of (slice_set xs at w) s ≡ w
   is = ap (line_of (slice_set xs at w)) (sym place) ∙ get_or-set_same xs at w [] within
 
-  pub first_in : (x : SpecEntry) → v ≡ x ∷ w → line_of ls s ≡ x ∷ line_of (slice_set xs at w) s
+  pub first_in : (x : Waiter) → v ≡ x ∷ w → line_of ls s ≡ x ∷ line_of (slice_set xs at w) s
   first_in x q = was ∙ q ∙ ap (λ l. x ∷ l) (sym is)
 
   pub others_are : (i : ℕ) → i ≢ s → line_of (slice_set xs at w) i ≡ line_of ls i
@@ -149,7 +149,7 @@ module _ (ls xs : List Line) (at s : ℕ) (v w : Line) (e : xs ≡ ls) (h : at +
   others_are (suc i) d = get_or-set_other xs at i w [] (λ q. d (ap suc q ∙ place)) ∙ ap (λ l. get_or l i []) e
 
   -- who waits, where each that waited at the place does so still
-  pub kept_in : ((e : SpecEntry) → Contains v e → Contains w e) → (i n t k : ℕ) → WaitsIn i n t k ls → WaitsIn i n t k (slice_set xs at w)
+  pub kept_in : ((e : Waiter) → Contains v e → Contains w e) → (i n t k : ℕ) → WaitsIn i n t k ls → WaitsIn i n t k (slice_set xs at w)
   kept_in keeps i n t k waits = go (nat_eq i s) refl
     where
       go : (b : Bool) → nat_eq i s ≡ b → WaitsIn i n t k (slice_set xs at w)
@@ -159,15 +159,15 @@ module _ (ls xs : List Line) (at s : ℕ) (v w : Line) (e : xs ≡ ls) (h : at +
       go false q = subst (λ l. Contains l (t, k, n)) (sym (others_are i (eqb-false i s q))) waits
 
   -- nobody else waits than one, at the place
-  pub only_in : (x : SpecEntry) → ((e : SpecEntry) → Contains w e → Contains v e ⊎ (e ≡ x)) → (i n t k : ℕ) → WaitsIn i n t k (slice_set xs at w) → WaitsIn i n t k ls ⊎ ((i ≡ s) × (t ≡ x.0) × (k ≡ x.1) × (n ≡ x.2))
+  pub only_in : (x : Waiter) → ((e : Waiter) → Contains w e → Contains v e ⊎ (e ≡ x)) → (i n t k : ℕ) → WaitsIn i n t k (slice_set xs at w) → WaitsIn i n t k ls ⊎ ((i ≡ s) × (t ≡ x.0) × (k ≡ x.1) × (n ≡ x.2))
   only_in x only i n t k waits = go (nat_eq i s) refl
     where
-      entry : SpecEntry
+      entry : Waiter
       entry = (t, k, n)
 
       here : i ≡ s → Contains v entry ⊎ (entry ≡ x) → WaitsIn i n t k ls ⊎ ((i ≡ s) × (t ≡ x.0) × (k ≡ x.1) × (n ≡ x.2))
       here there (inl r) = inl (subst (λ l. Contains l (t, k, n)) (sym (ap (line_of ls) there ∙ was)) r)
-      here there (inr q) = inr (there, ap (λ (e : SpecEntry). e.0) q, ap (λ (e : SpecEntry). e.1) q, ap (λ (e : SpecEntry). e.2) q)
+      here there (inr q) = inr (there, ap (λ (e : Waiter). e.0) q, ap (λ (e : Waiter). e.1) q, ap (λ (e : Waiter). e.2) q)
 
       go : (b : Bool) → nat_eq i s ≡ b → WaitsIn i n t k ls ⊎ ((i ≡ s) × (t ≡ x.0) × (k ≡ x.1) × (n ≡ x.2))
       go true q =
@@ -179,14 +179,14 @@ module _ (ls xs : List Line) (at s : ℕ) (v w : Line) (e : xs ≡ ls) (h : at +
 pub first_gone : (old new : List Line) (s request t k : ℕ) → line_of old s ≡ (t, k, request) ∷ line_of new s → ((i : ℕ) → i ≢ s → line_of new i ≡ line_of old i) → (i n t k : ℕ) → WaitsIn i n t k old → (n ≡ request) ⊎ WaitsIn i n t k new
 first_gone old new s request t' k' first others i n t k waits = go (nat_eq i s) refl
   where
-    gone : SpecEntry
+    gone : Waiter
     gone = (t', k', request)
 
-    entry : SpecEntry
+    entry : Waiter
     entry = (t, k, n)
 
     here : i ≡ s → (gone ≡ entry) ⊎ Contains (line_of new s) entry → (n ≡ request) ⊎ WaitsIn i n t k new
-    here there (inl q) = inl (sym (ap (λ (e : SpecEntry). e.2) q))
+    here there (inl q) = inl (sym (ap (λ (e : Waiter). e.2) q))
     here there (inr r) = inr (subst (λ j. WaitsIn j n t k new) (sym there) r)
 
     go : (b : Bool) → nat_eq i s ≡ b → (n ≡ request) ⊎ WaitsIn i n t k new

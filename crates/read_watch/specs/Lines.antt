@@ -1,12 +1,12 @@
 -- Requests that wait in line at servers, each for a place.
 use Rattle.std.specs.Prelude.{◌≡◌, ℕ, zero, suc, ◌<◌, ◌≤◌, ◌⊎◌, List, [], Contains, slice_index_or}
 
--- a request in line: the term and the number of the place for which it waits, and its own number
-abbrev pub SpecEntry : Type 0
-SpecEntry = ℕ × ℕ × ℕ
+-- one that waits in line: the term and the number of the place for which it waits, and its own number
+abbrev pub Waiter : Type 0
+Waiter = ℕ × ℕ × ℕ
 
 abbrev pub Line : Type 0
-Line = List SpecEntry
+Line = List Waiter
 
 -- server i's line
 abbrev pub line_of : List Line → ℕ → Line
@@ -18,5 +18,5 @@ abbrev pub WaitsIn : (i n term number : ℕ) → List Line → Type 0
 WaitsIn i n term number lines = Contains (line_of lines i) (term, number, n)
 
 -- it waits for this place or a later one, where terms go before numbers
-abbrev pub IsFrom : ℕ × ℕ → SpecEntry → Type 0
+abbrev pub IsFrom : ℕ × ℕ → Waiter → Type 0
 IsFrom place e = (place.0 < e.0) ⊎ ((place.0 ≡ e.0) × (place.1 ≤ e.1))

@@ -2,7 +2,7 @@
 
 ghost use Rattle.std.specs.Prelude.{◌≡◌, ◌≢◌, ◌+◌, ◌≤◌, ◌⊎◌, ℕ, [], ◌∷◌, Contains, IfNone, IfOk, IfSome, replicate, true};
 ghost use Rattle.std.specs.List.{AllByRecursion as Each};
-ghost use Rattle.read_watch.specs.Lines.{IsFrom, SpecEntry, WaitsIn, line_of};
+ghost use Rattle.read_watch.specs.Lines.{IsFrom, Waiter, WaitsIn, line_of};
 
 use cat_model::Memory;
 use std::alloc::Global;
@@ -37,8 +37,8 @@ impl WaitingLine {
     /// A request waits for a place from now on, if there is memory, and tells whether it does.
     pub fn add(&mut self, term: u64, number: u64, request: u64) -> bool
         ensures there { result ≡ true → Contains self.new (term, number, request) }
-        ensures kept { (e : SpecEntry) → Contains self.old e → Contains self.new e }
-        ensures alone { (e : SpecEntry) → Contains self.new e → Contains self.old e ⊎ (e ≡ (term, number, request)) }
+        ensures kept { (e : Waiter) → Contains self.old e → Contains self.new e }
+        ensures alone { (e : Waiter) → Contains self.new e → Contains self.old e ⊎ (e ≡ (term, number, request)) }
     {
         self.entries.insert((term, number, request)).is_ok()
     }

@@ -40,7 +40,7 @@ fn place(server: u32) -> usize
 }
 
 impl Watch {
-    ghost use Rattle.read_watch.specs.Lines.{IsFrom, SpecEntry, WaitsIn, line_of};
+    ghost use Rattle.read_watch.specs.Lines.{IsFrom, Waiter, WaitsIn, line_of};
     ghost use Rattle.read_watch.specs.Watch.{hit_by, nobody, sleepers_of, without, AwaitsPosition, AwaitsRound, IsServer, IsAwake, IsOver, SameLines, Sleeps};
 
     /// No request at so many servers.
@@ -209,7 +209,7 @@ impl Watch {
     fn wake_first_position(&mut self, server: u32) -> bool
         requires { IsServer server self.old }
         ensures none { result ≡ false → (line_of self.old.positions server ≡ []) × (self.new ≡ self.old) }
-        ensures first { result ≡ true → (e : SpecEntry) × (line_of self.old.positions server ≡ e ∷ line_of self.new.positions server) }
+        ensures first { result ≡ true → (e : Waiter) × (line_of self.old.positions server ≡ e ∷ line_of self.new.positions server) }
         ensures kept { (n : ℕ) → IsAwake n self.old → IsAwake n self.new }
         ensures positions { (i n at : ℕ) → AwaitsPosition i n at self.old → IsAwake n self.new ⊎ AwaitsPosition i n at self.new }
         ensures rounds { self.new.rounds ≡ self.old.rounds }
@@ -251,7 +251,7 @@ impl Watch {
     pub fn wake_first_round(&mut self, server: u32) -> bool
         requires { IsServer server self.old }
         ensures none { result ≡ false → (line_of self.old.rounds server ≡ []) × (self.new ≡ self.old) }
-        ensures first { result ≡ true → (e : SpecEntry) × (line_of self.old.rounds server ≡ e ∷ line_of self.new.rounds server) }
+        ensures first { result ≡ true → (e : Waiter) × (line_of self.old.rounds server ≡ e ∷ line_of self.new.rounds server) }
         ensures kept { (n : ℕ) → IsAwake n self.old → IsAwake n self.new }
         ensures positions { self.new.positions ≡ self.old.positions }
         ensures rounds { (i n t k : ℕ) → AwaitsRound i n t k self.old → IsAwake n self.new ⊎ AwaitsRound i n t k self.new }
