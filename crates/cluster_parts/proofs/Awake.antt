@@ -37,9 +37,6 @@ take_next old next new kept n (inl later) = at_bool (λ b. (n == old.seen + 1) �
 pub then_stay : (a b c : Watching) → StayAwake a b → StayAwake b c → StayAwake a c
 then_stay a b c f g n x = g n (f n x)
 
-pub stay_here : (w : Watching) → StayAwake w w
-stay_here w n x = x
-
 -- the requests of one slot more
 pub held_next : (slots : List HeldSlot) (k : ℕ) (x : HeldSlot) → k < length slots → x ≡ get_or slots k x → held_in (take (k + 1) slots) ≡ held_in (take k slots) ++ held_in (x ∷ [])
 held_next slots k x l is = ap held_in (take_more slots k x l ∙ ap (λ (y : HeldSlot). take k slots ++ y ∷ []) (sym is)) ∙ held_more (take k slots) (x ∷ [])

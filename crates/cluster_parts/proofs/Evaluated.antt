@@ -9,7 +9,7 @@ use Rattle.cat_model.specs.declared.reply.Refusal.{Refusal}
 use Rattle.cat_model.specs.declared.reply.Refusal.TheVariants as refusal
 use Rattle.raft_model.specs.Log.{Log, term_at}
 use Rattle.raft_model.proofs.Tests.{at_bool}
-use Rattle.cluster_rules.specs.Cluster.{Cluster, ForIndex, InRound, Pending, applied_of}
+use Rattle.cluster_rules.specs.Cluster.{Cluster, ForIndex, Pending, applied_of}
 use Rattle.cluster_rules.specs.Due as rules
 use Rattle.cluster_rules.specs.Due.{Replies, Holds, Closes, Applies, IsDue, did, has_looked, with_held, without}
 use Rattle.cluster_rules.specs.Sound.{Ascends}

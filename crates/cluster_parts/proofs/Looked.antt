@@ -1,25 +1,19 @@
 -- Nothing is due of any that are held, where nothing is of those that are awake.
-use Rattle.std.proofs.Common.{◌≡◌, ◌⊎◌, inl, inr, ℕ, zero, suc, ◌<◌, ◌≤◌, ◌==◌, ◌&&◌, ◌||◌, nat_le, nat_lt, Bool, true, false, cond, length, List, [], ◌∷◌, Option, None, Some, refl, sym, ap, ◌∙◌, subst, arith}
+use Rattle.std.proofs.Common.{◌≡◌, ◌⊎◌, inl, inr, ℕ, zero, suc, ◌<◌, ◌≤◌, ◌==◌, ◌||◌, Bool, true, false, cond, length, List, [], ◌∷◌, Option, None, Some, refl, sym, ap, ◌∙◌, subst, arith}
 use Rattle.std.specs.Prelude.{Contains, IfNone, slice_index_or}
 use Rattle.std.specs.List.{AllByRecursion as Each, find}
-use Rattle.cat_model.specs.declared.request.Asked.{Asked}
-use Rattle.cat_model.specs.declared.request.Asked.TheVariants.{Good}
-use Rattle.cat_model.specs.declared.request.Request.TheVariants.{Read}
-use Rattle.cat_model.specs.Indexes.{index_of}
-use Rattle.cat_model.specs.Log.{commands_of}
 use Rattle.raft_model.proofs.Tests.{eq_tells}
 use Rattle.raft_model.specs.World.{World}
-use Rattle.cluster_rules.specs.Cluster.{Cluster, Pending, Server, Stand, applied_of, clock_of, node_of, server_of}
+use Rattle.cluster_rules.specs.Cluster.{Cluster, Pending, Server, applied_of, node_of}
 use Rattle.cluster_rules.proofs.Tools.{each_map}
 use Rattle.cluster_servers.specs.Servers.{Servers}
 use Rattle.open_requests.specs.Requests.{Requests}
-use Rattle.cluster_parts.specs.Looking.{OnlyAwakeIsDue, is_early, is_late, is_look_due, is_number_early, is_number_late, is_stand_due, is_stand_late, numbered_in, servers_of, test_held}
+use Rattle.cluster_parts.specs.Looking.{OnlyAwakeIsDue, is_early, is_late, is_number_early, is_number_late, is_stand_due, numbered_in, servers_of, test_held}
 use Rattle.cluster_parts.specs.Standing as standing
 use Rattle.cluster_parts.specs.Standing.{IsAwaited}
 use Rattle.cluster_parts.specs.Watching.{MayBeDue, Watching}
-use Rattle.cluster_parts.proofs.Finding.{here_first, not_above, not_reached}
+use Rattle.cluster_parts.proofs.Finding.{here_first}
 use Rattle.cluster_parts.proofs.Numbered.{each_numbered}
-use Rattle.cluster_parts.proofs.Watched.{RestsAs}
 
 module _ (wt : Watching) where
   abbrev IsHeld : World → List Server → ℕ → Pending → Type 0
@@ -50,32 +44,6 @@ module _ (wt : Watching) where
 
   tests_not : (test : Pending → Bool) (number : ℕ) (held : List Pending) (h : Pending) → numbered_in number held ≡ Some h → test_held test (numbered_in number held) ≡ false → test h ≡ false
   tests_not test number held h e t = sym (ap (test_held test) e) ∙ t
-
-  -- of a held request that rests, nothing is due at its server while that runs and its time is not over
-  pub resting : (c : Cluster) (i : ℕ) (h : Pending) (watch : Watching) (clock : ℕ) → clock ≡ clock_of c.world i → (node_of c.world i).halted ≡ false → (r : RestsAs watch (server_of c.servers h.server).applied h.server h.question.number h.question.asked h.stand) → (h.server ≡ i → clock < r.deadline) → is_early (servers_of c) i h ≡ false
-  resting c i h watch clock at up r later = by (h.server == i) refl
-    where
-      over : h.server ≡ i → is_look_due (servers_of c) i r.deadline true (Good (Read r.query r.mode r.least r.wait r.raw)) ≡ false
-      over here =
-          let low : index_of r.query (commands_of (applied_of c i)) ≤ r.least = subst (λ k. index_of r.query (commands_of (applied_of c k)) ≤ r.least) here r.low in
-          let ahead : nat_le r.deadline (clock_of c.world i) ≡ false = not_reached r.deadline (clock_of c.world i) (let l = later here in omega (arith, l, at)) in
-          ap (λ b. b || nat_lt r.least (index_of r.query (commands_of (applied_of c i)))) ahead ∙ not_above r.least (index_of r.query (commands_of (applied_of c i))) low
-
-      by : (b : Bool) → (h.server == i) ≡ b → (b && ((node_of c.world i).halted || is_stand_due (servers_of c) i h.question.asked h.stand)) ≡ false
-      by false e = refl
-      by true e =
-          ap (λ b. b || is_stand_due (servers_of c) i h.question.asked h.stand) up
-          ∙ ap (λ (s : Stand). is_stand_due (servers_of c) i h.question.asked s) r.stand_is
-          ∙ ap (λ (a : Asked). is_look_due (servers_of c) i r.deadline true a) r.asked_is
-          ∙ over (eq_tells h.server i e)
-
-  -- a request that sleeps waits for no round
-  pub resting_late : (c : Cluster) (i : ℕ) (h : Pending) (watch : Watching) → RestsAs watch (server_of c.servers h.server).applied h.server h.question.number h.question.asked h.stand → is_late (servers_of c) i h ≡ false
-  resting_late c i h watch r = by (h.server == i)
-    where
-      by : (b : Bool) → (b && is_stand_late (servers_of c) i h.stand) ≡ false
-      by false = refl
-      by true = ap (is_stand_late (servers_of c) i) r.stand_is
 
   -- Where none of those that are awake passes, and no other does, none does.
   one_fails : (test : Pending → Bool) (all : List Pending) (h : Pending) → numbered_in h.question.number all ≡ Some h → (MayBeDue h.question.number wt → Contains wt.watch.awake h.question.number)

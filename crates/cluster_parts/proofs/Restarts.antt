@@ -1,6 +1,6 @@
 -- A restart: the server has applied nothing, and what it holds is to be closed.
 use Rattle.std.proofs.Common.{◌≡◌, inl, ℕ, ◌-◌, ◌<◌, ◌≤◌, Bool, true, false, cond, List, [], ◌∷◌, length, map, refl, sym, ◌∙◌, ap, subst, arith}
-use Rattle.std.specs.Prelude.{◌==◌}
+use Rattle.std.specs.Prelude.{◌==◌, Contains}
 use Rattle.std.specs.List.{AllByRecursion as Each}
 use Rattle.cat_model.specs.declared.request.Event.TheVariants as event
 use Rattle.raft_model.proofs.Tests.{at_bool, eq_tells}
@@ -15,9 +15,11 @@ use Rattle.cluster_rules.specs.Step.{begun_anew, ended, restarts}
 use Rattle.cluster_rules.proofs.Grows.{GoesTo, goes_by}
 use Rattle.cluster_rules.proofs.Tools.{eq_tells_not, is_place, item_other, item_same, length_set_server}
 use Rattle.open_requests.proofs.Lifting.{ends_by}
+use Rattle.open_requests.specs.Held.{NumbersAll}
 use Rattle.open_requests.specs.Notes.{events_noted}
 use Rattle.open_requests.specs.Requests.{Requests, cluster_of as whole_of, ended_all}
 use Rattle.cluster_parts.specs.declared.moving.Seen.{Seen}
+use Rattle.cluster_parts.specs.Acting.{AreAwake}
 use Rattle.cluster_parts.specs.Moving.{IsMarked, seen_of}
 use Rattle.cluster_parts.specs.Standing as standing
 use Rattle.cluster_parts.proofs.Acts.{ActedWhole, whole_with}
@@ -48,16 +50,12 @@ module _ (gs : List Agent) (wt : Watching) where
   ascends_kept i made [] a = tt
   ascends_kept i made (h ∷ held) a = (above_kept i made h.question.number (ended i made h).question.number held (number_kept i made h) a.0, ascends_kept i made held a.1)
 
-  -- where all that it holds may have something due
-  abbrev AreAwake : ℕ → List Pending → Type 0
-  AreAwake i held = Each (λ (h : Pending). h.server ≡ i → MayBeDue h.question.number wt) held
-
   is_held : (w : World) (servers : List Server) (i made asked : ℕ) (h : Pending) → (h.server ≡ i → MayBeDue h.question.number wt) → IsHeld w servers asked h → IsHeld w (set_server servers i no_server) asked (ended i made h)
   is_held w servers i made asked h awake s = at_bool (λ b. IsHeld w (set_server servers i no_server) asked (cond b (record h { stand = Ended made }) h)) (h.server == i)
       (λ e. record { numbered = s.numbered; taken = s.taken; awaited = tt; watched = inl (awake (eq_tells h.server i e)) })
       (λ e. held_same wt w servers (set_server servers i no_server) asked h (ap (λ (x : Server). x.applied) (item_other no_server servers i h.server no_server (eq_tells_not h.server i e))) s)
 
-  held_kept : (w : World) (servers : List Server) (i made asked : ℕ) (held : List Pending) → AreAwake i held → Each (IsHeld w servers asked) held → Each (IsHeld w (set_server servers i no_server) asked) (map (ended i made) held)
+  held_kept : (w : World) (servers : List Server) (i made asked : ℕ) (held : List Pending) → AreAwake wt i held → Each (IsHeld w servers asked) held → Each (IsHeld w (set_server servers i no_server) asked) (map (ended i made) held)
   held_kept w servers i made asked [] awake all = tt
   held_kept w servers i made asked (h ∷ held) awake all = (is_held w servers i made asked h awake.0 all.0, held_kept w servers i made asked held awake.1 all.1)
 
@@ -69,7 +67,7 @@ module _ (gs : List Agent) (wt : Watching) where
   ended_with i made r = record r { held = map (ended i made) r.held }
 
   -- the parts of a server that begins again stand
-  stands_ended : (i made : ℕ) (w : World) (servers : List Server) (r : Requests) → AreAwake i r.held → Stands w servers r → Stands w (set_server servers i no_server) (ended_with i made r)
+  stands_ended : (i made : ℕ) (w : World) (servers : List Server) (r : Requests) → AreAwake wt i r.held → Stands w servers r → Stands w (set_server servers i no_server) (ended_with i made r)
   stands_ended i made w servers r awake s = record {
     reached = s.reached;
     some = omega (arith, s.some, length_set_server servers i no_server);
@@ -107,22 +105,62 @@ module _ (gs : List Agent) (wt : Watching) where
           subst (λ (x : Server). ServerIsSound w'.agreed (node_of w' j).commit x) (sym (item_other no_server servers i j no_server other))
           (server_later w w' on (node_of w j).commit (node_of w' j).commit (server_of servers j) (omega (arith, commit)) (sound j))) refl
 
-  restart_stands : (failed : Bool) (i : ℕ) (w w' : World) (servers : List Server) (r r' : Requests) → AreAwake i r.held → Stands w servers r → KeepsAgreement w w' → WorldStep w (world.Restarts i) w'
+  restart_stands : (failed : Bool) (i : ℕ) (w w' : World) (servers : List Server) (r r' : Requests) → AreAwake wt i r.held → Stands w servers r → KeepsAgreement w w' → WorldStep w (world.Restarts i) w'
       → IsMarked failed i (length w'.agreed - length w.agreed) r r' → Stands w' (set_server servers i no_server) (ended_all i r')
   restart_stands failed i w w' servers r r' awake s k step m =
       let made = events_noted r'.notes in
       stands_marked gs wt failed i w w' (set_server servers i no_server) (ended_with i made r) (ended_with i made r') (stands_ended i made w servers r awake s) k
       (restart_carries w w' servers i s.reached s.count s.sound step) (ap (λ (v : World). v.greatest) step.4) (ended_marked failed i made (length w'.agreed - length w.agreed) r r' m)
 
-  pub restart_acts : (i : ℕ) (w w' : World) (servers servers' : List Server) (r r₁ r₂ r' : Requests) (c : Cluster) (before now : Seen) (room : ℕ) → AreAwake i r.held → Stands w servers r → cluster_of w servers r ≡ c → r₁ ≡ record r { room = room } → KeepsAgreement w w'
+  pub restart_acts : (i : ℕ) (w w' : World) (servers servers' : List Server) (r r₁ r₂ r' : Requests) (c : Cluster) (before now : Seen) (room : ℕ) → AreAwake wt i r.held → Stands w servers r → cluster_of w servers r ≡ c → r₁ ≡ record r { room = room } → KeepsAgreement w w'
       → servers' ≡ set_server servers i no_server → WorldStep w (world.Restarts i) w' → before ≡ seen_of w i → now ≡ seen_of w' i → IsMarked now.halted i (now.agreed - before.agreed) r₁ r₂ → r' ≡ ended_all i r₂ → ActedWhole gs wt i (event.Restart i) c w' servers' r'
   restart_acts i w w' servers servers' r r₁ r₂ r' c before now room awake s view ready k same step was seen m e =
       let p = with_room gs wt w servers r r₁ room s ready in
       let failed = (node_of w' i).halted in
       let marks : IsMarked failed i (length w'.agreed - length w.agreed) r₁ r₂ = subst (λ (z : Seen). IsMarked failed i (length w'.agreed - z.agreed) r₁ r₂) was (subst (λ (z : Seen). IsMarked z.halted i (z.agreed - before.agreed) r₁ r₂) seen m) in
-      let awake₁ : AreAwake i r₁.held = subst (λ (q : Requests). AreAwake i q.held) (sym ready) awake in
+      let awake₁ : AreAwake wt i r₁.held = subst (λ (q : Requests). AreAwake wt i q.held) (sym ready) awake in
       let stands = restart_stands failed i w w' servers r₁ r₂ awake₁ p.0 k step marks in
       let moves = cluster_marked gs wt failed i w w' servers r₁ r₂ p.0 k marks in
       let is : cluster_of w' (set_server servers i no_server) (ended_all i r₂) ≡ begun_anew i (cluster_of w' servers r₂) = ends_by w' (set_server servers i no_server) gs r₂ i in
       let whole : ActedWhole gs wt i (event.Restart i) (cluster_of w servers r₁) w' (set_server servers i no_server) (ended_all i r₂) = record { stands = stands; whole = (restarts w' refl refl step (is ∙ ap (begun_anew i) moves), tt) } in
       subst (λ (q : Requests). ActedWhole gs wt i (event.Restart i) c w' servers' q) (sym e) (whole_with gs wt i (event.Restart i) (cluster_of w servers r₁) c w' (set_server servers i no_server) servers' (ended_all i r₂) (p.1 ∙ view) same whole)
+
+module _ (wt : Watching) where
+  -- marks of a server leave what is held and asked as it is
+  marked_same : (failed : Bool) (i count : ℕ) (r r' : Requests) → IsMarked failed i count r r' → (r'.held ≡ r.held) × (r'.asked ≡ r.asked)
+  marked_same true i count r r' m = (ap (λ (q : Requests). q.held) m, ap (λ (q : Requests). q.asked) m)
+  marked_same false i count r r' m = (ap (λ (q : Requests). q.held) m, ap (λ (q : Requests). q.asked) m)
+
+  -- the same of room that was taken before
+  still_same : (failed : Bool) (i count : ℕ) (r r₁ r₂ : Requests) (room : ℕ) → r₁ ≡ record r { room = room } → IsMarked failed i count r₁ r₂ → (r₂.held ≡ r.held) × (r₂.asked ≡ r.asked)
+  still_same failed i count r r₁ r₂ room ready m =
+      let s = marked_same failed i count r₁ r₂ m in
+      (s.0 ∙ ap (λ (q : Requests). q.held) ready, s.1 ∙ ap (λ (q : Requests). q.asked) ready)
+
+  pub still_awake : (failed : Bool) (i count : ℕ) (r r₁ r₂ : Requests) (room : ℕ) → AreAwake wt i r.held → r₁ ≡ record r { room = room } → IsMarked failed i count r₁ r₂ → AreAwake wt i r₂.held
+  still_awake failed i count r r₁ r₂ room awake ready m = subst (AreAwake wt i) (sym (still_same failed i count r r₁ r₂ room ready m).0) awake
+
+  -- held requests have numbers that were given
+  abbrev AreGiven : ℕ → List Pending → Type 0
+  AreGiven asked held = Each (λ (h : Pending). h.question.number ≤ asked) held
+
+  are_given : (w : World) (servers : List Server) (asked : ℕ) (held : List Pending) → Each (standing.IsHeld wt w servers asked) held → AreGiven asked held
+  are_given w servers asked [] all = tt
+  are_given w servers asked (h ∷ held) all = (all.0.numbered, are_given w servers asked held all.1)
+
+  pub still_numbered : (failed : Bool) (i count : ℕ) (w : World) (servers : List Server) (r r₁ r₂ : Requests) (room : ℕ) → standing.Stands wt w servers r → r₁ ≡ record r { room = room } → IsMarked failed i count r₁ r₂ → AreGiven r₂.asked r₂.held
+  still_numbered failed i count w servers r r₁ r₂ room s ready m =
+      let same = still_same failed i count r r₁ r₂ room ready m in
+      subst (λ n. AreGiven n r₂.held) (sym same.1) (subst (AreGiven r.asked) (sym same.0) (are_given w servers r.asked r.held s.held))
+
+  -- where the numbers of what is awake tell all of which something may be due
+  abbrev Covers : ℕ → List ℕ → Type 0
+  Covers asked numbers = (n : ℕ) → n ≤ asked → MayBeDue n wt → Contains numbers n
+
+  all_of : (i asked : ℕ) (numbers : List ℕ) (held : List Pending) → Covers asked numbers → AreGiven asked held → AreAwake wt i held → NumbersAll i numbers held
+  all_of i asked numbers [] covers given awake = tt
+  all_of i asked numbers (h ∷ held) covers given awake = ((λ own. covers h.question.number given.0 (awake.0 own)), all_of i asked numbers held covers given.1 awake.1)
+
+  pub numbers_all : (i asked : ℕ) (r : Requests) (numbers : List ℕ) → asked ≡ r.asked → numbers ≡ wt.watch.awake → Covers asked wt.watch.awake → AreGiven r.asked r.held → AreAwake wt i r.held → NumbersAll i numbers r.held
+  numbers_all i asked r numbers count is covers given awake =
+      subst (λ l. NumbersAll i l r.held) (sym is) (all_of i r.asked wt.watch.awake r.held (λ n low due. covers n (omega (arith, low, count)) due) given awake)

@@ -27,7 +27,7 @@ ActsFrom i made old r new r' result =
 abbrev pub AreAwake : Watching → ℕ → List Pending → Type 0
 AreAwake watch i held = Each (λ h. h.server ≡ i → MayBeDue h.question.number watch) held
 
--- The same of a restart, where all is awake that the server holds.
-abbrev pub RestartsFrom : ℕ → Event → (old : Servers) → Requests → (new : Servers) → Requests → Result Unit Cut → Type 0
-RestartsFrom i made old r new r' result =
-    (agents : List Agent) (watch : Watching) → AreAwake watch i r.held → Stands watch old.world old.servers r → Acted agents watch i made (cluster_of old.world old.servers agents r) new.world new.servers r' result
+-- The same of a restart, with what is awake, which is all that the server holds.
+abbrev pub RestartsFrom : ℕ → Event → Watching → (old : Servers) → Requests → (new : Servers) → Requests → Result Unit Cut → Type 0
+RestartsFrom i made watch old r new r' result =
+    (agents : List Agent) → Acted agents watch i made (cluster_of old.world old.servers agents r) new.world new.servers r' result

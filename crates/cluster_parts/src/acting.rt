@@ -1,12 +1,16 @@
 //! What the events do at their servers that are no requests.
 
 ghost use Rattle.std.specs.Prelude.{◌≡◌, ◌≤◌, Some, length};
+ghost use Rattle.std.specs.List.{AllByRecursion as Each};
 ghost use Rattle.cat_model.specs.declared.request.Event.TheVariants as event;
 ghost use Rattle.raft_model.specs.World.{IsReached, numbered};
 ghost use Rattle.cluster_rules.specs.Step.{receiver};
-ghost use Rattle.cluster_parts.specs.Acting.{ActsFrom, RestartsFrom};
+ghost use Rattle.open_requests.specs.Requests.{ended_all};
+ghost use Rattle.cluster_parts.specs.Acting.{ActsFrom, AreAwake, RestartsFrom};
+ghost use Rattle.cluster_parts.specs.Standing.{Stands};
 
 use crate::moving::{end, mark, mark_step, prepare, seat, see};
+use crate::watching::Watching;
 use cat_model::Memory;
 use cat_outside::Keeper;
 use cluster_servers::Servers;
@@ -96,17 +100,33 @@ pub fn fail_keep<K: Keeper + Drop>(
     Ok(())
 }
 
-/// A server stops and begins again. Its store failed exactly where it is halted then, also where it was before.
+// All that a server holds is to be closed. It is awake, so that its numbers are known, unless memory ran out for them.
+fn end_held(requests: &mut Requests, watch: &Watching, server: u32)
+    requires numbered { Each (λ h. h.question.number ≤ requests.old.asked) requests.old.held }
+    requires awake { AreAwake watch.now server requests.old.held }
+    ensures { requests.new ≡ ended_all server requests.old }
+{
+    if watch.covers(requests.asked()) {
+        requests.end_among(server, watch.awake());
+    } else {
+        requests.end_all_of(server);
+    }
+}
+
+/// A server stops and begins again. Its store failed exactly where it is halted then, also where it was before. All that
+/// it holds is awake.
 pub fn restart<K: Keeper + Drop>(
     servers: &mut Servers<K>,
     requests: &mut Requests,
+    watch: &Watching,
     alloc: Global,
     server: u32,
 ) -> Result<(), Cut>
     requires first { 1 ≤ server }
     requires last { server ≤ length servers.old.servers }
-    requires reached { IsReached servers.old.world }
-    ensures { RestartsFrom server (event.Restart server) servers.old requests.old servers.new requests.new result }
+    requires awake { AreAwake watch.now server requests.old.held }
+    requires stands { Stands watch.now servers.old.world servers.old.servers requests.old }
+    ensures { RestartsFrom server (event.Restart server) watch.now servers.old requests.old servers.new requests.new result }
 {
     prepare(requests)?;
     let before = see(servers, server);
@@ -116,6 +136,6 @@ pub fn restart<K: Keeper + Drop>(
     }
     let now = see(servers, server);
     mark(requests, server, now.halted, now.agreed - before.agreed);
-    requests.end_all_of(server);
+    end_held(requests, watch, server);
     Ok(())
 }

@@ -68,24 +68,25 @@ fn wake_rounds<K: Keeper + Drop>(servers: &Servers<K>, watch: &mut Watching, ser
     }
 }
 
-/// Something may be due of all that a server holds.
-pub fn wake_held(requests: &Requests, watch: &mut Watching, server: u32)
-    requires { IsServer server watch.old.watch }
-    ensures stands { (w : World) (servers : List Server) → Stands watch.old w servers requests.now → Stands watch.new w servers requests.now }
-    ensures awake { (w : World) (servers : List Server) → Stands watch.old w servers requests.now → AreAwake watch.new server requests.now.held }
-{
-    // What stands of the parts is kept by what the requests are, which this call leaves alone.
-    let _ = requests;
-    watch.rouse(server);
-}
-
 // New requests are taken in, and what is awake is told apart again where memory ran out before.
 fn take_in(requests: &Requests, watch: &mut Watching)
     requires { watch.old.seen ≤ requests.now.asked }
-    ensures { (w : World) (servers : List Server) → Stands watch.old w servers requests.now → Stands watch.new w servers requests.now }
+    ensures stands { (w : World) (servers : List Server) → Stands watch.old w servers requests.now → Stands watch.new w servers requests.now }
+    ensures servers { watch.new.watch.servers ≡ watch.old.watch.servers }
 {
     watch.take_in(requests.asked());
     watch.recover(requests.held());
+}
+
+/// New requests are taken in, and then something may be due of all that a server holds.
+pub fn wake_held(requests: &Requests, watch: &mut Watching, server: u32)
+    requires server { IsServer server watch.old.watch }
+    requires seen { watch.old.seen ≤ requests.now.asked }
+    ensures stands { (w : World) (servers : List Server) → Stands watch.old w servers requests.now → Stands watch.new w servers requests.now }
+    ensures awake { (w : World) (servers : List Server) → Stands watch.old w servers requests.now → AreAwake watch.new server requests.now.held }
+{
+    take_in(requests, watch);
+    watch.rouse(server);
 }
 
 // Those wake of which something is due at a server that runs.
@@ -123,10 +124,10 @@ pub(crate) fn wake_due<K: Keeper + Drop>(
     ensures stands { Stands watch.new servers.now.world servers.now.servers requests.now }
     ensures awake { OnlyAwakeIsDue watch.new servers.now server requests.now.held }
 {
-    take_in(requests, watch);
     if is_halted(servers, server) {
         wake_held(requests, watch, server);
     } else {
+        take_in(requests, watch);
         wake_ready(servers, requests, watch, alloc, server);
     }
 }
