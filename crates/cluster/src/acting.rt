@@ -58,6 +58,12 @@ impl<K: Keeper + Drop> Cluster<K> {
         ensures cut { IfErr result (λ cut. ActsCut server (event.Restart server) cut self.old self.new) }
     {
         wake_held(&self.requests, &mut self.watch, server);
-        restart(&mut self.servers, &mut self.requests, alloc, server)
+        restart(
+            &mut self.servers,
+            &mut self.requests,
+            &self.watch,
+            alloc,
+            server,
+        )
     }
 }
