@@ -1,5 +1,7 @@
-//! Tests of a cluster's clocks by values that no script reaches. There is no code beside them.
+//! Tests of a cluster and of its servers by values that no script reaches. There is no code beside them.
 #![tactic(auto)]
 
 #[cfg(test)]
 mod clocks;
+#[cfg(test)]
+mod servers;

@@ -1,11 +1,19 @@
-//! Tests of the program's one call, of what no script in a file can say: wrong words, a source and a sink that fail,
-//! servers to which no connection comes, scripts past a limit, and the numbers of a report. There is no code beside
-//! them.
+//! Tests of the program's one call, of what no row can say: wrong words, a source and a sink that fail, servers to which
+//! no connection comes, scripts past a limit, the numbers of a report, a server over TCP with its clients and its agents'
+//! clocks, and a request that waits by a clock of the test's own. There is no code beside them.
 #![tactic(auto)]
 
 #[cfg(test)]
+mod clocks;
+#[cfg(test)]
 mod endings;
+#[cfg(test)]
+mod over_tcp;
 #[cfg(test)]
 mod playing;
 #[cfg(test)]
 mod reports;
+#[cfg(test)]
+mod serving;
+#[cfg(test)]
+mod waiting;

@@ -1,4 +1,4 @@
-use Rattle.serving_tests.proofs.waiting.waiting_reads_are_collected.Given as goal
+use Rattle.program_tests.proofs.waiting.waiting_reads_are_collected.Given as goal
 
 -- the cluster has one server and one agent
 abbrev pub ghosts-serve : goal.ghosts-serve

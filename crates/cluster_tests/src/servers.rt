@@ -3,7 +3,7 @@ ghost use Rattle.raft_model.specs.World.{numbered};
 ghost use Rattle.raft_world.specs.Steps.{IsNumber};
 
 use cat_model::{Answer, Bytes, Command, List, Memory, Query, Role, Shared, Steps, Text};
-use cat_outside::{KeepFail, SureKeeper};
+use cat_outside::{KeepFail, MemKeeper};
 use cluster_servers::Servers;
 use raft_model::{Place, Round};
 use raft_node::{ProbeFault, ProposeFault};
@@ -14,12 +14,19 @@ use std::sync::ledger::{Blank, Ledger};
 use std::test::*;
 
 // One or two servers whose stores hold nothing yet.
-fn empty(alloc: Global, two: bool) -> Result<Servers<SureKeeper>, KeepFail> {
+fn empty(alloc: Global, two: bool) -> Result<Servers<MemKeeper>, KeepFail> {
     let mut stores = List::new(alloc);
-    if stores.push(SureKeeper::new(alloc)).is_err() {
+    if stores
+        .push(MemKeeper::new(alloc, List::new(alloc)))
+        .is_err()
+    {
         return Err(KeepFail::Memory);
     }
-    if two && stores.push(SureKeeper::new(alloc)).is_err() {
+    if two
+        && stores
+            .push(MemKeeper::new(alloc, List::new(alloc)))
+            .is_err()
+    {
         return Err(KeepFail::Memory);
     }
     match Servers::new(alloc, stores) {
@@ -28,20 +35,20 @@ fn empty(alloc: Global, two: bool) -> Result<Servers<SureKeeper>, KeepFail> {
     }
 }
 
-fn is_server(servers: &Servers<SureKeeper>, s: u32) -> bool
+fn is_server(servers: &Servers<MemKeeper>, s: u32) -> bool
     ensures { result ≡ true → IsNumber s servers.now.world }
 {
     1 <= s && s <= servers.count()
 }
 
-fn in_bag(servers: &Servers<SureKeeper>, k: u64) -> bool
+fn in_bag(servers: &Servers<MemKeeper>, k: u64) -> bool
     ensures { result ≡ true → is_some (numbered k servers.now.world.bag.packets) ≡ true }
 {
     servers.receiver(k).is_some()
 }
 
 // A time-out of a server.
-fn time_out(alloc: Global, servers: &mut Servers<SureKeeper>, s: u32) -> Result<(), Memory> {
+fn time_out(alloc: Global, servers: &mut Servers<MemKeeper>, s: u32) -> Result<(), Memory> {
     if is_server(servers, s) {
         servers.timeout(alloc, s)?;
     }
@@ -49,7 +56,7 @@ fn time_out(alloc: Global, servers: &mut Servers<SureKeeper>, s: u32) -> Result<
 }
 
 // A heartbeat of a server.
-fn beat(alloc: Global, servers: &mut Servers<SureKeeper>, s: u32) -> Result<(), Memory> {
+fn beat(alloc: Global, servers: &mut Servers<MemKeeper>, s: u32) -> Result<(), Memory> {
     if is_server(servers, s) {
         servers.beat(alloc, s)?;
     }
@@ -57,7 +64,7 @@ fn beat(alloc: Global, servers: &mut Servers<SureKeeper>, s: u32) -> Result<(), 
 }
 
 // Loses the message of the lowest number, where there is one.
-fn lose_lowest(servers: &mut Servers<SureKeeper>) -> bool {
+fn lose_lowest(servers: &mut Servers<MemKeeper>) -> bool {
     let Some(k) = servers.lowest() else {
         return false;
     };
@@ -68,7 +75,7 @@ fn lose_lowest(servers: &mut Servers<SureKeeper>) -> bool {
 }
 
 // Delivers the message of the lowest number, where there is one, and takes it out.
-fn deliver_lowest(alloc: Global, servers: &mut Servers<SureKeeper>) -> Result<bool, Memory> {
+fn deliver_lowest(alloc: Global, servers: &mut Servers<MemKeeper>) -> Result<bool, Memory> {
     let Some(k) = servers.lowest() else {
         return Ok(false);
     };
@@ -79,7 +86,7 @@ fn deliver_lowest(alloc: Global, servers: &mut Servers<SureKeeper>) -> Result<bo
 }
 
 // Delivers messages, up to so many, and tells how many there were.
-fn deliver_all(alloc: Global, servers: &mut Servers<SureKeeper>, most: u32) -> Result<u32, Memory> {
+fn deliver_all(alloc: Global, servers: &mut Servers<MemKeeper>, most: u32) -> Result<u32, Memory> {
     for count in 0..most {
         if !deliver_lowest(alloc, servers)? {
             return Ok(count);
@@ -89,7 +96,7 @@ fn deliver_all(alloc: Global, servers: &mut Servers<SureKeeper>, most: u32) -> R
 }
 
 // A server applies its next position, where more is committed.
-fn apply_next(alloc: Global, servers: &mut Servers<SureKeeper>, s: u32) -> Result<bool, Memory> {
+fn apply_next(alloc: Global, servers: &mut Servers<MemKeeper>, s: u32) -> Result<bool, Memory> {
     if !is_server(servers, s) || !servers.has_next(s) {
         return Ok(false);
     }
@@ -98,7 +105,7 @@ fn apply_next(alloc: Global, servers: &mut Servers<SureKeeper>, s: u32) -> Resul
 }
 
 // How many positions a server has applied, the term of the last one, and its clock there.
-fn applied(servers: &Servers<SureKeeper>, s: u32) -> (u64, u64, Option<u64>) {
+fn applied(servers: &Servers<MemKeeper>, s: u32) -> (u64, u64, Option<u64>) {
     if !is_server(servers, s) {
         return (0, 0, None);
     }
@@ -107,14 +114,14 @@ fn applied(servers: &Servers<SureKeeper>, s: u32) -> (u64, u64, Option<u64>) {
 }
 
 // The clock of a server goes on by seven milliseconds.
-fn wait(servers: &mut Servers<SureKeeper>, s: u32) {
+fn wait(servers: &mut Servers<MemKeeper>, s: u32) {
     if is_server(servers, s) && servers.clock(s) < 1000 {
         servers.tick(s, 7);
     }
 }
 
 // A server takes office, and looks for what is to be reaped.
-fn take_office(servers: &mut Servers<SureKeeper>, s: u32) {
+fn take_office(servers: &mut Servers<MemKeeper>, s: u32) {
     if is_server(servers, s) {
         servers.lead(s);
         servers.look(s);
@@ -122,7 +129,7 @@ fn take_office(servers: &mut Servers<SureKeeper>, s: u32) {
 }
 
 // A server begins again.
-fn restart(alloc: Global, servers: &mut Servers<SureKeeper>, s: u32) -> Result<(), Memory> {
+fn restart(alloc: Global, servers: &mut Servers<MemKeeper>, s: u32) -> Result<(), Memory> {
     if is_server(servers, s) {
         servers.restart(alloc, s)?;
     }
@@ -148,7 +155,7 @@ fn a_leader_applies_its_noop(rt: HostRuntime) -> Result<(), Fail> {
 // A server proposes to set the key `a` to `hello`.
 fn set_key(
     alloc: Global,
-    servers: &mut Servers<SureKeeper>,
+    servers: &mut Servers<MemKeeper>,
     s: u32,
 ) -> Result<Option<Result<Place, ProposeFault>>, Memory> {
     let command = Command::KvSet {
@@ -177,7 +184,7 @@ fn row_of(answer: &Answer) -> (u64, usize) {
 // The row of the key `a` at server 1, and its index.
 fn key_read<L: Ledger>(
     alloc: Global,
-    servers: &Servers<SureKeeper>,
+    servers: &Servers<MemKeeper>,
     blank: Blank,
 ) -> Result<((u64, usize), u64), Memory>
     requires name { blank.name ≡ L.name }
@@ -211,7 +218,7 @@ fn a_set_key_is_read_once_applied(rt: HostRuntime) -> Result<(), Fail> {
 }
 
 // A server's role, and the terms of its first two positions that are applied.
-fn state(servers: &Servers<SureKeeper>, s: u32) -> Option<(Role, u64, u64)> {
+fn state(servers: &Servers<MemKeeper>, s: u32) -> Option<(Role, u64, u64)> {
     if !is_server(servers, s) {
         return None;
     }
@@ -222,7 +229,7 @@ fn state(servers: &Servers<SureKeeper>, s: u32) -> Option<(Role, u64, u64)> {
 // A probe of a server.
 fn probe(
     alloc: Global,
-    servers: &mut Servers<SureKeeper>,
+    servers: &mut Servers<MemKeeper>,
     s: u32,
 ) -> Option<Result<Round, ProbeFault>> {
     if !is_server(servers, s) || servers.node(s).round() == u64::MAX {

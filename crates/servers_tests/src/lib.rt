@@ -1,5 +1,0 @@
-//! Tests of a cluster's servers by values that no script reaches. There is no code beside them.
-#![tactic(auto)]
-
-#[cfg(test)]
-mod servers;
