@@ -1,38 +1,10 @@
-//! What bodies ask for, in the words of a case. A list is its items parted by commas.
+//! What bodies ask for, in the words of a case.
 
+use crate::texts::{put_texts, shown, status};
 use anyhow::Result;
-use cat_model::{
-    AgentOp, Behavior, Command, List, NewCheck, NewService, Status, Text, TtlDef, TxnOp,
-};
+use cat_model::{AgentOp, Behavior, Command, List, NewCheck, NewService, TtlDef, TxnOp};
 use json_bodies::{CheckUpdate, NewQuery, NewSession};
 use std::alloc::Global;
-
-fn shown(text: &Text) -> &str {
-    if text.len() == 0 { "-" } else { text.as_str() }
-}
-
-fn put_texts(out: &mut String, texts: &[Text]) -> Result<()> {
-    if texts.is_empty() {
-        out.push_str("-")?;
-    }
-    let mut is_first = true;
-    for text in texts {
-        if !is_first {
-            out.push_str(",")?;
-        }
-        out.push_str(text.as_str())?;
-        is_first = false;
-    }
-    Ok(())
-}
-
-fn status(status: Status) -> &'static str {
-    match status {
-        Status::Passing => "passing",
-        Status::Warning => "warning",
-        Status::Critical => "critical",
-    }
-}
 
 fn put_service(alloc: Global, out: &mut String, service: &NewService) -> Result<()> {
     let id = shown(&service.id);

@@ -1,44 +1,15 @@
-//! Reads the worked bodies of requests in the folder where it runs, and says of how many each asks for what it should. They
-//! lie in `data/`.
-//!
-//! A line of `bodies.txt` is the kind of a request, its body, ` => ` and what the body asks for, or `invalid FIELD`;
-//! `shown.rt` says how that is written. An empty text or list, or none, is `-`.
-#![tactic(auto)]
+//! Bodies, and what they ask for.
 
-mod shown;
-
-use anyhow::{Context, Result, anyhow};
+use crate::bodies_shown as shown;
+use anyhow::{Result, anyhow};
 use json_bodies::{
     ReadError, duration, read_agent_check, read_agent_service, read_check_update, read_deregister,
     read_query, read_register, read_session, read_transaction,
 };
 use std::alloc::Global;
-use std::fs;
-use std::process::ExitCode;
 
-fn main(rt: HostRuntime) -> Result<ExitCode> {
-    let bodies = fs::read_to_string(&rt, "bodies.txt").context("bodies.txt")?;
-    let mut differing = 0u64;
-    for line in bodies.as_str().lines() {
-        let Some((said, wanted)) = line.split_once(" => ") else {
-            continue;
-        };
-        let is = given(rt.alloc(), said)?;
-        if is.as_str() != wanted {
-            differing = differing.saturating_add(1);
-            println!(rt; "differs: {said} => {is}")?;
-        }
-    }
-    println!(rt; "{differing} differ")?;
-    Ok(if differing == 0 {
-        ExitCode::SUCCESS
-    } else {
-        ExitCode::from(1)
-    })
-}
-
-// What the body of a line asks for.
-fn given(alloc: Global, said: &str) -> Result<String> {
+/// What the body of a line asks for.
+pub fn given(alloc: Global, said: &str) -> Result<String> {
     let (kind, text) = said.split_once(" ").unwrap_or((said, ""));
     let body = text.as_bytes();
     match kind {

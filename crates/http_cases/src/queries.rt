@@ -1,6 +1,6 @@
 //! Queries in the words of a case.
 
-use crate::shown::{put_texts, shown, status};
+use crate::texts::{put_texts, shown, status};
 use anyhow::Result;
 use cat_model::{Query, Text, Texts};
 use std::alloc::Global;
