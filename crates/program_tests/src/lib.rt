@@ -1,6 +1,6 @@
 //! Tests of the program's one call, of what no row can say: wrong words, a source and a sink that fail, servers to which
-//! no connection comes, scripts past a limit, the numbers of a report, a server over TCP with its clients and its agents'
-//! clocks, and a request that waits by a clock of the test's own. There is no code beside them.
+//! no connection comes, scripts past a limit, the numbers of a report, and a server over TCP with its clients and its
+//! agents' clocks. There is no code beside them.
 #![tactic(auto)]
 
 #[cfg(test)]
@@ -15,5 +15,3 @@ mod playing;
 mod reports;
 #[cfg(test)]
 mod serving;
-#[cfg(test)]
-mod waiting;

@@ -1,13 +1,5 @@
-//! Tests of the tables of rows and of keys: each call once, and a load of many keys. There is no code beside them.
+//! Tests of the table of keys, of what no case of the catalog says. There is no code beside them.
 #![tactic(auto)]
 
 #[cfg(test)]
-mod catalog_rows;
-#[cfg(test)]
-mod keys;
-#[cfg(test)]
 mod load;
-#[cfg(test)]
-mod made;
-#[cfg(test)]
-mod services;

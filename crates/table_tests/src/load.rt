@@ -1,7 +1,6 @@
 //! A load of many keys, which only a table whose calls cost a logarithm gets through in a test's time.
 
-use crate::made::put_key;
-use cat_model::{Memory, Text};
+use cat_model::{Bytes, KvRow, Memory, Text};
 use kv_table::KvTable;
 use std::alloc::Global;
 use std::test::Fail;
@@ -9,12 +8,26 @@ use std::test::Fail;
 /// How many keys there are. They are set in the order `k0`, `k1`, `k2` and so on, which is not their own.
 const KEYS: u64 = 250_000;
 
+// Sets a key at a position. Its row is lost where memory is out.
+fn put(alloc: Global, table: &mut KvTable, key: &str, position: u64) -> Result<(), Memory> {
+    let row = KvRow {
+        key: Text::new(alloc, key)?,
+        value: Bytes::new(alloc, b"v")?,
+        flags: 0,
+        session: None,
+        lock_index: 0,
+        create: position,
+        modify: position,
+    };
+    table.set(row).map_err(|(_, memory)| memory)
+}
+
 // The table after each key was set at its number and kept.
 fn loaded(alloc: Global) -> Result<KvTable, Memory> {
     let mut table = KvTable::new(alloc)?;
     for number in 0..KEYS {
         let key = format!(in alloc; "k{number}")?;
-        put_key(alloc, &mut table, key.as_str(), number)?;
+        put(alloc, &mut table, key.as_str(), number)?;
         table.keep();
     }
     Ok(table)
