@@ -6,20 +6,31 @@ use std::alloc::Global;
 pub fn is_told(alloc: Global, line: &str) -> Result<bool> {
     let mut words = line.split_whitespace();
     let digits = words.next().unwrap_or("");
-    let told = words.next().unwrap_or("");
-    let bytes = if digits == "-" {
-        Vec::new(alloc)
-    } else {
-        hex::decode(alloc, digits)?
-    };
-    let Err(fault) = decode(alloc, bytes.as_slice()) else {
-        return Ok(false);
-    };
+    let told = told_fault(words.next().unwrap_or(""))?;
+    Ok(fault_of_digits(alloc, digits)? == Some(told))
+}
+
+// The fault that the word tells: `cut`, or the place of the first bad byte.
+fn told_fault(told: &str) -> Result<DecodeFault> {
     if told == "cut" {
-        return Ok(fault == DecodeFault::Cut);
+        return Ok(DecodeFault::Cut);
     }
     match told.parse() {
-        Ok(at) => Ok(fault == DecodeFault::Bad { at }),
+        Ok(at) => Ok(DecodeFault::Bad { at }),
         Err(_) => Err(anyhow!("no place: {told}")),
     }
+}
+
+// The fault of the bytes that the digits say, of which `-` is none at all.
+fn fault_of_digits(alloc: Global, digits: &str) -> Result<Option<DecodeFault>> {
+    if digits == "-" {
+        return Ok(fault_of(alloc, &[]));
+    }
+    let bytes = hex::decode(alloc, digits)?;
+    Ok(fault_of(alloc, bytes.as_slice()))
+}
+
+/// Why the bytes begin with no command, if so.
+pub fn fault_of(alloc: Global, bytes: &[u8]) -> Option<DecodeFault> {
+    decode(alloc, bytes).err()
 }

@@ -2,10 +2,10 @@
 //! `matches LOG PREV PREV_TERM`, `up-to-date LOG TERM INDEX` (of another log's last entry), `standing LOG PREV ENTRIES`,
 //! `batch-length LOG`, `batch LOG` and `copied LOG`; the others stand in `numbers.rt`.
 
-use crate::shown::unread;
-use crate::words::{Words, answered, number};
+use crate::shown::{counted, tested, unread};
+use crate::words::{Words, number};
 use crate::{logs, numbers};
-use cat_model::{Entry, Memory};
+use cat_model::{Entry, List, Memory};
 use raft_node::{batch, log};
 use std::alloc::Global;
 
@@ -26,73 +26,57 @@ fn of_log(alloc: Global, what: &str, words: &mut Words) -> Result<String, Memory
     };
     let have = have.as_slice();
     match what {
-        "term-at" => term_at(alloc, have, words),
-        "last-term" => last_term(alloc, have),
-        "matches" => matches(alloc, have, words),
-        "up-to-date" => up_to_date(alloc, have, words),
-        _ => standing(alloc, have, words),
+        "term-at" => counted(alloc, term_at(have, words)),
+        "last-term" => counted(alloc, Some(log::last_term(have))),
+        "matches" => tested(alloc, matches(have, words)),
+        "up-to-date" => tested(alloc, up_to_date(have, words)),
+        _ => counted(alloc, standing(alloc, have, words)),
     }
 }
 
-fn term_at(alloc: Global, have: &[Entry], words: &mut Words) -> Result<String, Memory> {
-    let Some(index) = number(words) else {
-        return unread(alloc);
-    };
-    let term = log::term_at(have, index);
-    Ok(format!(in alloc; "{term}")?)
+fn term_at(have: &[Entry], words: &mut Words) -> Option<u64> {
+    let index = number(words)?;
+    Some(log::term_at(have, index))
 }
 
-fn last_term(alloc: Global, have: &[Entry]) -> Result<String, Memory> {
-    let term = log::last_term(have);
-    Ok(format!(in alloc; "{term}")?)
+fn matches(have: &[Entry], words: &mut Words) -> Option<bool> {
+    let prev = number(words)?;
+    let prev_term = number(words)?;
+    Some(log::matches(have, prev, prev_term))
 }
 
-fn matches(alloc: Global, have: &[Entry], words: &mut Words) -> Result<String, Memory> {
-    let (Some(prev), Some(prev_term)) = (number(words), number(words)) else {
-        return unread(alloc);
-    };
-    let is = answered(log::matches(have, prev, prev_term));
-    Ok(String::from_str(alloc, is)?)
+fn up_to_date(have: &[Entry], words: &mut Words) -> Option<bool> {
+    let term = number(words)?;
+    let index = number(words)?;
+    Some(log::is_up_to_date(term, index, have))
 }
 
-fn up_to_date(alloc: Global, have: &[Entry], words: &mut Words) -> Result<String, Memory> {
-    let (Some(term), Some(index)) = (number(words), number(words)) else {
-        return unread(alloc);
-    };
-    let is = answered(log::is_up_to_date(term, index, have));
-    Ok(String::from_str(alloc, is)?)
-}
-
-fn standing(alloc: Global, have: &[Entry], words: &mut Words) -> Result<String, Memory> {
-    let (Some(prev), Some(entries)) = (number(words), logs::read(alloc, words)) else {
-        return unread(alloc);
-    };
+fn standing(alloc: Global, have: &[Entry], words: &mut Words) -> Option<u64> {
+    let prev = number(words)?;
     if prev > have.len() as u64 {
-        return unread(alloc);
+        return None;
     }
-    let count = log::standing(have, prev as usize, entries.as_slice());
-    Ok(format!(in alloc; "{count}")?)
+    let entries = logs::read(alloc, words)?;
+    Some(log::standing(have, prev as usize, entries.as_slice()) as u64)
 }
 
 fn of_batch(alloc: Global, what: &str, words: &mut Words) -> Result<String, Memory> {
-    let Some(entries) = logs::read(alloc, words) else {
-        return unread(alloc);
-    };
-    let entries = entries.as_slice();
-    match what {
-        "batch-length" => length(alloc, entries),
-        "batch" => put(alloc, batch::batch(alloc, entries)?.as_slice()),
-        _ => put(alloc, batch::copied(alloc, entries)?.as_slice()),
+    match logs::read(alloc, words) {
+        None => unread(alloc),
+        Some(entries) => batched(alloc, what, entries.as_slice()),
     }
 }
 
-fn length(alloc: Global, entries: &[Entry]) -> Result<String, Memory> {
-    let length = batch::batch_length(alloc, entries)?;
-    Ok(format!(in alloc; "{length}")?)
+fn batched(alloc: Global, what: &str, entries: &[Entry]) -> Result<String, Memory> {
+    match what {
+        "batch-length" => counted(alloc, Some(batch::batch_length(alloc, entries)? as u64)),
+        "batch" => put(alloc, batch::batch(alloc, entries)?),
+        _ => put(alloc, batch::copied(alloc, entries)?),
+    }
 }
 
-fn put(alloc: Global, entries: &[Entry]) -> Result<String, Memory> {
+fn put(alloc: Global, entries: List<Entry>) -> Result<String, Memory> {
     let mut out = String::new(alloc);
-    logs::put(&mut out, entries)?;
+    logs::put(&mut out, entries.as_slice())?;
     Ok(out)
 }

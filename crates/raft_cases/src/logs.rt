@@ -8,19 +8,19 @@ use std::fmt::Write;
 
 /// The next word as the entries of a log, each a Reap. `None` also stands for want of memory.
 pub fn read(alloc: Global, words: &mut Words) -> Option<Vec<Entry>> {
-    let mut log = Vec::new(alloc);
     let word = words.next()?;
-    if word != "-" {
-        push_runs(alloc, &mut log, word)?;
+    if word == "-" {
+        return Some(Vec::new(alloc));
     }
-    Some(log)
+    runs(alloc, word)
 }
 
-fn push_runs(alloc: Global, log: &mut Vec<Entry>, word: &str) -> Option<()> {
+fn runs(alloc: Global, word: &str) -> Option<Vec<Entry>> {
+    let mut log = Vec::new(alloc);
     for run in word.split(',') {
-        push_run(alloc, log, run)?;
+        push_run(alloc, &mut log, run)?;
     }
-    Some(())
+    Some(log)
 }
 
 fn push_run(alloc: Global, log: &mut Vec<Entry>, run: &str) -> Option<()> {
@@ -32,14 +32,19 @@ fn push_run(alloc: Global, log: &mut Vec<Entry>, run: &str) -> Option<()> {
 
 fn push_entries(alloc: Global, log: &mut Vec<Entry>, term: u64, count: u32) -> Option<()> {
     for _ in 0..count {
-        log.push(Entry {
-            term,
-            number: 0,
-            command: Shared::new(alloc, Command::Reap).ok()?,
-        })
-        .ok()?;
+        push_entry(alloc, log, term)?;
     }
     Some(())
+}
+
+fn push_entry(alloc: Global, log: &mut Vec<Entry>, term: u64) -> Option<()> {
+    let command = Shared::new(alloc, Command::Reap).ok()?;
+    log.push(Entry {
+        term,
+        number: 0,
+        command,
+    })
+    .ok()
 }
 
 /// The terms of the entries.

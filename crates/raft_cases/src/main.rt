@@ -38,21 +38,49 @@ fn main(rt: HostRuntime) -> Result<ExitCode> {
 // Plays the case of this name, prints the lines that differ and how many do not, and says whether none differs.
 fn is_as_written(rt: &HostRuntime, name: &str) -> Result<bool> {
     let text = text_of(rt, name)?;
+    let (same, lines) = play(rt, name, text.as_str())?;
+    println!(rt; "{name}: {same} of {lines} as written")?;
+    Ok(same == lines)
+}
+
+fn play(rt: &HostRuntime, name: &str, text: &str) -> Result<(u64, u64)> {
     let mut stage = Stage::Empty;
+    let counts = play_lines(rt, name, text, &mut stage);
+    drop(stage); // Before any early return.
+    counts
+}
+
+// Plays the lines in turn, and says how many are as written and how many there are.
+fn play_lines(rt: &HostRuntime, name: &str, text: &str, stage: &mut Stage) -> Result<(u64, u64)> {
     let mut lines = 0u64;
     let mut same = 0u64;
-    for line in text.as_str().lines() {
+    for line in text.lines() {
         let Some((said, wanted)) = line.split_once(" => ") else {
             continue;
         };
         lines = lines.saturating_add(1);
-        match differing(rt.alloc(), &mut stage, said, wanted)? {
-            None => same = same.saturating_add(1),
-            Some(is) => println!(rt; "{name}: {said} => {is}")?,
+        if is_line_as_written(rt, name, stage, said, wanted)? {
+            same = same.saturating_add(1);
         }
     }
-    println!(rt; "{name}: {same} of {lines} as written")?;
-    Ok(same == lines)
+    Ok((same, lines))
+}
+
+// Plays a line, and prints it where it differs.
+fn is_line_as_written(
+    rt: &HostRuntime,
+    name: &str,
+    stage: &mut Stage,
+    said: &str,
+    wanted: &str,
+) -> Result<bool> {
+    match differing(rt.alloc(), stage, said, wanted)? {
+        None => Ok(true),
+        Some(is) => {
+            println!(rt; "{name}: {said} => {is}")?;
+            Ok(false)
+        }
+    }
 }
 
 fn text_of(rt: &HostRuntime, name: &str) -> Result<String> {

@@ -55,9 +55,9 @@ fn append(alloc: Global, words: &mut Words) -> Option<Message>
     let prev_index = number(words)?;
     let prev_term = number(words)?;
     let count = server(words)?;
-    let entries = noops(alloc, term, count)?;
     let commit = number(words)?;
     let round = number(words)?;
+    let entries = noops(alloc, term, count)?;
     Some(Message::Append {
         term,
         prev_index,
@@ -103,17 +103,41 @@ fn noop(alloc: Global, term: u64) -> Result<Entry, Memory>
 fn noops(alloc: Global, term: u64, count: u32) -> Option<List<Entry>>
     ensures { IfSome result (λ entries. keeps_limits entries ≡ true) }
 {
+    match count {
+        0 => Some(List::new(alloc)),
+        1 => one_noop(alloc, term),
+        2 => two_noops(alloc, term),
+        3 => three_noops(alloc, term),
+        _ => None,
+    }
+}
+
+fn one_noop(alloc: Global, term: u64) -> Option<List<Entry>>
+    ensures { IfSome result (λ entries. keeps_limits entries ≡ true) }
+{
+    let Ok(one) = noop(alloc, term) else {
+        return None;
+    };
+    Some(List::from(vec![in alloc; one].ok()?))
+}
+
+fn two_noops(alloc: Global, term: u64) -> Option<List<Entry>>
+    ensures { IfSome result (λ entries. keeps_limits entries ≡ true) }
+{
+    let (Ok(one), Ok(two)) = (noop(alloc, term), noop(alloc, term)) else {
+        return None;
+    };
+    Some(List::from(vec![in alloc; one, two].ok()?))
+}
+
+fn three_noops(alloc: Global, term: u64) -> Option<List<Entry>>
+    ensures { IfSome result (λ entries. keeps_limits entries ≡ true) }
+{
     let (Ok(one), Ok(two), Ok(three)) = (noop(alloc, term), noop(alloc, term), noop(alloc, term))
     else {
         return None;
     };
-    match count {
-        0 => Some(List::new(alloc)),
-        1 => Some(List::from(vec![in alloc; one].ok()?)),
-        2 => Some(List::from(vec![in alloc; one, two].ok()?)),
-        3 => Some(List::from(vec![in alloc; one, two, three].ok()?)),
-        _ => None,
-    }
+    Some(List::from(vec![in alloc; one, two, three].ok()?))
 }
 
 /// A message.

@@ -4,8 +4,8 @@
 //! or `set KEY VALUE`; and `agreed` with any of `COMMIT@PLACE`, which gives the length of the agreed log after each.
 
 use crate::logs;
-use crate::shown::unread;
-use crate::words::{Words, answered, number, numbers, server, servers};
+use crate::shown::{counted, tested, unread};
+use crate::words::{Words, number, numbers, server};
 use cat_model::{Bytes, Command, Entry, List, Memory, Shared, Text};
 use raft_model::Message;
 use raft_node::{batch, quorum};
@@ -17,51 +17,47 @@ use std::fmt::Write;
 /// What a function gives.
 pub fn given(alloc: Global, what: &str, words: &mut Words) -> Result<String, Memory> {
     match what {
-        "set" => set(alloc, words),
-        "agreed" => agreed(alloc, words),
-        "reached" | "member" | "majority" => tested(alloc, what, words),
-        _ => counted(alloc, what, words),
+        "set" => listed(alloc, set(alloc, words)),
+        "agreed" => listed(alloc, lengths(alloc, words)),
+        "reached" | "member" | "majority" => tested(alloc, test(alloc, what, words)),
+        _ => counted(alloc, count(alloc, what, words)),
     }
 }
 
-fn tested(alloc: Global, what: &str, words: &mut Words) -> Result<String, Memory> {
-    let is = match what {
+fn listed(alloc: Global, numbers: Option<Vec<u64>>) -> Result<String, Memory> {
+    let Some(numbers) = numbers else {
+        return unread(alloc);
+    };
+    let mut out = String::new(alloc);
+    put_numbers(&mut out, numbers.as_slice())?;
+    Ok(out)
+}
+
+fn test(alloc: Global, what: &str, words: &mut Words) -> Option<bool> {
+    match what {
         "reached" => reached(alloc, words),
         "member" => member(alloc, words),
         _ => majority(alloc, words),
-    };
-    match is {
-        None => unread(alloc),
-        Some(is) => Ok(String::from_str(alloc, answered(is))?),
     }
 }
 
-fn counted(alloc: Global, what: &str, words: &mut Words) -> Result<String, Memory> {
-    let number = match what {
+fn count(alloc: Global, what: &str, words: &mut Words) -> Option<u64> {
+    match what {
         "of-server" => of_server(alloc, words),
         "committed" => committed(alloc, words),
         "command-bytes" => command_bytes(alloc, words),
         "vote-bytes" => Some(vote_bytes()),
         "append-bytes" => append_bytes(alloc, words),
         _ => None,
-    };
-    match number {
-        None => unread(alloc),
-        Some(number) => Ok(format!(in alloc; "{number}")?),
     }
 }
 
-fn set(alloc: Global, words: &mut Words) -> Result<String, Memory> {
-    let Some(mut numbers) = numbers(alloc, words) else {
-        return unread(alloc);
-    };
-    let (Some(server), Some(number)) = (server(words), number(words)) else {
-        return unread(alloc);
-    };
+fn set(alloc: Global, words: &mut Words) -> Option<Vec<u64>> {
+    let mut numbers = numbers(alloc, words)?;
+    let server = server(words)?;
+    let number = number(words)?;
     quorum::set_server(&mut numbers, server, number);
-    let mut out = String::new(alloc);
-    put_numbers(&mut out, numbers.as_slice())?;
-    Ok(out)
+    Some(numbers)
 }
 
 fn put_numbers(out: &mut String, numbers: &[u64]) -> Result<(), AllocError> {
@@ -91,14 +87,14 @@ fn reached(alloc: Global, words: &mut Words) -> Option<bool> {
 }
 
 fn member(alloc: Global, words: &mut Words) -> Option<bool> {
-    let votes = servers(alloc, words)?;
+    let votes = numbers(alloc, words)?;
     let server = server(words)?;
     Some(quorum::is_member(votes.as_slice(), server))
 }
 
 fn majority(alloc: Global, words: &mut Words) -> Option<bool> {
     let count = server(words)?;
-    let votes = servers(alloc, words)?;
+    let votes = numbers(alloc, words)?;
     Some(quorum::has_majority(count, votes.as_slice()))
 }
 
@@ -122,27 +118,32 @@ fn committed(alloc: Global, words: &mut Words) -> Option<u64> {
 fn command(alloc: Global, words: &mut Words) -> Option<Command> {
     match words.next()? {
         "reap" => Some(Command::Reap),
-        "set" => {
-            let key = Text::new(alloc, words.next()?).ok()?;
-            let value = Bytes::new(alloc, words.next()?.as_bytes()).ok()?;
-            Some(Command::KvSet {
-                key,
-                flags: 0,
-                value,
-            })
-        }
+        "set" => set_command(alloc, words),
         _ => None,
     }
 }
 
+fn set_command(alloc: Global, words: &mut Words) -> Option<Command> {
+    let key = words.next()?;
+    let value = words.next()?;
+    let key = Text::new(alloc, key).ok()?;
+    let value = Bytes::new(alloc, value.as_bytes()).ok()?;
+    Some(Command::KvSet {
+        key,
+        flags: 0,
+        value,
+    })
+}
+
 fn command_bytes(alloc: Global, words: &mut Words) -> Option<u64> {
     let command = command(alloc, words)?;
-    let bytes = batch::command_bytes(alloc, &command).ok()?;
-    Some(bytes as u64)
+    let bytes = batch::command_bytes(alloc, &command);
+    drop(command); // Before any early return.
+    Some(bytes.ok()? as u64)
 }
 
 fn vote_bytes() -> u64 {
-    message_bytes(&Message::Vote {
+    bytes_of(Message::Vote {
         term: 1,
         granted: true,
     })
@@ -150,16 +151,8 @@ fn vote_bytes() -> u64 {
 
 // The bytes of an Append of this one command.
 fn append_bytes(alloc: Global, words: &mut Words) -> Option<u64> {
-    let command = Shared::new(alloc, command(alloc, words)?).ok()?;
-    let mut entries = List::new(alloc);
-    entries
-        .push(Entry {
-            term: 1,
-            number: 0,
-            command,
-        })
-        .ok()?;
-    Some(message_bytes(&Message::Append {
+    let entries = entries_of(alloc, command(alloc, words)?)?;
+    Some(bytes_of(Message::Append {
         term: 1,
         prev_index: 0,
         prev_term: 0,
@@ -169,26 +162,42 @@ fn append_bytes(alloc: Global, words: &mut Words) -> Option<u64> {
     }))
 }
 
-fn agreed(alloc: Global, words: &mut Words) -> Result<String, Memory> {
-    let mut out = String::new(alloc);
-    match lengths(alloc, words) {
-        None => unread(alloc),
-        Some(lengths) => {
-            put_numbers(&mut out, lengths.as_slice())?;
-            Ok(out)
-        }
-    }
+fn entries_of(alloc: Global, command: Command) -> Option<List<Entry>> {
+    let command = Shared::new(alloc, command).ok()?;
+    let mut entries = List::new(alloc);
+    entries
+        .push(Entry {
+            term: 1,
+            number: 0,
+            command,
+        })
+        .ok()?;
+    Some(entries)
+}
+
+fn bytes_of(message: Message) -> u64 {
+    message_bytes(&message)
 }
 
 // The length of the agreed log after each.
 fn lengths(alloc: Global, words: &mut Words) -> Option<Vec<u64>> {
     let mut agreed = Agreed::Kept(List::new(alloc));
+    let lengths = lengths_of(alloc, &mut agreed, words);
+    drop(agreed);
+    lengths
+}
+
+fn lengths_of(alloc: Global, agreed: &mut Agreed, words: &mut Words) -> Option<Vec<u64>> {
     let mut lengths = Vec::new(alloc);
     for word in words {
-        grow(&mut agreed, word)?;
-        lengths.push(agreed.len() as u64).ok()?;
+        push_grown(&mut lengths, agreed, word)?;
     }
     Some(lengths)
+}
+
+fn push_grown(lengths: &mut Vec<u64>, agreed: &mut Agreed, word: &str) -> Option<()> {
+    grow(agreed, word)?;
+    lengths.push(agreed.len() as u64).ok()
 }
 
 fn grow(agreed: &mut Agreed, word: &str) -> Option<()> {

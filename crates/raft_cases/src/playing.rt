@@ -58,9 +58,9 @@ fn begin_server(alloc: Global, stage: &mut Stage, words: &mut Words) -> Result<S
     match servers::begin(alloc, words) {
         None => unread(alloc),
         Some(played) => {
-            let is = servers::state(alloc, &played)?;
-            *stage = Stage::Server(played);
-            Ok(is)
+            let is = servers::state(alloc, &played);
+            set(stage, Stage::Server(played));
+            is
         }
     }
 }
@@ -70,8 +70,13 @@ fn begin_cluster(alloc: Global, stage: &mut Stage, words: &mut Words) -> Result<
     match worlds::begin(alloc, count) {
         None => unread(alloc),
         Some(world) => {
-            *stage = Stage::Cluster(world);
+            set(stage, Stage::Cluster(world));
             Ok(format!(in alloc; "{count} servers")?)
         }
     }
+}
+
+// The next lines are about these.
+fn set(stage: &mut Stage, next: Stage) {
+    *stage = next;
 }

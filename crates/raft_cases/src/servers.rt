@@ -4,8 +4,10 @@
 //! sends; a proposal gives its place before that, and a probe its round, or why there is none.
 
 use crate::messages;
-use crate::shown::{put_node, put_place, put_round, put_sent, refused, unprobed, unread};
-use crate::words::{Words, answered, number, server};
+use crate::shown::{
+    counted, put_node, put_place, put_round, put_sent, refused, tested, unprobed, unread,
+};
+use crate::words::{Words, number, server};
 use cat_model::{Command, List, Memory, Shared};
 use cat_outside::SureKeeper;
 use raft_model::{Place, Round, Sent};
@@ -24,10 +26,8 @@ pub fn begin(alloc: Global, words: &mut Words) -> Option<Played> {
     let id = server(words)?;
     words.next()?;
     let servers = server(words)?;
-    match Node::start(alloc, id, servers, SureKeeper::new(alloc)) {
-        Ok(node) => Some(Played { node, round: None }),
-        Err(_) => None,
-    }
+    let node = Node::start(alloc, id, servers, SureKeeper::new(alloc)).ok()?;
+    Some(Played { node, round: None })
 }
 
 /// The server.
@@ -53,9 +53,14 @@ pub fn given(
         "propose" => propose(alloc, &mut played.node, words),
         "probe" => probe(alloc, played),
         "confirmed" => confirmed(alloc, played),
-        "round" => round(alloc, &played.node),
+        "round" => counted(alloc, Some(played.node.round())),
         _ => unread(alloc),
     }
+}
+
+// The server and what it sends.
+fn shown(alloc: Global, node: &Node<SureKeeper>, sent: List<Sent>) -> Result<String, Memory> {
+    put(String::new(alloc), node, sent.as_slice())
 }
 
 // The server and what it sends, behind this text.
@@ -67,12 +72,12 @@ fn put(mut out: String, node: &Node<SureKeeper>, sent: &[Sent]) -> Result<String
 
 fn time_out(alloc: Global, node: &mut Node<SureKeeper>) -> Result<String, Memory> {
     let sent = node.timeout(alloc)?;
-    put(String::new(alloc), node, sent.as_slice())
+    shown(alloc, node, sent)
 }
 
 fn beat(alloc: Global, node: &mut Node<SureKeeper>) -> Result<String, Memory> {
     let sent = node.beat(alloc)?;
-    put(String::new(alloc), node, sent.as_slice())
+    shown(alloc, node, sent)
 }
 
 fn restart(alloc: Global, node: &mut Node<SureKeeper>) -> Result<String, Memory> {
@@ -97,8 +102,9 @@ fn hear(alloc: Global, node: &mut Node<SureKeeper>, words: &mut Words) -> Result
     let Some(message) = messages::read(alloc, words) else {
         return unread(alloc);
     };
-    let sent = node.receive(alloc, from, &message)?;
-    put(String::new(alloc), node, sent.as_slice())
+    let sent = node.receive(alloc, from, &message);
+    drop(message); // Before any early return.
+    shown(alloc, node, sent?)
 }
 
 // The numbers of the first and the last proposal of a line.
@@ -119,9 +125,18 @@ fn propose_all(
     last: u64,
 ) -> Result<(Place, List<Sent>), ProposeFault> {
     for number in first..last {
-        node.propose(alloc, number, Shared::new(alloc, Command::Reap)?)?;
+        propose_one(alloc, node, number)?;
     }
-    node.propose(alloc, last, Shared::new(alloc, Command::Reap)?)
+    propose_one(alloc, node, last)
+}
+
+fn propose_one(
+    alloc: Global,
+    node: &mut Node<SureKeeper>,
+    number: u64,
+) -> Result<(Place, List<Sent>), ProposeFault> {
+    let reap = Shared::new(alloc, Command::Reap)?;
+    node.propose(alloc, number, reap)
 }
 
 fn propose(
@@ -132,49 +147,51 @@ fn propose(
     let Some((first, last)) = first_and_last(words) else {
         return unread(alloc);
     };
-    let mut out = String::new(alloc);
     match propose_all(alloc, node, first, last) {
-        Ok((place, sent)) => {
-            put_place(&mut out, place)?;
-            put(out, node, sent.as_slice())
-        }
-        Err(fault) => {
-            out.push_str(refused(fault))?;
-            put(out, node, &[])
-        }
+        Ok((place, sent)) => placed(alloc, node, place, sent),
+        Err(fault) => put(String::from_str(alloc, refused(fault))?, node, &[]),
     }
+}
+
+fn placed(
+    alloc: Global,
+    node: &Node<SureKeeper>,
+    place: Place,
+    sent: List<Sent>,
+) -> Result<String, Memory> {
+    let mut out = String::new(alloc);
+    put_place(&mut out, place)?;
+    put(out, node, sent.as_slice())
 }
 
 fn probe(alloc: Global, played: &mut Played) -> Result<String, Memory> {
     if played.node.round() == u64::MAX {
         return unread(alloc);
     }
-    let mut out = String::new(alloc);
     match played.node.probe(alloc) {
         Ok((round, sent)) => {
             played.round = Some(round);
-            put_round(&mut out, round)?;
-            put(out, &played.node, sent.as_slice())
+            probed(alloc, &played.node, round, sent)
         }
-        Err(fault) => {
-            out.push_str(unprobed(fault))?;
-            put(out, &played.node, &[])
-        }
+        Err(fault) => put(String::from_str(alloc, unprobed(fault))?, &played.node, &[]),
     }
+}
+
+fn probed(
+    alloc: Global,
+    node: &Node<SureKeeper>,
+    round: Round,
+    sent: List<Sent>,
+) -> Result<String, Memory> {
+    let mut out = String::new(alloc);
+    put_round(&mut out, round)?;
+    put(out, node, sent.as_slice())
 }
 
 // Whether the round that it began last is confirmed.
 fn confirmed(alloc: Global, played: &Played) -> Result<String, Memory> {
     match &played.round {
         None => unread(alloc),
-        Some(round) => {
-            let is = answered(played.node.confirmed(round));
-            Ok(String::from_str(alloc, is)?)
-        }
+        Some(round) => tested(alloc, Some(played.node.confirmed(round))),
     }
-}
-
-fn round(alloc: Global, node: &Node<SureKeeper>) -> Result<String, Memory> {
-    let round = node.round();
-    Ok(format!(in alloc; "{round}")?)
 }

@@ -1,6 +1,7 @@
 //! Servers in the words of a case: `ROLE in TERM, commit COMMIT, log LOG`, where ROLE is `leader`, `candidate`,
 //! `follower of LEADER`, `follower` where no leader is known, or `halted`.
 
+use crate::words::answered;
 use crate::{logs, messages};
 use cat_model::{Memory, Role};
 use cat_outside::SureKeeper;
@@ -12,6 +13,22 @@ use std::fmt::Write;
 /// What a line gives that says nothing.
 pub fn unread(alloc: Global) -> Result<String, Memory> {
     Ok(String::from_str(alloc, "not read")?)
+}
+
+/// A number, or that none was read.
+pub fn counted(alloc: Global, number: Option<u64>) -> Result<String, Memory> {
+    match number {
+        None => unread(alloc),
+        Some(number) => Ok(format!(in alloc; "{number}")?),
+    }
+}
+
+/// `yes` or `no`, or that neither was read.
+pub fn tested(alloc: Global, is: Option<bool>) -> Result<String, Memory> {
+    match is {
+        None => unread(alloc),
+        Some(is) => Ok(String::from_str(alloc, answered(is))?),
+    }
 }
 
 /// A server.

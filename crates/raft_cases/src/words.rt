@@ -1,7 +1,7 @@
 //! The small values of a case. `None` stands for a word that is missing or says none, and for want of memory.
 
 use std::alloc::Global;
-use std::str::SplitWhitespace;
+use std::str::{FromStr, SplitWhitespace};
 
 /// The words of a line that are left.
 pub type Words<'a> = SplitWhitespace<'a>;
@@ -31,37 +31,35 @@ pub fn answered(is: bool) -> &'static str {
 }
 
 /// The next word as numbers that commas part, of which `-` is none at all.
-pub fn numbers(alloc: Global, words: &mut Words) -> Option<Vec<u64>> {
-    let mut numbers = Vec::new(alloc);
+pub fn numbers<T>(alloc: Global, words: &mut Words) -> Option<Vec<T>>
+where
+    T: FromStr + Drop,
+    T::Err: Drop,
+{
     let word = words.next()?;
-    if word != "-" {
-        push_numbers(&mut numbers, word)?;
+    if word == "-" {
+        return Some(Vec::new(alloc));
+    }
+    parted(alloc, word)
+}
+
+fn parted<T>(alloc: Global, word: &str) -> Option<Vec<T>>
+where
+    T: FromStr + Drop,
+    T::Err: Drop,
+{
+    let mut numbers = Vec::new(alloc);
+    for part in word.split(',') {
+        push_number(&mut numbers, part)?;
     }
     Some(numbers)
 }
 
-fn push_numbers(numbers: &mut Vec<u64>, word: &str) -> Option<()> {
-    for part in word.split(',') {
-        let number = part.parse().ok()?;
-        numbers.push(number).ok()?;
-    }
-    Some(())
-}
-
-/// The next word as servers that commas part, of which `-` is none at all.
-pub fn servers(alloc: Global, words: &mut Words) -> Option<Vec<u32>> {
-    let mut servers = Vec::new(alloc);
-    let word = words.next()?;
-    if word != "-" {
-        push_servers(&mut servers, word)?;
-    }
-    Some(servers)
-}
-
-fn push_servers(servers: &mut Vec<u32>, word: &str) -> Option<()> {
-    for part in word.split(',') {
-        let server = part.parse().ok()?;
-        servers.push(server).ok()?;
-    }
-    Some(())
+fn push_number<T>(numbers: &mut Vec<T>, part: &str) -> Option<()>
+where
+    T: FromStr + Drop,
+    T::Err: Drop,
+{
+    let number = part.parse().ok()?;
+    numbers.push(number).ok()
 }

@@ -59,6 +59,37 @@ fn at_server(
 ) -> Result<String, Memory> {
     let s = server(words).unwrap_or(0);
     let mut out = String::new(alloc);
+    if !act(alloc, world, s, what, words, &mut out)? {
+        return unread(alloc);
+    }
+    put_server(&mut out, world, s)?;
+    Ok(out)
+}
+
+// Does what the line says, puts what that gives, and says whether there is such a line.
+fn act(
+    alloc: Global,
+    world: &mut World<SureKeeper>,
+    s: u32,
+    what: &str,
+    words: &mut Words,
+    out: &mut String,
+) -> Result<bool, Memory> {
+    match what {
+        "propose" => put_proposed(out, propose(alloc, world, s))?,
+        "probe" => put_probed(out, probe(alloc, world, s))?,
+        _ => return change(alloc, world, s, what, words),
+    }
+    Ok(true)
+}
+
+fn change(
+    alloc: Global,
+    world: &mut World<SureKeeper>,
+    s: u32,
+    what: &str,
+    words: &mut Words,
+) -> Result<bool, Memory> {
     match what {
         "at" => {}
         "timeout" => time_out(alloc, world, s)?,
@@ -66,12 +97,9 @@ fn at_server(
         "tick" => tick(world, s, number(words).unwrap_or(0)),
         "fail" => fail(world, s, server(words).unwrap_or(0)),
         "restart" => restart(alloc, world, s)?,
-        "propose" => put_proposed(&mut out, propose(alloc, world, s))?,
-        "probe" => put_probed(&mut out, probe(alloc, world, s))?,
-        _ => return unread(alloc),
+        _ => return Ok(false),
     }
-    put_server(&mut out, world, s)?;
-    Ok(out)
+    Ok(true)
 }
 
 fn is_server(world: &World<SureKeeper>, s: u32) -> bool
