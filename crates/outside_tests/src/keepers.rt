@@ -4,35 +4,69 @@ use cat_model::{List, Memory};
 use cat_outside::{KeepFail, Keeper};
 use serve_outside::{Keepers, MemKeepers, SureKeepers};
 use std::alloc::Global;
-use std::process::Abort;
 use std::test::Fail;
 
-// How the making of a store went: it failed, or the store's term and the length of its log.
+// The term of a store, and the length of its log.
+fn loaded(alloc: Global, store: &mut impl Keeper) -> Result<(u64, usize), Memory> {
+    match store.load(alloc) {
+        Ok(kept) => {
+            let found = (kept.term, kept.log.len());
+            drop(kept);
+            Ok(found)
+        }
+        Err(_) => Err(Memory),
+    }
+}
+
+// How the making of a store went: it failed, or what was loaded from the store.
 fn made<K: Keepers>(
     alloc: Global,
     keepers: &mut K,
     server: u32,
 ) -> Result<Option<(u64, usize)>, Memory> {
     match keepers.make(alloc, server) {
-        Ok(mut store) => match store.load(alloc) {
-            Ok(kept) => Ok(Some((kept.term, kept.log.len()))),
-            Err(_) => Err(Memory),
-        },
+        Ok(mut store) => {
+            let found = loaded(alloc, &mut store);
+            drop(store);
+            Ok(Some(found?))
+        }
         Err(KeepFail::Failed) => Ok(None),
         Err(KeepFail::Memory) => Err(Memory),
     }
 }
 
-#[test]
-fn stores_are_made_empty(rt: HostRuntime) -> Result<(), Fail> {
-    let alloc = rt.alloc();
+// Makes stores in memory, and fails at its second call.
+fn failing_keepers(alloc: Global) -> Result<MemKeepers, Memory> {
     let mut second = List::new(alloc);
     second.push(2)?;
-    let mut keepers = MemKeepers::new(alloc, second);
-    assert_eq!(rt; made(alloc, &mut keepers, 1)?, Some((0, 0)));
-    assert_eq!(rt; made(alloc, &mut keepers, 2)?, None);
-    assert_eq!(rt; made(alloc, &mut keepers, 7)?, Some((0, 0)));
-    assert_eq!(rt; keepers.made(), [1, 7].as_slice());
-    assert_eq!(rt; made(alloc, &mut SureKeepers, 1)?, Some((0, 0)));
+    Ok(MemKeepers::new(alloc, second))
+}
+
+// Whether the first store and the third are made, empty, and they alone.
+fn two_are_made(alloc: Global, keepers: &mut MemKeepers) -> Result<bool, Memory> {
+    let first = made(alloc, keepers, 1)?;
+    let second = made(alloc, keepers, 2)?;
+    let third = made(alloc, keepers, 7)?;
+    Ok(
+        first == Some((0, 0))
+            && second.is_none()
+            && third == Some((0, 0))
+            && keepers.made() == [1, 7].as_slice(),
+    )
+}
+
+#[test]
+fn stores_in_memory_are_made_empty(rt: HostRuntime) -> Result<(), Fail> {
+    let alloc = rt.alloc();
+    let mut keepers = failing_keepers(alloc)?;
+    let are_made = two_are_made(alloc, &mut keepers);
+    drop(keepers);
+    assert!(rt; are_made?);
     Ok(())
+}
+
+#[test]
+fn a_store_that_never_fails_is_made_empty(rt: HostRuntime) {
+    let found = made(rt.alloc(), &mut SureKeepers, 1);
+    assert!(rt; found == Ok(Some((0, 0))));
 }

@@ -1,21 +1,20 @@
 //! Connections in memory and over TCP.
 
+ghost use Rattle.std.specs.Prelude.{◌≡◌, false};
+ghost use Rattle.serve_outside.specs.InMemory.{told};
+
 use crate::echo::Echo;
 use cat_model::{Bytes, List};
 use cat_outside::{Failed, KeepFail};
-use serve_outside::{Link, Listener, MemListener, Script, TcpLinks, ThreadSpawner, finish, start};
+use serve_outside::{
+    Link, Listener, MemLink, MemListener, Script, TcpLink, TcpLinks, ThreadSpawner, finish, start,
+};
 use std::alloc::Global;
+use std::io;
 use std::io::{Read, Write};
-use std::net::{Shutdown, TcpStream};
+use std::net::{Net, Shutdown, TcpListener, TcpStream};
 use std::test::Fail;
-
-fn script(alloc: Global, bytes: &[u8], most: usize, failing: List<u64>) -> Result<Script, Fail> {
-    Ok(Script {
-        bytes: Bytes::new(alloc, bytes)?,
-        most,
-        failing,
-    })
-}
+use std::thread::Threads;
 
 // The calls of these numbers.
 fn calls(alloc: Global, numbers: &[u64]) -> Result<List<u64>, Fail> {
@@ -26,71 +25,213 @@ fn calls(alloc: Global, numbers: &[u64]) -> Result<List<u64>, Fail> {
     Ok(list)
 }
 
+fn script(alloc: Global, bytes: &[u8], most: usize, failing: &[u64]) -> Result<Script, Fail> {
+    let bytes = Bytes::new(alloc, bytes)?;
+    Ok(Script {
+        bytes,
+        most,
+        failing: calls(alloc, failing)?,
+    })
+}
+
+// One connection that says hello, and fails at its third call and its fourth, and one that says nothing.
+fn two_scripts(alloc: Global) -> Result<Vec<Script>, Fail> {
+    let hello = script(alloc, b"hello", 3, &[3, 4])?;
+    let nothing = script(alloc, b"", 0, &[])?;
+    let scripts = Vec::from_array(alloc, [hello, nothing])?;
+    Ok(scripts)
+}
+
+// A listener that gives two connections, and fails at its third call.
+fn two_links(alloc: Global) -> Result<MemListener, Fail> {
+    let failing = calls(alloc, &[3])?;
+    let scripts = two_scripts(alloc)?;
+    let listener = MemListener::new(alloc, scripts, failing)?;
+    Ok(listener)
+}
+
+// Whether it tells its port once it listens.
+fn tells_port(listener: &mut MemListener) -> bool {
+    listener.port().is_none() && listener.listen(8500).is_ok() && listener.port() == Some(8500)
+}
+
+#[test]
+fn a_listener_in_memory_tells_its_port(rt: HostRuntime) -> Result<(), Fail> {
+    let mut listener = two_links(rt.alloc())?;
+    let told = tells_port(&mut listener);
+    drop(listener);
+    assert!(rt; told);
+    Ok(())
+}
+
+// Whether one read gives just these bytes.
+fn reads(link: &mut MemLink, wanted: &[u8]) -> bool
+    requires still_open { (told link.old).shut ≡ false }
+    ensures still_open { (told link.new).shut ≡ false }
+{
+    let mut room = [0u8; 16];
+    match link.read(&mut room) {
+        Ok(count) => &room[..count] == wanted,
+        Err(_) => false,
+    }
+}
+
+// Whether the first connection gives its bytes and takes others as its script says.
+fn follows_script(link: &mut MemLink) -> bool
+    requires still_open { (told link.old).shut ≡ false }
+{
+    reads(link, b"hel")
+        && reads(link, b"lo")
+        && link.read(&mut [0u8; 16]) == Err(Failed)
+        && link.write(b"a") == Err(KeepFail::Failed)
+        && link.write(b"bc") == Ok(2)
+        && reads(link, b"")
+}
+
+// Whether the first connection has its number, follows its script, and is shut at last.
+fn first_is_served(first: &mut MemLink) -> bool
+    requires still_open { (told first.old).shut ≡ false }
+{
+    let follows = first.number() == 1 && follows_script(first);
+    first.shut();
+    follows && first.is_shut()
+}
+
+// Whether the second connection has its number, says nothing, and stays open.
+fn second_is_served(second: &mut MemLink) -> bool
+    requires still_open { (told second.old).shut ≡ false }
+{
+    second.number() == 2 && reads(second, b"") && !second.is_shut()
+}
+
+fn accept_fails(listener: &mut impl Listener) -> bool {
+    match listener.accept() {
+        Ok(link) => {
+            drop(link);
+            false
+        }
+        Err(_) => true,
+    }
+}
+
+// Whether the third call of the listener fails, the fourth gives the second connection, and there is no other one.
+fn second_is_given(listener: &mut MemListener) -> Result<bool, Failed> {
+    let fails = accept_fails(listener);
+    let mut second = listener.accept()?;
+    let served = second_is_served(&mut second);
+    let is_last = accept_fails(listener);
+    listener.close(second);
+    Ok(fails && served && is_last)
+}
+
+// Whether both connections are given and serve; they are handed back, the second one first.
+fn both_are_given(listener: &mut MemListener) -> Result<bool, Failed> {
+    listener.listen(8500)?;
+    let mut first = listener.accept()?;
+    let first_served = first_is_served(&mut first);
+    let second_served = second_is_given(listener);
+    listener.close(first);
+    Ok(first_served && second_served?)
+}
+
+// Whether both connections were kept as they were handed back.
+fn keeps_both(listener: &MemListener) -> bool {
+    match listener.kept() {
+        [second, first] => second.number() == 2 && first.said() == b"bc".as_slice(),
+        _ => false,
+    }
+}
+
 #[test]
 fn links_in_memory(rt: HostRuntime) -> Result<(), Fail> {
-    let alloc = rt.alloc();
-    let mut scripts = Vec::new(alloc);
-    scripts.push(script(alloc, b"hello", 3, calls(alloc, &[3, 4])?)?)?;
-    scripts.push(script(alloc, b"", 0, List::new(alloc))?)?;
-    let mut listener = MemListener::new(alloc, scripts, calls(alloc, &[3])?)?;
-    assert_eq!(rt; listener.port(), None);
-    assert_eq!(rt; listener.listen(8500), Ok(()));
-    assert_eq!(rt; listener.port(), Some(8500));
-    let mut room = [0u8; 16];
-
-    let mut first = listener.accept()?;
-    assert_eq!(rt; first.number(), 1);
-    assert_eq!(rt; first.read(&mut room), Ok(3));
-    assert_eq!(rt; &room[..3], b"hel".as_slice());
-    assert_eq!(rt; first.read(&mut room), Ok(2));
-    assert_eq!(rt; &room[..2], b"lo".as_slice());
-    assert_eq!(rt; first.read(&mut room), Err(Failed));
-    assert_eq!(rt; first.write(b"a"), Err(KeepFail::Failed));
-    assert_eq!(rt; first.write(b"bc"), Ok(2));
-    assert_eq!(rt; first.read(&mut room), Ok(0));
-    first.shut();
-    assert!(rt; first.is_shut());
-
-    // The third call fails, and the fourth gives the second connection.
-    assert_eq!(rt; listener.accept().err(), Some(Failed));
-    let mut second = listener.accept()?;
-    assert_eq!(rt; second.number(), 2);
-    assert_eq!(rt; second.read(&mut room), Ok(0));
-    assert!(rt; !second.is_shut());
-    assert_eq!(rt; listener.accept().err(), Some(Failed));
-
-    listener.close(second);
-    listener.close(first);
-    let kept = listener.kept();
-    assert_eq!(rt; kept.len(), 2);
-    assert_eq!(rt; kept[0].number(), 2);
-    assert_eq!(rt; kept[1].said(), b"bc".as_slice());
+    let mut listener = two_links(rt.alloc())?;
+    let given = both_are_given(&mut listener);
+    let kept = keeps_both(&listener);
+    drop(listener);
+    assert!(rt; given?);
+    assert!(rt; kept);
     Ok(())
+}
+
+// Says hello and no more, and gives as many bytes as come back.
+fn ask(client: &mut TcpStream) -> io::Result<[u8; 5]> {
+    client.write_all(b"hello")?;
+    client.shutdown(Shutdown::Write)?;
+    let mut heard = [0u8; 5];
+    client.read_exact(&mut heard)?;
+    Ok(heard)
+}
+
+fn hears_hello(client: &mut TcpStream) -> bool {
+    match ask(client) {
+        Ok(heard) => heard == *b"hello",
+        Err(_) => false,
+    }
+}
+
+fn is_at_end(client: &mut TcpStream) -> bool {
+    match client.read(&mut [0u8; 5]) {
+        Ok(count) => count == 0,
+        Err(_) => false,
+    }
+}
+
+// Echoes in a thread what the client says, and gives the connection back and whether the client hears it, or none where
+// the job is refused.
+fn echoed(rt: &impl Threads, client: &mut TcpStream, link: TcpLink) -> Option<(TcpLink, bool)>
+    requires still_open { (⟦<TcpLink as Link>⟧.state link).shut ≡ false }
+{
+    match start(&mut ThreadSpawner::new(), rt, Echo { link }) {
+        Ok(task) => {
+            let heard = hears_hello(client);
+            Some((finish(rt, task), heard))
+        }
+        Err(echo) => {
+            drop(echo);
+            None
+        }
+    }
+}
+
+// Whether the client hears its echo, and nothing behind that.
+fn is_served(
+    rt: &impl Threads,
+    listener: &mut impl Listener<Link = TcpLink>,
+    client: &mut TcpStream,
+) -> Result<bool, Failed> {
+    let link = listener.accept()?;
+    match echoed(rt, client, link) {
+        Some((link, heard)) => {
+            let is_end = is_at_end(client);
+            listener.close(link);
+            Ok(heard && is_end)
+        }
+        None => Ok(false),
+    }
+}
+
+// Whether a client is served at a port that the system chooses.
+fn serves_a_client<R: Threads + Net<Listener = TcpListener, Stream = TcpStream>>(
+    rt: &R,
+    listener: &mut TcpLinks<R>,
+) -> Result<bool, Fail> {
+    listener.listen(0)?;
+    let Some(address) = listener.address() else {
+        return Ok(false);
+    };
+    let mut client = TcpStream::connect(rt, address)?;
+    let served = is_served(rt, listener, &mut client);
+    drop(client);
+    Ok(served?)
 }
 
 #[test]
 fn links_over_tcp(rt: HostRuntime) -> Result<(), Fail> {
     let mut listener = TcpLinks::new(rt);
-    assert_eq!(rt; listener.accept().err(), Some(Failed));
-    listener.listen(0)?;
-    let Some(address) = listener.address() else {
-        assert!(rt; false, "it listens");
-        return Ok(());
-    };
-    let mut spawner = ThreadSpawner::new();
-    let mut client = TcpStream::connect(&rt, address)?;
-    let link = listener.accept()?;
-    let Ok(task) = start(&mut spawner, &rt, Echo { link }) else {
-        assert!(rt; false, "no job is refused");
-        return Ok(());
-    };
-    client.write_all(b"hello")?;
-    client.shutdown(Shutdown::Write)?;
-    let mut got = [0u8; 5];
-    client.read_exact(&mut got)?;
-    assert_eq!(rt; got, *b"hello");
-    let link = finish(&rt, task);
-    assert_eq!(rt; client.read(&mut got)?, 0);
-    listener.close(link);
+    let refused = accept_fails(&mut listener);
+    let served = serves_a_client(&rt, &mut listener);
+    drop(listener);
+    assert!(rt; refused);
+    assert!(rt; served?);
     Ok(())
 }

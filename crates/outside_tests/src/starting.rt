@@ -2,10 +2,9 @@
 
 ghost use Rattle.std.specs.Prelude.{◌≡◌, ◌+◌, ◌^◌, ◌<◌};
 
-use cat_model::List;
+use cat_model::{List, Memory};
 use serve_outside::{Job, MemSpawner, Spawner, ThreadSpawner, finish, start};
-use std::process::Abort;
-use std::test::Fail;
+use std::alloc::Global;
 use std::thread::Threads;
 
 // Adds two numbers.
@@ -35,14 +34,27 @@ fn summed<S: Spawner>(rt: &impl Threads, spawner: &mut S) -> Option<u64> {
     Some(finish(rt, task))
 }
 
-#[test]
-fn jobs(rt: HostRuntime) -> Result<(), Fail> {
-    let mut second = List::new(rt.alloc());
+// What a spawner gives that runs each job at once, and refuses the second of three.
+fn summed_at_once(rt: &impl Threads, alloc: Global) -> Result<[Option<u64>; 3], Memory> {
+    let mut second = List::new(alloc);
     second.push(2)?;
-    let mut at_once = MemSpawner::new(second);
-    assert_eq!(rt; summed(&rt, &mut at_once), Some(5));
-    assert_eq!(rt; summed(&rt, &mut at_once), None);
-    assert_eq!(rt; summed(&rt, &mut at_once), Some(5));
-    assert_eq!(rt; summed(&rt, &mut ThreadSpawner::new()), Some(5));
-    Ok(())
+    let mut spawner = MemSpawner::new(second);
+    let sums = [
+        summed(rt, &mut spawner),
+        summed(rt, &mut spawner),
+        summed(rt, &mut spawner),
+    ];
+    drop(spawner);
+    Ok(sums)
+}
+
+#[test]
+fn jobs_at_once(rt: HostRuntime) {
+    let sums = summed_at_once(&rt, rt.alloc());
+    assert!(rt; sums == Ok([Some(5), None, Some(5)]));
+}
+
+#[test]
+fn a_job_in_a_thread(rt: HostRuntime) {
+    assert!(rt; summed(&rt, &mut ThreadSpawner::new()) == Some(5));
 }

@@ -1,6 +1,6 @@
 //! A lock whose turns many threads take.
 
-ghost use Rattle.std.specs.Prelude.{◌≡◌, ◌++◌, List, ℕ};
+ghost use Rattle.std.specs.Prelude.{◌≡◌, ◌++◌, IfOk, List, ℕ};
 ghost use Rattle.turn_lock.specs.Passes.{IsFree, IsSame};
 
 use std::alloc::{AllocError, Global};
@@ -77,6 +77,22 @@ impl Player<'_> {
     }
 }
 
+// A lock over a page on which nobody wrote, and the pass that all others are split from.
+fn lock_of_page(alloc: Global) -> Result<(HistoryLock<Page>, Pass<Page>), AllocError>
+    ensures { IfOk result (λ r. (r.1.seat.table_id ≡ r.0.table.shared.table_id) × IsFree r.1.seat) }
+{
+    let page = Page {
+        written: Vec::new(alloc),
+    };
+    match HistoryLock::new(alloc, page) {
+        Ok(made) => Ok(made),
+        Err((page, error)) => {
+            drop(page);
+            Err(error)
+        }
+    }
+}
+
 // The players, each with a pass of his own.
 fn players<'a>(
     alloc: Global,
@@ -118,28 +134,66 @@ fn play_all<R: Threads + Wait + Sync>(
     )
 }
 
+// Has the players play, and says how many there were, and how many found all that they had seen, each time.
+fn played<R: Threads + Wait + Sync>(
+    rt: &R,
+    alloc: Global,
+    lock: &HistoryLock<Page>,
+    pass: &mut Pass<Page>,
+) -> Result<(usize, usize), AllocError>
+    requires own { pass.old.seat.table_id ≡ lock.now.table.shared.table_id }
+    requires free { IsFree pass.old.seat }
+    ensures own { IsSame pass.old.seat pass.new.seat }
+    ensures free { IsFree pass.new.seat }
+{
+    let all = players(alloc, lock, pass)?;
+    let count = all.len();
+    let found = play_all(rt, alloc, all)?;
+    Ok((count, found))
+}
+
+// How often the player wrote.
+fn times(page: &Page, number: u32) -> usize {
+    page.written
+        .iter()
+        .filter(|player| **player == number)
+        .count()
+}
+
+// Whether each player wrote in each of his turns, and nobody else.
+fn is_full(page: &Page) -> bool {
+    for number in 0..PLAYERS {
+        if times(page, number) != 50 {
+            return false;
+        }
+    }
+    page.written.len() == 4000
+}
+
+// Whether eighty players play, find all that they had seen, and fill the page.
+fn all_write<R: Threads + Wait + Sync>(
+    rt: &R,
+    alloc: Global,
+    lock: &HistoryLock<Page>,
+    pass: &mut Pass<Page>,
+) -> Result<bool, AllocError>
+    requires own { pass.old.seat.table_id ≡ lock.now.table.shared.table_id }
+    requires free { IsFree pass.old.seat }
+{
+    let counts = played(rt, alloc, lock, pass)?;
+    let page = lock.take(rt, pass).into_state();
+    let is_full = is_full(&page);
+    drop(page);
+    Ok(counts == (80, 80) && is_full)
+}
+
 #[test]
 fn turns_of_many_players(rt: HostRuntime) -> Result<(), Fail> {
     let alloc = rt.alloc();
-    let page = Page {
-        written: Vec::new(alloc),
-    };
-    let Ok((lock, mut pass)) = HistoryLock::new(alloc, page) else {
-        assert!(rt; false, "there is memory for a lock");
-        return Ok(());
-    };
-    let all = players(alloc, &lock, &mut pass)?;
-    assert_eq!(rt; all.len(), 80);
-    assert_eq!(rt; play_all(&rt, alloc, all)?, 80);
-    let page = lock.take(&rt, &mut pass).into_state();
-    assert_eq!(rt; page.written.len(), 4000);
-    for number in 0..PLAYERS {
-        let times = page
-            .written
-            .iter()
-            .filter(|player| **player == number)
-            .count();
-        assert_eq!(rt; times, 50, "player {number}");
-    }
+    let (lock, mut pass) = lock_of_page(alloc)?;
+    let written = all_write(&rt, alloc, &lock, &mut pass);
+    drop(pass);
+    drop(lock);
+    assert!(rt; written?);
     Ok(())
 }
