@@ -15,6 +15,7 @@
 #![tactic(auto)]
 
 mod difference;
+mod files;
 mod in_full;
 mod playing;
 mod row;
@@ -22,7 +23,7 @@ mod served_row;
 mod serving;
 mod ways;
 
-use crate::difference::first_difference;
+use crate::difference::{Difference, first_difference};
 use crate::playing::play;
 use crate::row::{Row, read_long_row, read_row};
 use crate::ways::is_served_as_written;
@@ -54,15 +55,9 @@ fn main(rt: HostRuntime) -> Result<ExitCode> {
         as_written: 0,
         differing: 0,
     };
-    for name in read_list(&rt, "rows.txt")?.as_str().lines() {
-        counts.count(is_as_written(&rt, rt, name, read_row(&rt, name)?)?);
-    }
-    for name in read_list(&rt, "long_rows.txt")?.as_str().lines() {
-        counts.count(is_as_written(&rt, rt, name, read_long_row(&rt, name)?)?);
-    }
-    for line in read_list(&rt, "connections.txt")?.as_str().lines() {
-        counts.count(is_served_right(&rt, rt, line)?);
-    }
+    play_rows(&rt, rt, &mut counts)?;
+    play_long_rows(&rt, rt, &mut counts)?;
+    serve_rows(&rt, rt, &mut counts)?;
     let Counts {
         as_written,
         differing,
@@ -73,6 +68,45 @@ fn main(rt: HostRuntime) -> Result<ExitCode> {
     } else {
         ExitCode::from(1)
     })
+}
+
+// Plays the scripts, and counts them.
+fn play_rows<R: Threads + Wait + time::Clock + Copy + Send + Drop + 'static>(
+    files: &HostRuntime,
+    rt: R,
+    counts: &mut Counts,
+) -> Result<()> {
+    let names = read_list(files, "rows.txt")?;
+    for name in names.as_str().lines() {
+        counts.count(is_as_written(files, rt, name, read_row(files, name)?)?);
+    }
+    Ok(())
+}
+
+// Plays the scripts that are written short, and counts them.
+fn play_long_rows<R: Threads + Wait + time::Clock + Copy + Send + Drop + 'static>(
+    files: &HostRuntime,
+    rt: R,
+    counts: &mut Counts,
+) -> Result<()> {
+    let names = read_list(files, "long_rows.txt")?;
+    for name in names.as_str().lines() {
+        counts.count(is_as_written(files, rt, name, read_long_row(files, name)?)?);
+    }
+    Ok(())
+}
+
+// Serves the connections of the rows, and counts the lines that name them.
+fn serve_rows<R: Threads + Wait + time::Clock + Copy + Send + Drop + 'static>(
+    files: &HostRuntime,
+    rt: R,
+    counts: &mut Counts,
+) -> Result<()> {
+    let lines = read_list(files, "connections.txt")?;
+    for line in lines.as_str().lines() {
+        counts.count(is_served_right(files, rt, line)?);
+    }
+    Ok(())
 }
 
 fn read_list(files: &HostRuntime, path: &'static str) -> Result<String> {
@@ -104,14 +138,18 @@ fn is_as_written<R: Threads + Wait + time::Clock + Copy + Send + Drop + 'static>
         status,
     } = row;
     let played = play(rt, files.alloc(), script)?;
-    match first_difference(&played, status, &text) {
-        None => {
-            println!(files; "{name} as written")?;
-            Ok(true)
-        }
-        Some(difference) => {
-            println!(files; "{name} differs: {difference}")?;
-            Ok(false)
-        }
+    say_difference(files, name, first_difference(&played, status, &text))
+}
+
+// Prints the line of the row of this name, which differs so, and says whether it is as written.
+fn say_difference(
+    files: &HostRuntime,
+    name: &str,
+    difference: Option<Difference<'_>>,
+) -> Result<bool> {
+    match difference {
+        None => println!(files; "{name} as written")?,
+        Some(difference) => println!(files; "{name} differs: {difference}")?,
     }
+    Ok(difference.is_none())
 }

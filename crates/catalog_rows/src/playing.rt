@@ -28,19 +28,20 @@ pub fn play<R: Threads + Wait + time::Clock + Copy + Send + Drop + 'static>(
     alloc: Global,
     script: Vec<u8>,
 ) -> Result<Played> {
+    let mut listener = MemListener::new(alloc, Vec::new(alloc), List::new(alloc))?;
     let mut sink = SureSink::new(alloc);
     let outcome = run(
         machine(rt, alloc),
         &["script"],
         &mut SureSource::new(Bytes::from(script)),
         &mut sink,
-        &mut MemListener::new(alloc, Vec::new(alloc), List::new(alloc))?,
+        &mut listener,
         &mut CountWords::new(),
         &mut MemSpawner::new(List::new(alloc)),
         &mut SureKeepers,
     );
     Ok(Played {
-        status: outcome.status,
+        status: outcome.into_status(),
         sink,
     })
 }

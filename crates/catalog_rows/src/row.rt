@@ -1,6 +1,6 @@
+use crate::files::{read_bytes, read_status, read_text};
 use crate::in_full::in_full;
-use anyhow::{Context, Result};
-use std::fs;
+use anyhow::Result;
 
 /// A worked script, the text that it writes, and the status with which it ends.
 #[derive(Drop)]
@@ -12,31 +12,24 @@ pub struct Row {
 
 /// Reads the files of the row.
 pub fn read_row(rt: &HostRuntime, name: &str) -> Result<Row> {
-    let alloc = rt.alloc();
-    let script = format!(in alloc; "{name}.script")?;
-    let text = format!(in alloc; "{name}.out")?;
-    let status = format!(in alloc; "{name}.status")?;
     Ok(Row {
-        script: fs::read(rt, &script).context(script)?,
-        text: fs::read_to_string(rt, &text).context(text)?,
-        status: read_status(rt, status)?,
+        script: read_bytes(rt, name, "script")?,
+        text: read_text(rt, name, "out")?,
+        status: read_status(rt, name)?,
     })
 }
 
 /// Reads the files of the row, whose script and text are written short.
 pub fn read_long_row(rt: &HostRuntime, name: &str) -> Result<Row> {
-    let alloc = rt.alloc();
-    let row = read_row(rt, name)?;
-    let script = str::from_utf8(row.script.as_slice())?;
     Ok(Row {
-        script: in_full(alloc, script)?.into_bytes(),
-        text: in_full(alloc, row.text.as_str())?,
-        status: row.status,
+        script: read_in_full(rt, name, "script")?.into_bytes(),
+        text: read_in_full(rt, name, "out")?,
+        status: read_status(rt, name)?,
     })
 }
 
-// Reads a number as a file's only text.
-fn read_status(rt: &HostRuntime, path: String) -> Result<u8> {
-    let text = fs::read_to_string(rt, &path).context(path)?;
-    Ok(text.as_str().trim().parse()?)
+// The text of a file that is written short, in full.
+fn read_in_full(rt: &HostRuntime, name: &str, kind: &str) -> Result<String> {
+    let short = read_text(rt, name, kind)?;
+    in_full(rt.alloc(), short.as_str())
 }

@@ -1,5 +1,5 @@
+use crate::files::{read_bytes, read_status, read_text};
 use anyhow::{Context, Result};
-use std::fs;
 
 /// A worked connection: the bytes that come, and those that should be written to it.
 #[derive(Drop)]
@@ -21,42 +21,45 @@ pub struct ServedRow {
 
 /// Reads the files of the row.
 pub fn read_served(rt: &HostRuntime, name: &str) -> Result<ServedRow> {
-    let alloc = rt.alloc();
-    let words = read_text(rt, format!(in alloc; "{name}.words")?)?;
-    let mut lines = words.as_str().lines();
-    let line = lines.next().context("no words")?;
-    let refused = lines.next().context("no refused job")?.parse()?;
+    let (words, refused) = read_words(rt, name)?;
+    let connections = read_connections(rt, name, words.as_str())?;
     Ok(ServedRow {
-        words: format!(in alloc; "{line}")?,
+        words,
         refused,
-        connections: read_connections(rt, name, line)?,
-        text: read_text(rt, format!(in alloc; "{name}.out")?)?,
-        status: read_text(rt, format!(in alloc; "{name}.status")?)?
-            .as_str()
-            .trim()
-            .parse()?,
+        connections,
+        text: read_text(rt, name, "out")?,
+        status: read_status(rt, name)?,
     })
+}
+
+// The command line of a row, and the job that is refused.
+fn read_words(rt: &HostRuntime, name: &str) -> Result<(String, u64)> {
+    let words = read_text(rt, name, "words")?;
+    let (line, refused) = words.as_str().split_once('\n').context("no refused job")?;
+    Ok((format!(in rt.alloc(); "{line}")?, refused.trim().parse()?))
 }
 
 // The connections of a row, of which the last word says how many there are.
 fn read_connections(rt: &HostRuntime, name: &str, words: &str) -> Result<Vec<Connection>> {
-    let alloc = rt.alloc();
-    let last = words.split(' ').last().context("no words")?;
-    let count: u32 = last.parse()?;
-    let mut connections = Vec::new(alloc);
-    for number in 1..=count {
-        connections.push(Connection {
-            heard: read_bytes(rt, format!(in alloc; "{name}.in{number}")?)?,
-            said: read_bytes(rt, format!(in alloc; "{name}.said{number}")?)?,
-        })?;
+    let mut connections = Vec::new(rt.alloc());
+    for number in 1..=count_of(words)? {
+        connections.push(read_connection(rt, name, number)?)?;
     }
     Ok(connections)
 }
 
-fn read_bytes(rt: &HostRuntime, path: String) -> Result<Vec<u8>> {
-    Ok(fs::read(rt, &path).context(path)?)
+// The number that is the last word.
+fn count_of(words: &str) -> Result<u32> {
+    let last = words.split(' ').last().context("no words")?;
+    Ok(last.parse()?)
 }
 
-fn read_text(rt: &HostRuntime, path: String) -> Result<String> {
-    Ok(fs::read_to_string(rt, &path).context(path)?)
+// The connection of this number of a row.
+fn read_connection(rt: &HostRuntime, name: &str, number: u32) -> Result<Connection> {
+    let heard = format!(in rt.alloc(); "in{number}")?;
+    let said = format!(in rt.alloc(); "said{number}")?;
+    Ok(Connection {
+        heard: read_bytes(rt, name, heard.as_str())?,
+        said: read_bytes(rt, name, said.as_str())?,
+    })
 }

@@ -1,7 +1,7 @@
 //! A server over connections in memory.
 
 use crate::playing::machine;
-use crate::served_row::ServedRow;
+use crate::served_row::{Connection, ServedRow};
 use anyhow::Result;
 use cat_model::{Bytes, List};
 use cat_outside::{SureSink, SureSource};
@@ -36,13 +36,17 @@ fn failing(alloc: Global, call: u64) -> Result<List<u64>> {
 fn scripts(alloc: Global, row: &ServedRow, most: usize, fault: u64) -> Result<Vec<Script>> {
     let mut scripts = Vec::new(alloc);
     for connection in &row.connections {
-        scripts.push(Script {
-            bytes: Bytes::new(alloc, connection.heard.as_slice())?,
-            most,
-            failing: failing(alloc, fault)?,
-        })?;
+        scripts.push(script(alloc, connection, most, fault)?)?;
     }
     Ok(scripts)
+}
+
+fn script(alloc: Global, connection: &Connection, most: usize, fault: u64) -> Result<Script> {
+    Ok(Script {
+        bytes: Bytes::new(alloc, connection.heard.as_slice())?,
+        most,
+        failing: failing(alloc, fault)?,
+    })
 }
 
 /// Serves the connections of the row one after the other, by a clock that stands still: each read gives so many bytes at
@@ -88,12 +92,9 @@ fn serve_by<
 ) -> Result<Ended> {
     let alloc = machine.alloc;
     let words: Vec<&str> = row.words.as_str().split(' ').collect(alloc)?;
+    let scripts = scripts(alloc, row, most, fault)?;
+    let mut listener = MemListener::new(alloc, scripts, List::new(alloc))?;
     let mut sink = SureSink::new(alloc);
-    let mut listener = MemListener::new(
-        alloc,
-        scripts(alloc, row, most, fault)?,
-        List::new(alloc),
-    )?;
     let outcome = run(
         machine,
         &words,
@@ -105,7 +106,7 @@ fn serve_by<
         &mut SureKeepers,
     );
     Ok(Ended {
-        status: outcome.status,
+        status: outcome.into_status(),
         sink,
         listener,
     })

@@ -1,7 +1,7 @@
 //! How runs end, and what they write.
 
-use crate::playing::{Failing, NONE_FAILS, play, play_with};
-use cat_model::{Bytes, List};
+use crate::playing::{Failing, NONE_FAILS, Played, play, play_with};
+use cat_model::{Bytes, List, Memory};
 use serve_outside::Script;
 use std::alloc::Global;
 use std::process::Abort;
@@ -199,6 +199,12 @@ fn expect_ending<R: Abort + Threads + Wait + time::Clock + Copy + Send + Drop + 
     ending: &Ending,
 ) -> Result<(), Fail> {
     let played = play(rt, alloc, ending.words, script, ending.failing)?;
+    expect_told(&rt, &played, ending);
+    drop(played);
+    Ok(())
+}
+
+fn expect_told(rt: &impl Abort, played: &Played, ending: &Ending) {
     assert_eq!(rt;
         played.outcome.status,
         ending.status,
@@ -207,7 +213,6 @@ fn expect_ending<R: Abort + Threads + Wait + time::Clock + Copy + Send + Drop + 
     );
     assert_eq!(rt; played.bytes(), ending.text.as_bytes());
     assert_eq!(rt; played.outcome.report.is_some(), ending.status == 0);
-    Ok(())
 }
 
 #[test]
@@ -229,14 +234,30 @@ fn expect_stores<R: Abort + Threads + Wait + time::Clock + Copy + Send + Drop + 
         make: wanted.make,
         ..NONE_FAILS
     };
-    let silent = Script {
+    let connections = vec![in alloc; silent(alloc)?]?;
+    let played = play_with(
+        rt,
+        alloc,
+        THREE,
+        Bytes::new(alloc, b"")?,
+        failing,
+        connections,
+    )?;
+    expect_made(&rt, &played, wanted);
+    drop(played);
+    Ok(())
+}
+
+// A connection that sends nothing.
+fn silent(alloc: Global) -> Result<Script, Memory> {
+    Ok(Script {
         bytes: Bytes::new(alloc, b"")?,
         most: 1,
         failing: List::new(alloc),
-    };
-    let connections = vec![in alloc; silent]?;
-    let script = Bytes::new(alloc, b"")?;
-    let played = play_with(rt, alloc, THREE, script, failing, connections)?;
+    })
+}
+
+fn expect_made(rt: &impl Abort, played: &Played, wanted: &Stores) {
     assert_eq!(rt;
         played.outcome.status,
         wanted.status,
@@ -247,7 +268,6 @@ fn expect_stores<R: Abort + Threads + Wait + time::Clock + Copy + Send + Drop + 
     assert_eq!(rt; played.keepers.made(), wanted.made);
     assert_eq!(rt; played.listener.port(), wanted.port);
     assert_eq!(rt; played.outcome.report.is_some(), wanted.status == 0);
-    Ok(())
 }
 
 #[test]

@@ -80,25 +80,40 @@ pub fn serve<
     let text = format!(in alloc;
         "serve --servers 3 --agents 2 --port {port} --connections {connections}"
     ).ok()?;
-    let words: Vec<&str> = text.as_str().split(' ').collect(alloc).ok()?;
+    serve_words(rt, alloc, text.as_str())
+}
+
+// Whether a server of these words, which end with how many connections it serves, serves them to their end.
+fn serve_words<
+    R: Threads
+        + Wait
+        + time::Clock
+        + Net<Listener = TcpListener, Stream = TcpStream>
+        + Copy
+        + Send
+        + Drop
+        + 'static,
+>(rt: R, alloc: Global, text: &str) -> Option<bool> {
+    let words: Vec<&str> = text.split(' ').collect(alloc).ok()?;
+    let mut source = MemSource::new(Bytes::new(alloc, b"").ok()?, List::new(alloc));
+    let mut sink = MemSink::new(alloc, List::new(alloc));
     let machine = Machine {
         rt,
         alloc,
         clock: MachineClock::new(rt),
         gate: SleepGate::new(rt),
     };
-    let mut sink = MemSink::new(alloc, List::new(alloc));
     let outcome = run(
         machine,
         &words,
-        &mut MemSource::new(Bytes::new(alloc, b"").ok()?, List::new(alloc)),
+        &mut source,
         &mut sink,
         &mut TcpLinks::new(rt),
         &mut SeededWords::new(&rt),
         &mut ThreadSpawner::new(),
         &mut SureKeepers,
     );
-    Some(outcome.status == 0 && sink.bytes().ends_with(b" open 0\n"))
+    Some(outcome.into_status() == 0 && sink.bytes().ends_with(b" open 0\n"))
 }
 
 // A port on which nothing listens.

@@ -72,19 +72,13 @@ pub(crate) fn play_with<R: Threads + Wait + time::Clock + Copy + Send + Drop + '
     failing: Failing,
     connections: Vec<Script>,
 ) -> Result<Played, Memory> {
-    let machine = Machine {
-        rt,
-        alloc,
-        clock: SetClock { ms: 0 },
-        gate: SleepGate::new(rt),
-    };
     let mut source = MemSource::new(script, listed(alloc, failing.read)?);
     let mut sink = MemSink::new(alloc, listed(alloc, failing.write)?);
     let mut listener = MemListener::new(alloc, connections, List::new(alloc))?;
     let mut keepers = MemKeepers::new(alloc, listed(alloc, failing.make)?);
     let words = words_of(alloc, words)?;
     let outcome = run(
-        machine,
+        machine(rt, alloc),
         &words,
         &mut source,
         &mut sink,
@@ -99,4 +93,14 @@ pub(crate) fn play_with<R: Threads + Wait + time::Clock + Copy + Send + Drop + '
         keepers,
         sink,
     })
+}
+
+// The machine, with a clock that stands still.
+fn machine<R: time::Clock + Copy>(rt: R, alloc: Global) -> Machine<R, SetClock, SleepGate<R>> {
+    Machine {
+        rt,
+        alloc,
+        clock: SetClock { ms: 0 },
+        gate: SleepGate::new(rt),
+    }
 }

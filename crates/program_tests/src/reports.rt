@@ -1,6 +1,6 @@
 //! The numbers of reports.
 
-use crate::playing::{NONE_FAILS, play};
+use crate::playing::{NONE_FAILS, Played, play};
 use cat_model::Bytes;
 use catalog_top::Report;
 use std::alloc::Global;
@@ -105,12 +105,17 @@ fn expect_report<R: Abort + Threads + Wait + time::Clock + Copy + Send + Drop + 
 ) -> Result<(), Fail> {
     let script = Bytes::new(alloc, wanted.script.as_bytes())?;
     let played = play(rt, alloc, "script", script, NONE_FAILS)?;
+    expect_done(&rt, &played, wanted);
+    drop(played);
+    Ok(())
+}
+
+fn expect_done(rt: &impl Abort, played: &Played, wanted: &Reported) {
     assert_eq!(rt; played.outcome.status, 0, "of {:?}", wanted.script);
     match &played.outcome.report {
-        Some(report) => expect_numbers(&rt, report, wanted),
+        Some(report) => expect_numbers(rt, report, wanted),
         None => assert!(rt; false),
     }
-    Ok(())
 }
 
 #[test]

@@ -35,16 +35,18 @@ enum Part {
 
 const NOT_FOUND: &[u8] = b"HTTP/1.1 404 Not Found\r\n";
 
-// Puts a key with its name as its value, and gets it.
-fn put_and_get(alloc: Global, stream: &mut TcpStream, key: &str) -> Option<bool> {
+// Puts a key with its name as its value.
+fn put(alloc: Global, stream: &mut TcpStream, key: &str) -> Option<bool> {
     let len = key.len();
     let put = format!(in alloc;
         "PUT /v1/kv/{key} HTTP/1.1\r\nHost: here\r\nContent-Length: {len}\r\n\r\n{key}"
     ).ok()?;
     stream.write_all(put.as_str().as_bytes()).ok()?;
-    if !hears(alloc, stream, 512, FOUND, b"\r\n\r\ntrue")? {
-        return Some(false);
-    }
+    hears(alloc, stream, 512, FOUND, b"\r\n\r\ntrue")
+}
+
+// Gets a key whose value is its name.
+fn get(alloc: Global, stream: &mut TcpStream, key: &str) -> Option<bool> {
     let get = format!(in alloc; "GET /v1/kv/{key}?raw HTTP/1.1\r\nHost: here\r\n\r\n").ok()?;
     stream.write_all(get.as_str().as_bytes()).ok()?;
     let end = format!(in alloc; "\r\n\r\n{key}").ok()?;
@@ -55,7 +57,7 @@ fn put_and_get_all(alloc: Global, mut stream: TcpStream, number: u32) -> Option<
     stream.set_nodelay(true).ok()?;
     for key in 0..KEYS {
         let key = format!(in alloc; "{number}/{key}").ok()?;
-        if !put_and_get(alloc, &mut stream, key.as_str())? {
+        if !put(alloc, &mut stream, key.as_str())? || !get(alloc, &mut stream, key.as_str())? {
             return Some(false);
         }
     }
