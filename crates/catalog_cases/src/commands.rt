@@ -8,261 +8,242 @@
 //!
 //! An empty text, list or session is `-`; the items of a list are parted by commas.
 
-use crate::words::{
-    Words, next_bytes, next_id, next_number, next_option, next_text, next_texts, status, text,
-};
-use cat_model::{Behavior, Bytes, Command, List, NewCheck, NewService, Text, TxnOp, Verb};
-use std::alloc::Global;
+use crate::words::Words;
+use cat_model::{Behavior, Command, List, NewCheck, NewService, Text, TxnOp, Verb};
 
-/// The command that the words say, if they say one.
-pub fn read(alloc: Global, words: &mut Words) -> Option<Command> {
-    match words.next()? {
-        "noop" => Some(Command::Noop),
-        "reap" => Some(Command::Reap),
-        "upgrade" => Some(Command::Upgrade),
-        "register" => register(alloc, words),
-        "deregister" => deregister(alloc, words),
-        "session" => session(alloc, words),
-        "destroy" => destroy(words),
-        "query" => query(alloc, words),
-        "query-delete" => query_delete(words),
-        "txn" => transaction(alloc, words),
-        name => on_key(alloc, verb(name)?, words),
+/// The command that the words say. Where they say none, that is noted with them.
+pub fn read(words: &mut Words) -> Command {
+    match words.word() {
+        "register" => register(words),
+        "deregister" => deregister(words),
+        "session" => session(words),
+        "query" => query(words),
+        "txn" => transaction(words),
+        name => of_one_word(words, name),
     }
 }
 
-fn verb(word: &str) -> Option<Verb> {
-    match word {
-        "set" => Some(Verb::Set),
-        "cas" => Some(Verb::Cas),
-        "lock" => Some(Verb::Lock),
-        "unlock" => Some(Verb::Unlock),
-        "get" => Some(Verb::Get),
-        "get-or-empty" => Some(Verb::GetOrEmpty),
-        "get-tree" => Some(Verb::GetTree),
-        "check-index" => Some(Verb::CheckIndex),
-        "check-session" => Some(Verb::CheckSession),
-        "check-not-exists" => Some(Verb::CheckNotExists),
-        "delete" => Some(Verb::Delete),
-        "delete-tree" => Some(Verb::DeleteTree),
-        "delete-cas" => Some(Verb::DeleteCas),
-        _ => None,
+// A command that names no more than an identifier, or one on a key.
+fn of_one_word(words: &mut Words, name: &str) -> Command {
+    match name {
+        "noop" => Command::Noop,
+        "reap" => Command::Reap,
+        "upgrade" => Command::Upgrade,
+        "destroy" => Command::SessionDestroy { id: words.id() },
+        "query-delete" => Command::QueryDelete { id: words.id() },
+        name => on_key(words, name),
     }
+}
+
+static VERBS: [(&str, Verb); 13] = [
+    ("set", Verb::Set),
+    ("cas", Verb::Cas),
+    ("lock", Verb::Lock),
+    ("unlock", Verb::Unlock),
+    ("get", Verb::Get),
+    ("get-or-empty", Verb::GetOrEmpty),
+    ("get-tree", Verb::GetTree),
+    ("check-index", Verb::CheckIndex),
+    ("check-session", Verb::CheckSession),
+    ("check-not-exists", Verb::CheckNotExists),
+    ("delete", Verb::Delete),
+    ("delete-tree", Verb::DeleteTree),
+    ("delete-cas", Verb::DeleteCas),
+];
+
+fn verb(words: &mut Words, name: &str) -> Verb {
+    for (said, verb) in &VERBS {
+        if *said == name {
+            return *verb;
+        }
+    }
+    words.refuse();
+    Verb::Get
 }
 
 // A command on a key.
-fn on_key(alloc: Global, verb: Verb, words: &mut Words) -> Option<Command> {
-    let key = next_text(alloc, words)?;
+fn on_key(words: &mut Words, name: &str) -> Command {
+    let verb = verb(words, name);
+    let key = words.text();
     match verb {
-        Verb::Delete => Some(Command::KvDelete { key }),
-        Verb::DeleteTree => Some(Command::KvDeleteTree { prefix: key }),
-        Verb::DeleteCas => delete_cas(key, words),
-        Verb::Set => set(key, next_bytes(alloc, words)?),
-        Verb::Cas => cas(key, next_bytes(alloc, words)?, words),
-        Verb::Lock => lock(key, next_bytes(alloc, words)?, words),
-        Verb::Unlock => unlock(key, next_bytes(alloc, words)?, words),
-        _ => None,
+        Verb::Delete => Command::KvDelete { key },
+        Verb::DeleteTree => Command::KvDeleteTree { prefix: key },
+        Verb::DeleteCas => Command::KvDeleteCas {
+            key,
+            index: words.number(),
+        },
+        _ => with_value(words, verb, key),
     }
 }
 
-fn delete_cas(key: Text, words: &mut Words) -> Option<Command> {
-    let index = next_number(words)?;
-    Some(Command::KvDeleteCas { key, index })
+// A command on a key that has a value.
+fn with_value(words: &mut Words, verb: Verb, key: Text) -> Command {
+    let value = words.bytes();
+    let flags = 0;
+    match verb {
+        Verb::Cas => Command::KvCas {
+            key,
+            value,
+            flags,
+            index: words.number(),
+        },
+        Verb::Lock => Command::KvLock {
+            key,
+            value,
+            flags,
+            session: words.id(),
+        },
+        Verb::Unlock => Command::KvUnlock {
+            key,
+            value,
+            flags,
+            session: words.id(),
+        },
+        _ => {
+            words.note(verb == Verb::Set);
+            Command::KvSet { key, value, flags }
+        }
+    }
 }
 
-fn set(key: Text, value: Bytes) -> Option<Command> {
-    Some(Command::KvSet {
-        key,
-        value,
-        flags: 0,
-    })
-}
-
-fn cas(key: Text, value: Bytes, words: &mut Words) -> Option<Command> {
-    let index = next_number(words)?;
-    Some(Command::KvCas {
-        key,
-        value,
-        flags: 0,
-        index,
-    })
-}
-
-fn lock(key: Text, value: Bytes, words: &mut Words) -> Option<Command> {
-    let session = next_id(words)?;
-    Some(Command::KvLock {
-        key,
-        value,
-        flags: 0,
-        session,
-    })
-}
-
-fn unlock(key: Text, value: Bytes, words: &mut Words) -> Option<Command> {
-    let session = next_id(words)?;
-    Some(Command::KvUnlock {
-        key,
-        value,
-        flags: 0,
-        session,
-    })
-}
-
-fn service(alloc: Global, words: &mut Words) -> Option<NewService> {
-    Some(NewService {
-        id: next_text(alloc, words)?,
-        name: next_text(alloc, words)?,
-        tags: next_texts(alloc, words)?,
-        address: next_text(alloc, words)?,
+fn service(words: &mut Words) -> NewService {
+    NewService {
+        id: words.text(),
+        name: words.text(),
+        tags: words.texts(),
+        address: words.text(),
         port: 80,
         tag_override: false,
-    })
+    }
 }
 
-fn check(alloc: Global, words: &mut Words) -> Option<NewCheck> {
-    let id = words.next()?;
-    let status = status(words.next()?)?;
-    Some(NewCheck {
-        id: text(alloc, id)?,
-        name: text(alloc, id)?,
-        status,
-        notes: text(alloc, "")?,
-        output: text(alloc, "")?,
-        service: next_text(alloc, words)?,
-    })
+fn check(words: &mut Words) -> NewCheck {
+    let id = words.word();
+    NewCheck {
+        id: words.text_of(id),
+        name: words.text_of(id),
+        status: words.status(),
+        notes: words.empty_text(),
+        output: words.empty_text(),
+        service: words.text(),
+    }
 }
 
-fn register(alloc: Global, words: &mut Words) -> Option<Command> {
-    let node = next_text(alloc, words)?;
-    let address = next_text(alloc, words)?;
-    let parts = parts(alloc, words)?;
-    Some(Command::Register {
+fn register(words: &mut Words) -> Command {
+    let node = words.text();
+    let address = words.text();
+    let mut service = None;
+    let mut checks = words.empty_list();
+    read_parts(words, &mut service, &mut checks);
+    Command::Register {
         node,
         address,
-        service: parts.service,
-        checks: parts.checks,
-    })
+        service,
+        checks,
+    }
 }
 
 // The service and the checks of a registration.
-#[derive(Drop)]
-struct RegisterParts {
-    service: Option<NewService>,
-    checks: List<NewCheck>,
-}
-
-fn parts(alloc: Global, words: &mut Words) -> Option<RegisterParts> {
-    let mut parts = RegisterParts {
-        service: None,
-        checks: List::new(alloc),
-    };
+fn read_parts(words: &mut Words, service: &mut Option<NewService>, checks: &mut List<NewCheck>) {
     for _ in 0..u64::MAX {
-        let Some(kind) = words.next() else {
+        let Some(kind) = words.next_word() else {
             break;
         };
-        put_part(alloc, &mut parts, kind, words)?;
+        read_part(words, kind, service, checks);
     }
-    Some(parts)
 }
 
-fn put_part(alloc: Global, parts: &mut RegisterParts, kind: &str, words: &mut Words) -> Option<()> {
+fn read_part(
+    words: &mut Words,
+    kind: &str,
+    service: &mut Option<NewService>,
+    checks: &mut List<NewCheck>,
+) {
     match kind {
-        "service" => put_service(alloc, &mut parts.service, words),
-        "check" => put_check(alloc, &mut parts.checks, words),
-        _ => None,
+        "service" => put_service(words, service),
+        "check" => put_check(words, checks),
+        _ => words.refuse(),
     }
 }
 
-fn put_service(alloc: Global, given: &mut Option<NewService>, words: &mut Words) -> Option<()> {
-    *given = Some(service(alloc, words)?);
-    Some(())
+fn put_service(words: &mut Words, given: &mut Option<NewService>) {
+    let service = service(words);
+    let former = given.replace(service);
+    drop(former);
 }
 
-fn put_check(alloc: Global, checks: &mut List<NewCheck>, words: &mut Words) -> Option<()> {
-    let check = check(alloc, words)?;
-    checks.push(check).ok()
+fn put_check(words: &mut Words, checks: &mut List<NewCheck>) {
+    let check = check(words);
+    words.put(checks, check);
 }
 
-fn deregister(alloc: Global, words: &mut Words) -> Option<Command> {
-    Some(Command::Deregister {
-        node: next_text(alloc, words)?,
-        service: next_text(alloc, words)?,
-        check: next_text(alloc, words)?,
-    })
-}
-
-fn behavior(word: &str) -> Option<Behavior> {
-    match word {
-        "release" => Some(Behavior::Release),
-        "delete" => Some(Behavior::Delete),
-        _ => None,
+fn deregister(words: &mut Words) -> Command {
+    Command::Deregister {
+        node: words.text(),
+        service: words.text(),
+        check: words.text(),
     }
 }
 
-fn session(alloc: Global, words: &mut Words) -> Option<Command> {
-    let id = next_id(words)?;
-    let node = next_text(alloc, words)?;
-    let checks = next_texts(alloc, words)?;
-    let behavior = behavior(words.next()?)?;
-    let delay_ms = next_number(words)?;
-    Some(Command::SessionCreate {
-        id,
-        name: text(alloc, "")?,
-        node,
-        checks,
-        behavior,
-        delay_ms,
+fn behavior(words: &mut Words) -> Behavior {
+    match words.word() {
+        "release" => Behavior::Release,
+        "delete" => Behavior::Delete,
+        _ => {
+            words.refuse();
+            Behavior::Release
+        }
+    }
+}
+
+fn session(words: &mut Words) -> Command {
+    Command::SessionCreate {
+        id: words.id(),
+        name: words.empty_text(),
+        node: words.text(),
+        checks: words.texts(),
+        behavior: behavior(words),
+        delay_ms: words.number(),
         ttl_ms: 0,
-    })
+    }
 }
 
-fn destroy(words: &mut Words) -> Option<Command> {
-    let id = next_id(words)?;
-    Some(Command::SessionDestroy { id })
-}
-
-fn query(alloc: Global, words: &mut Words) -> Option<Command> {
-    let create = words.next()? == "create";
-    let id = next_id(words)?;
-    let name = next_text(alloc, words)?;
-    let session = next_option(words)?;
-    let service = next_text(alloc, words)?;
-    let only_passing = words.next()? == "passing";
-    Some(Command::QuerySet {
-        create,
-        id,
-        name,
-        session,
-        service,
-        only_passing,
-        tags: next_texts(alloc, words)?,
+fn query(words: &mut Words) -> Command {
+    Command::QuerySet {
+        create: words.is_next("create"),
+        id: words.id(),
+        name: words.text(),
+        session: words.option(),
+        service: words.text(),
+        only_passing: words.is_next("passing"),
+        tags: words.texts(),
         dns_ttl_ms: 0,
-    })
+    }
 }
 
-fn query_delete(words: &mut Words) -> Option<Command> {
-    let id = next_id(words)?;
-    Some(Command::QueryDelete { id })
-}
-
-fn transaction(alloc: Global, words: &mut Words) -> Option<Command> {
-    let mut ops = List::new(alloc);
+fn transaction(words: &mut Words) -> Command {
+    let mut ops = words.empty_list();
     for _ in 0..u64::MAX {
-        let Some(name) = words.next() else {
+        let Some(name) = words.next_word() else {
             break;
         };
-        ops.push(op(alloc, verb(name)?, words)?).ok()?;
+        put_op(words, name, &mut ops);
     }
-    Some(Command::Txn { ops })
+    Command::Txn { ops }
 }
 
-fn op(alloc: Global, verb: Verb, words: &mut Words) -> Option<TxnOp> {
-    Some(TxnOp {
-        verb,
-        key: next_text(alloc, words)?,
-        value: next_bytes(alloc, words)?,
+fn put_op(words: &mut Words, name: &str, ops: &mut List<TxnOp>) {
+    let op = op(words, name);
+    words.put(ops, op);
+}
+
+fn op(words: &mut Words, name: &str) -> TxnOp {
+    TxnOp {
+        verb: verb(words, name),
+        key: words.text(),
+        value: words.bytes(),
         flags: 0,
-        index: next_number(words)?,
-        session: next_option(words)?,
-    })
+        index: words.number(),
+        session: words.option(),
+    }
 }

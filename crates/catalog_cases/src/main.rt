@@ -8,6 +8,7 @@
 #![tactic(auto)]
 
 mod commands;
+mod line;
 mod playing;
 mod queries;
 mod shown;
@@ -20,12 +21,7 @@ use std::process::ExitCode;
 
 fn main(rt: HostRuntime) -> Result<ExitCode> {
     let names = fs::read_to_string(&rt, "cases.txt").context("cases.txt")?;
-    let mut differing = 0u64;
-    for name in names.as_str().lines() {
-        if !is_as_written(&rt, name)? {
-            differing = differing.saturating_add(1);
-        }
-    }
+    let differing = differing(&rt, names.as_str())?;
     Ok(if differing == 0 {
         ExitCode::SUCCESS
     } else {
@@ -33,24 +29,36 @@ fn main(rt: HostRuntime) -> Result<ExitCode> {
     })
 }
 
-// Plays the case of this name, prints its line, and says whether it is as written.
-fn is_as_written(rt: &HostRuntime, name: &str) -> Result<bool> {
-    let text = text_of(rt, name)?;
-    match play(rt.alloc(), text.as_str())? {
-        None => {
-            println!(rt; "{name} as written")?;
-            Ok(true)
-        }
-        Some(difference) => {
-            print_difference(rt, name, &difference)?;
-            Ok(false)
+// How many of the cases of these names are not as written.
+fn differing(rt: &HostRuntime, names: &str) -> Result<u64> {
+    let mut differing = 0u64;
+    for name in names.lines() {
+        if !is_as_written(rt, name)? {
+            differing = differing.saturating_add(1);
         }
     }
+    Ok(differing)
+}
+
+// Plays the case of this name, and says whether it is as written.
+fn is_as_written(rt: &HostRuntime, name: &str) -> Result<bool> {
+    let text = text_of(rt, name)?;
+    let difference = play(rt.alloc(), text.as_str())?;
+    print_line(rt, name, &difference)
 }
 
 fn text_of(rt: &HostRuntime, name: &str) -> Result<String> {
     let path = format!(in rt.alloc(); "{name}.case")?;
     fs::read_to_string(rt, &path).context(path)
+}
+
+// Prints the line of a case, and says whether it is as written.
+fn print_line(rt: &HostRuntime, name: &str, difference: &Option<Difference>) -> Result<bool> {
+    match difference {
+        None => println!(rt; "{name} as written")?,
+        Some(difference) => print_difference(rt, name, difference)?,
+    }
+    Ok(difference.is_none())
 }
 
 fn print_difference(rt: &HostRuntime, name: &str, difference: &Difference) -> Result<()> {

@@ -19,7 +19,10 @@ pub struct Difference {
 /// Plays the lines of a case over a new store, and gives the first that differs.
 pub fn play(alloc: Global, text: &str) -> Result<Option<Difference>, Memory> {
     let mut store = Store::new(alloc)?;
-    first_difference(alloc, &mut store, text)
+    let difference = first_difference(alloc, &mut store, text);
+    // What is large is let go by a call, here and below, so that no exit has to spell its drop out.
+    drop(store);
+    difference
 }
 
 fn first_difference(
@@ -55,16 +58,13 @@ fn other_than(wanted: &str, is: String) -> Option<String> {
 
 // What a line gives: a query after `?` its answer, a query after `^` its channels, and a command what it does.
 fn given(alloc: Global, store: &mut Store, said: &str) -> Result<String, Memory> {
-    let mut words = said.split_whitespace();
-    if said.starts_with("? ") {
-        words.next();
-        return answer(alloc, store, &mut words);
+    if let Some(query) = said.strip_prefix("? ") {
+        return answer(alloc, store, query);
     }
-    if said.starts_with("^ ") {
-        words.next();
-        return channels(alloc, store, &mut words);
+    if let Some(query) = said.strip_prefix("^ ") {
+        return channels(alloc, store, query);
     }
-    apply(alloc, store, &mut words)
+    apply(alloc, store, said)
 }
 
 fn unread(alloc: Global) -> Result<String, Memory> {
@@ -72,11 +72,16 @@ fn unread(alloc: Global) -> Result<String, Memory> {
 }
 
 // Applies a command at the next position.
-fn apply(alloc: Global, store: &mut Store, words: &mut Words) -> Result<String, Memory> {
-    match commands::read(alloc, words) {
-        None => unread(alloc),
-        Some(command) => applied(alloc, store, &Shared::new(alloc, command)?),
-    }
+fn apply(alloc: Global, store: &mut Store, said: &str) -> Result<String, Memory> {
+    let mut words = Words::new(alloc, said);
+    let command = Shared::new(alloc, commands::read(&mut words))?;
+    let given = if words.are_read() {
+        applied(alloc, store, &command)
+    } else {
+        unread(alloc)
+    };
+    drop(command);
+    given
 }
 
 fn applied(alloc: Global, store: &mut Store, command: &Shared<Command>) -> Result<String, Memory> {
@@ -85,7 +90,10 @@ fn applied(alloc: Global, store: &mut Store, command: &Shared<Command>) -> Resul
         return unread(alloc);
     }
     let (answer, fired) = store.apply(alloc, position, command)?;
-    Ok(shown::applied(alloc, &answer, &fired)?)
+    let shown = shown::applied(alloc, &answer, &fired);
+    drop(answer);
+    drop(fired);
+    shown
 }
 
 fn view_of(store: &Store) -> View<'_> {
@@ -98,16 +106,23 @@ fn view_of(store: &Store) -> View<'_> {
     }
 }
 
-fn answer(alloc: Global, store: &Store, words: &mut Words) -> Result<String, Memory> {
-    match queries::read(alloc, words) {
-        None => unread(alloc),
-        Some(query) => answered(alloc, store, &query),
-    }
+fn answer(alloc: Global, store: &Store, said: &str) -> Result<String, Memory> {
+    let mut words = Words::new(alloc, said);
+    let query = queries::read(&mut words);
+    let given = if words.are_read() {
+        answered(alloc, store, &query)
+    } else {
+        unread(alloc)
+    };
+    drop(query);
+    given
 }
 
 fn answered(alloc: Global, store: &Store, query: &Query) -> Result<String, Memory> {
     let (answer, index) = evaluated(alloc, store, query)?;
-    Ok(shown::found(alloc, index, &answer)?)
+    let shown = shown::found(alloc, index, &answer);
+    drop(answer);
+    shown
 }
 
 // The answer to the query with its index. Nobody reads how many evaluations were made.
@@ -129,14 +144,21 @@ fn counted<L: Ledger>(
     evaluate(alloc, &view_of(store), query, &mut steps)
 }
 
-fn channels(alloc: Global, store: &Store, words: &mut Words) -> Result<String, Memory> {
-    match queries::read(alloc, words) {
-        None => unread(alloc),
-        Some(query) => hung(alloc, store, &query),
-    }
+fn channels(alloc: Global, store: &Store, said: &str) -> Result<String, Memory> {
+    let mut words = Words::new(alloc, said);
+    let query = queries::read(&mut words);
+    let given = if words.are_read() {
+        hung(alloc, store, &query)
+    } else {
+        unread(alloc)
+    };
+    drop(query);
+    given
 }
 
 fn hung(alloc: Global, store: &Store, query: &Query) -> Result<String, Memory> {
     let chans = chans(alloc, &view_of(store), query)?;
-    Ok(shown::hangs(alloc, chans.as_slice())?)
+    let shown = shown::hangs(alloc, chans.as_slice());
+    drop(chans);
+    shown
 }

@@ -4,77 +4,79 @@
 //! `health-checks NAME`, `health-node NODE`, `health-state STATUS|any`; `key KEY`, `prefix PREFIX`,
 //! `keys PREFIX SEPARATOR`; `session ID`, `sessions-of NODE`, `query ID`.
 
-use crate::words::{Words, next_id, next_text, next_texts, status};
-use cat_model::{Query, Text};
-use std::alloc::Global;
+use crate::words::Words;
+use cat_model::{Query, Status, Text};
 
-/// The query that the words say, if they say one.
-pub fn read(alloc: Global, words: &mut Words) -> Option<Query> {
-    match words.next()? {
-        "nodes" => Some(Query::Nodes),
-        "services" => Some(Query::Services),
-        "sessions" => Some(Query::Sessions),
-        "queries" => Some(Query::Queries),
-        "session" => session(words),
-        "query" => prepared(words),
-        "health-state" => health_state(words.next()?),
-        name => of_name(alloc, name, words),
+/// The query that the words say. Where they say none, that is noted with them.
+pub fn read(words: &mut Words) -> Query {
+    match words.word() {
+        "nodes" => Query::Nodes,
+        "services" => Query::Services,
+        "sessions" => Query::Sessions,
+        "queries" => Query::Queries,
+        name => of_one_row(words, name),
     }
 }
 
-fn session(words: &mut Words) -> Option<Query> {
-    let id = next_id(words)?;
-    Some(Query::SessionInfo { id })
+fn of_one_row(words: &mut Words, kind: &str) -> Query {
+    match kind {
+        "session" => Query::SessionInfo { id: words.id() },
+        "query" => Query::QueryInfo { id: words.id() },
+        "health-state" => Query::HealthState {
+            state: state(words),
+        },
+        kind => of_name(words, kind),
+    }
 }
 
-fn prepared(words: &mut Words) -> Option<Query> {
-    let id = next_id(words)?;
-    Some(Query::QueryInfo { id })
-}
-
-fn health_state(word: &str) -> Option<Query> {
+// A status, or `any`.
+fn state(words: &mut Words) -> Option<Status> {
+    let word = words.word();
     if word == "any" {
-        return Some(Query::HealthState { state: None });
+        None
+    } else {
+        Some(words.status_of(word))
     }
-    let status = status(word)?;
-    Some(Query::HealthState {
-        state: Some(status),
-    })
 }
 
 // A query of one name.
-fn of_name(alloc: Global, kind: &str, words: &mut Words) -> Option<Query> {
-    let name = next_text(alloc, words)?;
+fn of_name(words: &mut Words, kind: &str) -> Query {
+    let name = words.text();
     match kind {
-        "key" => Some(Query::Key { key: name }),
-        "prefix" => Some(Query::Prefix { prefix: name }),
-        "node" => Some(Query::NodeServices { node: name }),
-        "sessions-of" => Some(Query::SessionsOf { node: name }),
-        "health-checks" => Some(Query::HealthChecks { name }),
-        "health-node" => Some(Query::HealthNode { node: name }),
-        "keys" => keys(alloc, name, words),
-        "service" => service(alloc, name, words),
-        "health" => health(alloc, name, words),
-        _ => None,
+        "key" => Query::Key { key: name },
+        "prefix" => Query::Prefix { prefix: name },
+        "node" => Query::NodeServices { node: name },
+        "sessions-of" => Query::SessionsOf { node: name },
+        kind => of_health(words, kind, name),
     }
 }
 
-fn keys(alloc: Global, prefix: Text, words: &mut Words) -> Option<Query> {
-    let separator = next_text(alloc, words)?;
-    Some(Query::Keys { prefix, separator })
+fn of_health(words: &mut Words, kind: &str, name: Text) -> Query {
+    match kind {
+        "health-checks" => Query::HealthChecks { name },
+        "health-node" => Query::HealthNode { node: name },
+        kind => of_name_and_more(words, kind, name),
+    }
 }
 
-fn service(alloc: Global, name: Text, words: &mut Words) -> Option<Query> {
-    let tags = next_texts(alloc, words)?;
-    Some(Query::Service { name, tags })
-}
-
-fn health(alloc: Global, name: Text, words: &mut Words) -> Option<Query> {
-    let tags = next_texts(alloc, words)?;
-    let passing = words.next()? == "passing";
-    Some(Query::HealthService {
-        name,
-        tags,
-        passing,
-    })
+fn of_name_and_more(words: &mut Words, kind: &str, name: Text) -> Query {
+    match kind {
+        "keys" => Query::Keys {
+            prefix: name,
+            separator: words.text(),
+        },
+        "service" => Query::Service {
+            name,
+            tags: words.texts(),
+        },
+        "health" => Query::HealthService {
+            name,
+            tags: words.texts(),
+            passing: words.is_next("passing"),
+        },
+        _ => {
+            words.refuse();
+            Query::Key { key: name }
+        }
+    }
 }

@@ -5,34 +5,52 @@
 //! answer. The row of a key is `KEY=VALUE@CREATE-MODIFY`, then `/LOCK` where its lock index is not 0, and `!SESSION` where
 //! it is held; other rows are alike.
 
+use crate::line::Line;
 use cat_model::{
-    Answer, Applied, Chan, CheckView, Fired, Freed, Instance, KvRow, NameTags, NodeRow, QueryRow,
-    Refuse, ServiceRow, SessionRow, Status, Text, TxnResult,
+    Answer, Applied, Chan, CheckView, Fired, Freed, Instance, KvRow, Memory, NameTags, NodeRow,
+    QueryRow, Refuse, ServiceRow, SessionRow, Status, Text, TxnResult,
 };
 use std::alloc::{AllocError, Global};
 use std::collections::BTreeSet;
-use std::fmt::Write;
 
-/// What a command gives.
-pub fn applied(alloc: Global, answer: &Applied, fired: &Fired) -> Result<String, AllocError> {
-    let mut out = String::new(alloc);
-    put_applied(&mut out, answer)?;
-    if !fired.chans.as_slice().is_empty() {
-        out.push_str(" fires")?;
-    }
-    put_channels(alloc, &mut out, fired.chans.as_slice())?;
-    put_freed(&mut out, fired.freed.as_slice())?;
-    Ok(out)
+// What stands in a list of its kind, with a space before it.
+trait Item {
+    fn put(&self, line: &mut Line);
 }
 
-fn put_applied(out: &mut String, answer: &Applied) -> Result<(), AllocError> {
+fn put_all<T: Item>(line: &mut Line, items: &[T]) {
+    for item in items {
+        item.put(line);
+    }
+}
+
+/// What a command gives.
+pub fn applied(alloc: Global, answer: &Applied, fired: &Fired) -> Result<String, Memory> {
+    let mut line = Line::new(alloc);
+    put_applied(&mut line, answer);
+    put_fired(alloc, &mut line, fired);
+    line.written()
+}
+
+fn put_fired(alloc: Global, line: &mut Line, fired: &Fired) {
+    if !fired.chans.as_slice().is_empty() {
+        line.put(" fires");
+    }
+    put_channels(alloc, line, fired.chans.as_slice());
+    put_freed(line, fired.freed.as_slice());
+}
+
+fn put_applied(line: &mut Line, answer: &Applied) {
     match answer {
-        Applied::Done => out.push_str("done"),
-        Applied::Yes => out.push_str("yes"),
-        Applied::No => out.push_str("no"),
-        Applied::RolledBack { op, .. } => write!(out, "rolled back {op}"),
-        Applied::Refused(why) => out.push_str(refusal(*why)),
-        Applied::Results(results) => put_results(out, results.as_slice()),
+        Applied::Done => line.put("done"),
+        Applied::Yes => line.put("yes"),
+        Applied::No => line.put("no"),
+        Applied::RolledBack { op, .. } => line.put_number("rolled back ", *op as u64),
+        Applied::Refused(why) => line.put(refusal(*why)),
+        Applied::Results(results) => {
+            line.put("results");
+            put_all(line, results.as_slice());
+        }
     }
 }
 
@@ -49,80 +67,120 @@ fn refusal(why: Refuse) -> &'static str {
     }
 }
 
-fn put_results(out: &mut String, results: &[TxnResult]) -> Result<(), AllocError> {
-    out.push_str("results")?;
-    for result in results {
-        put_kv(out, &result.row, result.with_value)?;
+impl Item for TxnResult {
+    fn put(&self, line: &mut Line) {
+        put_kv(line, &self.row, self.with_value)
     }
-    Ok(())
 }
 
 /// The channels on which a query hangs, in the order of their texts.
-pub fn hangs(alloc: Global, chans: &[Chan]) -> Result<String, AllocError> {
-    let mut out = String::from_str(alloc, "on")?;
-    put_channels(alloc, &mut out, chans)?;
-    Ok(out)
+pub fn hangs(alloc: Global, chans: &[Chan]) -> Result<String, Memory> {
+    let mut line = Line::new(alloc);
+    line.put("on");
+    put_channels(alloc, &mut line, chans);
+    line.written()
 }
 
 // The channels in the order of their texts.
-fn put_channels(alloc: Global, out: &mut String, chans: &[Chan]) -> Result<(), AllocError> {
+fn put_channels(alloc: Global, line: &mut Line, chans: &[Chan]) {
     let mut texts = BTreeSet::new(alloc);
+    let collected = collect_texts(alloc, &mut texts, chans);
+    line.note(collected.is_ok());
+    put_in_order(line, &texts);
+}
+
+fn put_in_order(line: &mut Line, texts: &BTreeSet<String>) {
+    for text in texts {
+        line.put(text.as_str());
+    }
+}
+
+fn collect_texts(
+    alloc: Global,
+    texts: &mut BTreeSet<String>,
+    chans: &[Chan],
+) -> Result<(), AllocError> {
     for chan in chans {
-        let (kind, name) = parts_of(chan);
-        texts.insert(format!(in alloc; " {kind}{name}")?)?;
-    }
-    for text in &texts {
-        out.push_str(text.as_str())?;
+        texts.insert(text_of(alloc, chan)?)?;
     }
     Ok(())
 }
 
-// The kind of a channel, and the name that it is of.
-fn parts_of(chan: &Chan) -> (&str, &str) {
+fn text_of(alloc: Global, chan: &Chan) -> Result<String, AllocError> {
+    let kind = kind_of(chan);
+    let name = name_of(chan);
+    format!(in alloc; " {kind}{name}")
+}
+
+fn kind_of(chan: &Chan) -> &'static str {
     match chan {
-        Chan::Nodes => ("nodes", ""),
-        Chan::Services => ("services", ""),
-        Chan::Checks => ("checks", ""),
-        Chan::Sessions => ("sessions", ""),
-        Chan::Queries => ("queries", ""),
-        Chan::Vanished => ("vanished", ""),
-        Chan::NodeGone => ("node-gone", ""),
-        Chan::Reaped => ("reaped", ""),
-        Chan::Service(name) => ("service:", name.as_str()),
-        Chan::Node(name) => ("node:", name.as_str()),
-        Chan::NodeChecks(name) => ("node-checks:", name.as_str()),
-        Chan::Key(name) => ("key:", name.as_str()),
-        Chan::Prefix(name) => ("prefix:", name.as_str()),
+        Chan::Nodes => "nodes",
+        Chan::Services => "services",
+        Chan::Checks => "checks",
+        Chan::Sessions => "sessions",
+        Chan::Queries => "queries",
+        Chan::Vanished => "vanished",
+        Chan::NodeGone => "node-gone",
+        Chan::Reaped => "reaped",
+        Chan::Service(_) => "service:",
+        Chan::Node(_) => "node:",
+        Chan::NodeChecks(_) => "node-checks:",
+        Chan::Key(_) => "key:",
+        Chan::Prefix(_) => "prefix:",
     }
 }
 
-fn put_freed(out: &mut String, freed: &[Freed]) -> Result<(), AllocError> {
+// The name that the channel is of, which is empty where it is of none.
+fn name_of(chan: &Chan) -> &str {
+    match chan {
+        Chan::Service(name)
+        | Chan::Node(name)
+        | Chan::NodeChecks(name)
+        | Chan::Key(name)
+        | Chan::Prefix(name) => name.as_str(),
+        _ => "",
+    }
+}
+
+fn put_freed(line: &mut Line, freed: &[Freed]) {
     if !freed.is_empty() {
-        out.push_str(" frees")?;
+        line.put(" frees");
     }
-    for one in freed {
-        let key = one.key.as_str();
-        let delay = one.delay_ms;
-        write!(out, " {key}:{delay}")?;
+    put_all(line, freed)
+}
+
+impl Item for Freed {
+    fn put(&self, line: &mut Line) {
+        line.put_name(&self.key);
+        line.put_number(":", self.delay_ms);
     }
-    Ok(())
 }
 
 // A row of a key, which a transaction may show without its value.
-fn put_kv(out: &mut String, row: &KvRow, with_value: bool) -> Result<(), AllocError> {
-    let key = row.key.as_str();
-    let value = if with_value { value_of(row) } else { "" };
-    let create = row.create;
-    let modify = row.modify;
-    write!(out, " {key}={value}@{create}-{modify}")?;
-    let lock = row.lock_index;
-    if lock > 0 {
-        write!(out, "/{lock}")?;
+fn put_kv(line: &mut Line, row: &KvRow, with_value: bool) {
+    line.put_name(&row.key);
+    line.put("=");
+    if with_value {
+        line.put(value_of(row));
     }
-    match row.session {
-        Some(session) => write!(out, "!{session}"),
-        None => Ok(()),
+    put_span(line, row.create, row.modify);
+    put_hold(line, row);
+}
+
+// How often the key was locked, and which session holds it.
+fn put_hold(line: &mut Line, row: &KvRow) {
+    if row.lock_index > 0 {
+        line.put_number("/", row.lock_index);
     }
+    if let Some(session) = row.session {
+        line.put_id("!", session);
+    }
+}
+
+// At which positions a row was made and last written.
+fn put_span(line: &mut Line, create: u64, modify: u64) {
+    line.put_number("@", create);
+    line.put_number("-", modify);
 }
 
 fn value_of(row: &KvRow) -> &str {
@@ -130,105 +188,121 @@ fn value_of(row: &KvRow) -> &str {
 }
 
 /// What a query gives.
-pub fn found(alloc: Global, index: u64, answer: &Answer) -> Result<String, AllocError> {
-    let mut out = format!(in alloc; "{index}")?;
-    put_found(&mut out, answer)?;
-    Ok(out)
+pub fn found(alloc: Global, index: u64, answer: &Answer) -> Result<String, Memory> {
+    let mut line = Line::new(alloc);
+    line.put_number("", index);
+    put_found(&mut line, answer);
+    line.written()
 }
 
-fn put_found(out: &mut String, answer: &Answer) -> Result<(), AllocError> {
+fn put_found(line: &mut Line, answer: &Answer) {
     match answer {
-        Answer::Absent => out.push_str(" absent"),
-        Answer::Rows(rows) => put_rows(out, rows.as_slice()),
-        Answer::Names(names) => put_names(out, names.as_slice()),
-        Answer::Sessions(rows) => put_sessions(out, rows.as_slice()),
-        Answer::Queries(rows) => put_queries(out, rows.as_slice()),
-        Answer::Nodes(rows) => put_nodes(out, rows.as_slice()),
-        Answer::NodeView(node, services) => put_view(out, node, services.as_slice()),
-        Answer::Services(names) => put_tags(out, names.as_slice()),
-        Answer::Instances(instances) => put_instances(out, instances.as_slice()),
-        Answer::Checks(checks) => put_checks(out, checks.as_slice()),
+        Answer::Absent => line.put(" absent"),
+        Answer::Rows(rows) => put_all(line, rows.as_slice()),
+        Answer::Names(names) => put_all(line, names.as_slice()),
+        Answer::Sessions(rows) => put_all(line, rows.as_slice()),
+        Answer::Queries(rows) => put_all(line, rows.as_slice()),
+        Answer::Nodes(rows) => put_all(line, rows.as_slice()),
+        Answer::NodeView(node, services) => put_view(line, node, services.as_slice()),
+        Answer::Services(names) => put_all(line, names.as_slice()),
+        Answer::Instances(instances) => put_all(line, instances.as_slice()),
+        Answer::Checks(checks) => put_all(line, checks.as_slice()),
     }
 }
 
-fn put_rows(out: &mut String, rows: &[KvRow]) -> Result<(), AllocError> {
-    for row in rows {
-        put_kv(out, row, true)?;
+impl Item for KvRow {
+    fn put(&self, line: &mut Line) {
+        put_kv(line, self, true)
     }
-    Ok(())
 }
 
-fn put_names(out: &mut String, names: &[Text]) -> Result<(), AllocError> {
-    for name in names {
-        out.push_str(" ")?;
-        out.push_str(name.as_str())?;
+impl Item for Text {
+    fn put(&self, line: &mut Line) {
+        line.put_name(self);
     }
-    Ok(())
 }
 
-fn put_sessions(out: &mut String, rows: &[SessionRow]) -> Result<(), AllocError> {
-    for row in rows {
-        let id = row.id;
-        let node = row.node.as_str();
-        let create = row.create;
-        let modify = row.modify;
-        write!(out, " {id}:{node}@{create}-{modify}")?;
+impl Item for SessionRow {
+    fn put(&self, line: &mut Line) {
+        put_by_id(line, self.id, &self.node);
+        put_span(line, self.create, self.modify);
     }
-    Ok(())
 }
 
-fn put_queries(out: &mut String, rows: &[QueryRow]) -> Result<(), AllocError> {
-    for row in rows {
-        let id = row.id;
-        let name = row.name.as_str();
-        let create = row.create;
-        let modify = row.modify;
-        write!(out, " {id}:{name}@{create}-{modify}")?;
+impl Item for QueryRow {
+    fn put(&self, line: &mut Line) {
+        put_by_id(line, self.id, &self.name);
+        put_span(line, self.create, self.modify);
     }
-    Ok(())
 }
 
-fn put_node(out: &mut String, row: &NodeRow) -> Result<(), AllocError> {
-    let node = row.node.as_str();
-    let address = row.address.as_str();
-    let create = row.create;
-    let modify = row.modify;
-    write!(out, " {node}({address})@{create}-{modify}")
+impl Item for NodeRow {
+    fn put(&self, line: &mut Line) {
+        line.put_name(&self.node);
+        line.put("(");
+        line.put(self.address.as_str());
+        line.put(")");
+        put_span(line, self.create, self.modify);
+    }
 }
 
-fn put_nodes(out: &mut String, rows: &[NodeRow]) -> Result<(), AllocError> {
-    for row in rows {
-        put_node(out, row)?;
+impl Item for ServiceRow {
+    fn put(&self, line: &mut Line) {
+        line.put_name(&self.id);
+        put_span(line, self.create, self.modify);
     }
-    Ok(())
 }
 
-fn put_view(
-    out: &mut String,
-    node: &Option<NodeRow>,
-    services: &[ServiceRow],
-) -> Result<(), AllocError> {
-    let Some(node) = node else {
-        return out.push_str(" no-node");
-    };
-    put_node(out, node)?;
-    for row in services {
-        let id = row.id.as_str();
-        let create = row.create;
-        let modify = row.modify;
-        write!(out, " {id}@{create}-{modify}")?;
+impl Item for NameTags {
+    fn put(&self, line: &mut Line) {
+        line.put_name(&self.name);
+        put_all(line, self.tags.as_slice());
+        line.put(";");
     }
-    Ok(())
 }
 
-fn put_tags(out: &mut String, names: &[NameTags]) -> Result<(), AllocError> {
-    for name in names {
-        out.push_str(" ")?;
-        out.push_str(name.name.as_str())?;
-        put_names(out, name.tags.as_slice())?;
-        out.push_str(";")?;
+impl Item for CheckView {
+    fn put(&self, line: &mut Line) {
+        put_on_node(line, &self.row.node, &self.row.id);
+        line.put(":");
+        line.put(status(self.row.status));
+        line.put(":");
+        line.put(self.service_name.as_str());
     }
-    Ok(())
+}
+
+// An instance with its checks.
+impl Item for Instance {
+    fn put(&self, line: &mut Line) {
+        put_on_node(line, &self.node.node, &self.service.id);
+        line.put("[");
+        put_all(line, self.checks.as_slice());
+        line.put("]");
+    }
+}
+
+fn put_by_id(line: &mut Line, id: u128, name: &Text) {
+    line.put_id(" ", id);
+    line.put(":");
+    line.put(name.as_str());
+}
+
+fn put_on_node(line: &mut Line, node: &Text, id: &Text) {
+    line.put_name(node);
+    line.put("/");
+    line.put(id.as_str());
+}
+
+fn put_view(line: &mut Line, node: &Option<NodeRow>, services: &[ServiceRow]) {
+    match node {
+        None => line.put(" no-node"),
+        Some(node) => put_present(line, node, services),
+    }
+}
+
+fn put_present(line: &mut Line, node: &NodeRow, services: &[ServiceRow]) {
+    node.put(line);
+    put_all(line, services);
 }
 
 fn status(status: Status) -> &'static str {
@@ -237,27 +311,4 @@ fn status(status: Status) -> &'static str {
         Status::Warning => "warning",
         Status::Critical => "critical",
     }
-}
-
-fn put_checks(out: &mut String, checks: &[CheckView]) -> Result<(), AllocError> {
-    for check in checks {
-        let node = check.row.node.as_str();
-        let id = check.row.id.as_str();
-        let status = status(check.row.status);
-        let service = check.service_name.as_str();
-        write!(out, " {node}/{id}:{status}:{service}")?;
-    }
-    Ok(())
-}
-
-// Instances, each with its checks.
-fn put_instances(out: &mut String, instances: &[Instance]) -> Result<(), AllocError> {
-    for instance in instances {
-        let node = instance.node.node.as_str();
-        let id = instance.service.id.as_str();
-        write!(out, " {node}/{id}[")?;
-        put_checks(out, instance.checks.as_slice())?;
-        out.push_str("]")?;
-    }
-    Ok(())
 }

@@ -1,80 +1,166 @@
-//! The small values of a case. `None` stands for a word that is missing or says none, and for want of memory.
+//! The words of a line, and the small values that they say.
 
 use cat_model::{Bytes, List, Status, Text, Texts};
 use std::alloc::Global;
 use std::str::SplitWhitespace;
 
-/// The words of a line that are left.
-pub type Words<'a> = SplitWhitespace<'a>;
+/// The words of a line that are left. It is noted where a word is missing or says none, and where memory fails, and an
+/// empty value then stands for what was to be read.
+#[derive(Drop)]
+pub struct Words<'a> {
+    alloc: Global,
+    left: SplitWhitespace<'a>,
+    are_read: bool,
+}
+
+impl<'a> Words<'a> {
+    /// The words of this line.
+    pub fn new(alloc: Global, line: &'a str) -> Words<'a> {
+        Words {
+            alloc,
+            left: line.split_whitespace(),
+            are_read: true,
+        }
+    }
+
+    /// Whether all that was to be read so far could be read.
+    pub fn are_read(&self) -> bool {
+        self.are_read
+    }
+
+    /// Notes that a word says none.
+    pub fn refuse(&mut self) {
+        self.are_read = false;
+    }
+
+    /// Notes whether a word says what it has to.
+    pub fn note(&mut self, is_read: bool) {
+        self.are_read = self.are_read && is_read;
+    }
+
+    /// The next word, if one is left.
+    pub fn next_word(&mut self) -> Option<&'a str> {
+        self.left.next()
+    }
+
+    /// The next word, which has to be there.
+    pub fn word(&mut self) -> &'a str {
+        let word = self.left.next();
+        self.note(word.is_some());
+        word.unwrap_or("")
+    }
+
+    /// Whether the next word is this one.
+    pub fn is_next(&mut self, wanted: &str) -> bool {
+        self.word() == wanted
+    }
+
+    /// The empty text.
+    pub fn empty_text(&self) -> Text {
+        Text::from(String::new(self.alloc))
+    }
+
+    /// This word as a text, of which `-` is the empty one.
+    pub fn text_of(&mut self, word: &str) -> Text {
+        let mut string = String::new(self.alloc);
+        let put = string.push_str(said(word));
+        self.note(put.is_ok());
+        Text::from(string)
+    }
+
+    /// The next word as a text.
+    pub fn text(&mut self) -> Text {
+        let word = self.word();
+        self.text_of(word)
+    }
+
+    /// The next word as the bytes of a value, of which `-` is none.
+    pub fn bytes(&mut self) -> Bytes {
+        let word = self.word();
+        let mut bytes = Vec::new(self.alloc);
+        let put = bytes.extend_from_slice(said(word).as_bytes());
+        self.note(put.is_ok());
+        Bytes::from(bytes)
+    }
+
+    /// The next word as a number.
+    pub fn number(&mut self) -> u64 {
+        let number = self.word().parse::<u64>();
+        self.note(number.is_ok());
+        number.unwrap_or(0)
+    }
+
+    /// The next word as an identifier.
+    pub fn id(&mut self) -> u128 {
+        let word = self.word();
+        self.id_of(word)
+    }
+
+    fn id_of(&mut self, word: &str) -> u128 {
+        let id = word.parse::<u128>();
+        self.note(id.is_ok());
+        id.unwrap_or(0)
+    }
+
+    /// The next word as an identifier, of which `-` is none.
+    pub fn option(&mut self) -> Option<u128> {
+        let word = self.word();
+        if word == "-" {
+            None
+        } else {
+            Some(self.id_of(word))
+        }
+    }
+
+    /// The next word as the status of a check.
+    pub fn status(&mut self) -> Status {
+        let word = self.word();
+        self.status_of(word)
+    }
+
+    /// This word as the status of a check.
+    pub fn status_of(&mut self, word: &str) -> Status {
+        match word {
+            "passing" => Status::Passing,
+            "warning" => Status::Warning,
+            "critical" => Status::Critical,
+            _ => {
+                self.refuse();
+                Status::Critical
+            }
+        }
+    }
+
+    /// The next word as the texts that commas part, of which `-` is none at all.
+    pub fn texts(&mut self) -> Texts {
+        let mut texts = List::new(self.alloc);
+        let word = self.word();
+        if word != "-" {
+            self.put_parts(&mut texts, word);
+        }
+        texts
+    }
+
+    fn put_parts(&mut self, texts: &mut Texts, word: &str) {
+        for part in word.split(',') {
+            let text = self.text_of(part);
+            self.put(texts, text);
+        }
+    }
+
+    /// The list without items.
+    pub fn empty_list<T>(&self) -> List<T> {
+        List::new(self.alloc)
+    }
+
+    /// Puts an item that was read last.
+    pub fn put<T: Drop>(&mut self, items: &mut List<T>, item: T) {
+        let put = items.push(item);
+        self.note(put.is_ok());
+    }
+}
 
 // What the word says, of which `-` is the empty text.
 fn said(word: &str) -> &str {
     if word == "-" { "" } else { word }
-}
-
-/// A text, of which `-` is the empty one.
-pub fn text(alloc: Global, word: &str) -> Option<Text> {
-    Text::new(alloc, said(word)).ok()
-}
-
-/// The next word as a text.
-pub fn next_text(alloc: Global, words: &mut Words) -> Option<Text> {
-    text(alloc, words.next()?)
-}
-
-/// The status of a check.
-pub fn status(word: &str) -> Option<Status> {
-    match word {
-        "passing" => Some(Status::Passing),
-        "warning" => Some(Status::Warning),
-        "critical" => Some(Status::Critical),
-        _ => None,
-    }
-}
-
-/// The next word as the bytes of a value, of which `-` is none.
-pub fn next_bytes(alloc: Global, words: &mut Words) -> Option<Bytes> {
-    let word = words.next()?;
-    Bytes::new(alloc, said(word).as_bytes()).ok()
-}
-
-/// The next word as a number.
-pub fn next_number(words: &mut Words) -> Option<u64> {
-    words.next()?.parse().ok()
-}
-
-/// The next word as an identifier.
-pub fn next_id(words: &mut Words) -> Option<u128> {
-    words.next()?.parse().ok()
-}
-
-/// The next word as an identifier, of which `-` is none.
-pub fn next_option(words: &mut Words) -> Option<Option<u128>> {
-    let word = words.next()?;
-    if word == "-" {
-        return Some(None);
-    }
-    Some(Some(word.parse().ok()?))
-}
-
-/// The texts that commas part, of which `-` is none at all.
-pub fn next_texts(alloc: Global, words: &mut Words) -> Option<Texts> {
-    let mut texts = List::new(alloc);
-    let word = words.next()?;
-    if word != "-" {
-        push_parts(alloc, &mut texts, word)?;
-    }
-    Some(texts)
-}
-
-fn push_parts(alloc: Global, texts: &mut Texts, word: &str) -> Option<()> {
-    for part in word.split(',') {
-        push_text(alloc, texts, part)?;
-    }
-    Some(())
-}
-
-fn push_text(alloc: Global, texts: &mut Texts, part: &str) -> Option<()> {
-    let text = text(alloc, part)?;
-    texts.push(text).ok()
 }
