@@ -6,6 +6,7 @@ mod applied;
 mod bounds;
 mod bytes;
 mod command;
+mod comparisons;
 mod fired;
 mod kept;
 pub mod laws;
