@@ -10,6 +10,9 @@ use Rattle.cat_model.specs.contracts.command.NewCheckClone.TheImpl as check
 use Rattle.cat_model.specs.contracts.command.NewServiceClone.TheImpl as service
 use Rattle.cat_model.specs.contracts.text.TextClone.TheImpl as text
 use Rattle.cat_model.specs.contracts.bytes.BytesClone.TheImpl as bytes
+use Rattle.cat_model.specs.contracts.query.ChanClone.TheImpl as chan
+use Rattle.cat_model.specs.declared.query.Chan.{Chan}
+use Rattle.cat_model.specs.declared.query.Chan.TheVariants as c
 use Rattle.cat_model.specs.declared.command.Entry.{Entry}
 use Rattle.cat_model.specs.declared.command.TxnOp.{TxnOp}
 use Rattle.cat_model.specs.declared.command.NewCheck.{NewCheck}
@@ -117,3 +120,20 @@ pub entry_same : (x y : Entry) → (y.term ≡ x.term) × ((y.number ≡ x.numbe
 entry_same x y h =
     let term = h.0 in let number = h.1.0 in let command = h.1.1 in
     λ i. record { term = term i; number = number i; command = command i }
+
+-- a copy of a channel equals it
+pub chan_same : (x y : Chan) → (chan.ghosts).is_clone x y → y ≡ x
+chan_same c.Nodes c.Nodes h = refl
+chan_same c.Services c.Services h = refl
+chan_same c.Checks c.Checks h = refl
+chan_same c.Sessions c.Sessions h = refl
+chan_same c.Queries c.Queries h = refl
+chan_same (c.Service x) (c.Service y) h = ap (λ t. c.Service t) (text_same x y h)
+chan_same c.Vanished c.Vanished h = refl
+chan_same (c.Node x) (c.Node y) h = ap (λ t. c.Node t) (text_same x y h)
+chan_same (c.NodeChecks x) (c.NodeChecks y) h = ap (λ t. c.NodeChecks t) (text_same x y h)
+chan_same c.NodeGone c.NodeGone h = refl
+chan_same (c.Key x) (c.Key y) h = ap (λ t. c.Key t) (text_same x y h)
+chan_same (c.Prefix x) (c.Prefix y) h = ap (λ t. c.Prefix t) (text_same x y h)
+chan_same c.Reaped c.Reaped h = refl
+chan_same x y h = absurd h

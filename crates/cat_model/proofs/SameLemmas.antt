@@ -19,7 +19,7 @@ use Rattle.cat_model.specs.declared.row.Behavior.{Behavior}
 use Rattle.cat_model.specs.declared.row.Behavior.TheVariants.{Release, Delete}
 
 -- a test that finds equal things equal, and each thing equal to itself, decides equality
-decides_by : {A : Type 0} (same : A → A → Bool) → ((a b : A) → same a b ≡ true → a ≡ b) → ((a : A) → same a a ≡ true) → (a b : A) → Decides (same a b) (a ≡ b)
+pub decides_by : {A : Type 0} (same : A → A → Bool) → ((a b : A) → same a b ≡ true → a ≡ b) → ((a : A) → same a a ≡ true) → (a b : A) → Decides (same a b) (a ≡ b)
 decides_by same sound own a b = (sound a b, λ e. subst (λ x. same a x ≡ true) e (own a))
 
 pub text_decides : (a b : List ℕ) → Decides (same_text a b) (a ≡ b)

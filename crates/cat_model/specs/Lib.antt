@@ -22,3 +22,4 @@ pub mod Views
 pub mod Syncs
 pub mod Reach
 pub mod Bounds
+pub mod Taken

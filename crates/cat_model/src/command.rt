@@ -1,7 +1,7 @@
 use crate::{Behavior, Bytes, List, Shared, Status, Text, Texts};
 
 /// A service as a Register gives it.
-#[derive(Clone, Debug, Drop)]
+#[derive(Clone, Debug, PartialEq, Eq, Drop)]
 pub struct NewService {
     pub id: Text,
     pub name: Text,
@@ -12,7 +12,7 @@ pub struct NewService {
 }
 
 /// A check as a Register gives it.
-#[derive(Clone, Debug, Drop)]
+#[derive(Clone, Debug, PartialEq, Eq, Drop)]
 pub struct NewCheck {
     pub id: Text,
     pub name: Text,
@@ -41,7 +41,7 @@ pub enum Verb {
 }
 
 /// An operation of a transaction. `key` is the prefix where the verb is one of the two on trees.
-#[derive(Clone, Debug, Drop)]
+#[derive(Clone, Debug, PartialEq, Eq, Drop)]
 pub struct TxnOp {
     pub verb: Verb,
     pub key: Text,
@@ -52,7 +52,7 @@ pub struct TxnOp {
 }
 
 /// What an entry of the log does to the catalog.
-#[derive(Clone, Debug, Drop)]
+#[derive(Clone, Debug, PartialEq, Eq, Drop)]
 pub enum Command {
     /// Opens a leader's term.
     Noop,

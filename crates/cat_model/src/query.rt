@@ -3,7 +3,7 @@ use crate::{
 };
 
 /// What a read asks of the catalog.
-#[derive(Debug, Drop)]
+#[derive(Clone, Debug, PartialEq, Eq, Drop)]
 pub enum Query {
     Nodes,
     Services,
@@ -54,21 +54,21 @@ pub enum Query {
 }
 
 /// A check with the name of the service that it is of, which is empty for the node's own check.
-#[derive(Debug, Drop)]
+#[derive(Clone, Debug, PartialEq, Eq, Drop)]
 pub struct CheckView {
     pub row: CheckRow,
     pub service_name: Text,
 }
 
 /// A service's name with the tags of its instances.
-#[derive(Debug, Drop)]
+#[derive(Clone, Debug, PartialEq, Eq, Drop)]
 pub struct NameTags {
     pub name: Text,
     pub tags: Texts,
 }
 
 /// An instance of a service on its node, with the node's own checks and the instance's.
-#[derive(Debug, Drop)]
+#[derive(Clone, Debug, PartialEq, Eq, Drop)]
 pub struct Instance {
     pub node: NodeRow,
     pub service: ServiceRow,
@@ -76,7 +76,7 @@ pub struct Instance {
 }
 
 /// The catalog's answer to a query.
-#[derive(Debug, Drop)]
+#[derive(Clone, Debug, PartialEq, Eq, Drop)]
 pub enum Answer {
     Nodes(List<NodeRow>),
     Services(List<NameTags>),
@@ -100,7 +100,7 @@ pub struct Ran {
 }
 
 /// What a change of the catalog fires, and what a waiting query hangs on.
-#[derive(Debug, Drop)]
+#[derive(Clone, Debug, PartialEq, Eq, Drop)]
 pub enum Chan {
     Nodes,
     Services,

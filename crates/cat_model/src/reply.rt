@@ -28,7 +28,7 @@ pub struct Held {
 }
 
 /// Why a request is refused.
-#[derive(Clone, Debug, Drop)]
+#[derive(Clone, Debug, PartialEq, Eq, Drop)]
 pub enum Refusal {
     /// A field of the request is wrong.
     Invalid {

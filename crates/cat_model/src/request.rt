@@ -12,7 +12,7 @@ pub enum Mode {
 }
 
 /// A service as an agent's client gives it.
-#[derive(Debug, Drop)]
+#[derive(Debug, PartialEq, Eq, Drop)]
 pub struct ServiceDef {
     pub id: Text,
     pub name: Text,
@@ -23,7 +23,7 @@ pub struct ServiceDef {
 }
 
 /// A check with a TTL, in milliseconds, as an agent's client gives it.
-#[derive(Debug, Drop)]
+#[derive(Debug, PartialEq, Eq, Drop)]
 pub struct TtlDef {
     pub id: Text,
     pub name: Text,
@@ -34,7 +34,7 @@ pub struct TtlDef {
 }
 
 /// What an agent is asked to do with its own rows.
-#[derive(Debug, Drop)]
+#[derive(Debug, PartialEq, Eq, Drop)]
 pub enum AgentOp {
     Services,
     Checks,
@@ -59,7 +59,7 @@ pub enum AgentOp {
 }
 
 /// A request as HTTP means it.
-#[derive(Debug, Drop)]
+#[derive(Debug, PartialEq, Eq, Drop)]
 pub enum Request {
     /// Answers once the query's index is above `min`, or `wait_ms` are over. A wait of 0 is five minutes, and the
     /// longest is ten. `raw` asks for a key's value alone.
@@ -87,7 +87,7 @@ pub enum Request {
 }
 
 /// A request, or the refusal of what is none.
-#[derive(Debug, Drop)]
+#[derive(Debug, PartialEq, Eq, Drop)]
 pub enum Asked {
     Good(Request),
     Bad(Refusal),

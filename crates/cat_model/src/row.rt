@@ -17,7 +17,7 @@ pub enum Behavior {
 
 /// A node by its name. As in every row, `create` and `modify` are the positions of the log at which the row was
 /// made and last written.
-#[derive(Clone, Debug, Drop)]
+#[derive(Clone, Debug, PartialEq, Eq, Drop)]
 pub struct NodeRow {
     pub node: Text,
     pub address: Text,
@@ -26,7 +26,7 @@ pub struct NodeRow {
 }
 
 /// An instance of a service, by its node and its ID there.
-#[derive(Clone, Debug, Drop)]
+#[derive(Clone, Debug, PartialEq, Eq, Drop)]
 pub struct ServiceRow {
     pub node: Text,
     pub id: Text,
@@ -41,7 +41,7 @@ pub struct ServiceRow {
 
 /// A check by its node and its ID there. `service` is the ID of the instance that it is of, or empty for the
 /// node's own check.
-#[derive(Clone, Debug, Drop)]
+#[derive(Clone, Debug, PartialEq, Eq, Drop)]
 pub struct CheckRow {
     pub node: Text,
     pub id: Text,
@@ -55,7 +55,7 @@ pub struct CheckRow {
 }
 
 /// A key with its value. `session` holds its lock, and `lock_index` counts the acquisitions of it.
-#[derive(Clone, Debug, Drop)]
+#[derive(Clone, Debug, PartialEq, Eq, Drop)]
 pub struct KvRow {
     pub key: Text,
     pub value: Bytes,
@@ -67,7 +67,7 @@ pub struct KvRow {
 }
 
 /// A session by its identifier. `delay_ms` is the lock delay of its keys, and a `ttl_ms` of 0 is no TTL.
-#[derive(Clone, Debug, Drop)]
+#[derive(Clone, Debug, PartialEq, Eq, Drop)]
 pub struct SessionRow {
     pub id: u128,
     pub name: Text,
@@ -81,7 +81,7 @@ pub struct SessionRow {
 }
 
 /// A prepared query by its identifier. A tag `!t` in `tags` asks that `t` be absent.
-#[derive(Clone, Debug, Drop)]
+#[derive(Clone, Debug, PartialEq, Eq, Drop)]
 pub struct QueryRow {
     pub id: u128,
     pub name: Text,

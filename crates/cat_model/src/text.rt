@@ -39,13 +39,6 @@ impl Text {
     {
         self.string.as_str()
     }
-
-    /// The string of this text, which takes no memory.
-    pub fn into_string(self) -> String
-        ensures { string_bytes result ≡ self }
-    {
-        self.string
-    }
 }
 
 impl From<String> for Text {

@@ -8,7 +8,6 @@ use Rattle.cat_model.specs.Executions.{execution}
 use Rattle.cat_model.specs.Indexes.{has_name, has_node, index_of}
 use Rattle.cat_model.specs.Channels.{chans}
 use Rattle.cat_model.specs.Views.{Kept, ViewLaw, kept_index, name_index, host_index, position_of, health_position}
-use Rattle.cat_model.specs.declared.query.Answer.{Answer}
 use Rattle.cat_model.specs.declared.query.Query.{Query}
 use Rattle.cat_model.specs.declared.query.Query.TheVariants as q
 use Rattle.cat_model.specs.declared.command.Command.{Command}
@@ -76,9 +75,3 @@ stands_chans kept log query h = chans_at (catalog_at log).version kept.rows quer
 
 pub stands_execution : (kept : Kept) (log : List Command) (id : Option ℕ) (name : List ℕ) (limit : ℕ) → Stands kept log → execution kept.rows id name limit ≡ execution (catalog_at log) id name limit
 stands_execution kept log id name limit h = execution_at (catalog_at log).version kept.rows id name limit ∙ ap (λ k. execution k id name limit) h.keeps.rows
-
-abbrev both : Answer → ℕ → Answer × ℕ
-both a i = (a, i)
-
-pub stands_value : (kept : Kept) (log : List Command) (query : Query) → Stands kept log → both (answer query kept.rows) (view_index query kept) ≡ both (answer query (catalog_at log)) (index_of query log)
-stands_value kept log query h = λ i. (stands_answer kept log query h i, stands_index kept log query h i)

@@ -14,7 +14,6 @@ pub mod laws;
 mod names;
 mod nodes;
 mod queries;
-mod reads;
 mod sessions;
 mod view;
 

@@ -20,7 +20,7 @@ use Rattle.cat_model.specs.declared.reply.Refusal.TheVariants as refusal
 use Rattle.raft_model.specs.Log.{Log, last_term}
 use Rattle.raft_model.specs.Node.{set_server}
 use Rattle.raft_model.specs.World.{World}
-use Rattle.request_rules.specs.Taken.{IsTakenAsked}
+use Rattle.cat_model.specs.Taken.{IsTakenAsked}
 use Rattle.cluster_rules.specs.Cluster.{Cluster, ForIndex, Looked, Pending, Server, Stand, Start, applied_of, clock_of, node_of, server_of, until_at, with_office}
 use Rattle.cluster_rules.specs.Due.{answered}
 use Rattle.cluster_rules.specs.Replies.{Content, Defers, Question, Renews, Says, shown, shown_delay, shown_seen}

@@ -23,7 +23,7 @@ use Rattle.raft_model.specs.World.{World, Acts as NodeActs}
 use Rattle.raft_node.specs.declared.fault.ProposeFault.{ProposeFault}
 use Rattle.raft_node.specs.declared.fault.ProposeFault.TheVariants as fault
 use Rattle.raft_world.specs.Steps.{KeepsAgreement, Proposes}
-use Rattle.request_rules.specs.Taken.{IsTakenAsked, is_command_taken}
+use Rattle.cat_model.specs.Taken.{IsTakenAsked, is_command_taken}
 use Rattle.cluster_rules.specs.Cluster.{AtPlace, Cluster, Pending, Proposed, Server, node_of, runs_leading, server_of}
 use Rattle.cluster_rules.specs.Lasting.{IsWrite}
 use Rattle.cluster_rules.specs.Replies.{Question, Says, entered}

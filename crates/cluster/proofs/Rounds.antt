@@ -10,7 +10,7 @@ use Rattle.raft_model.specs.Rules.{Probe}
 use Rattle.raft_model.specs.World.{World, Acts as NodeActs, IsServer}
 use Rattle.raft_node.specs.declared.fault.ProbeFault.{ProbeFault}
 use Rattle.raft_world.specs.Steps.{Begun, KeepsAgreement}
-use Rattle.request_rules.specs.Taken.{IsTakenAsked}
+use Rattle.cat_model.specs.Taken.{IsTakenAsked}
 use Rattle.cluster_rules.specs.Cluster.{Cluster, InRound, Pending, Probed, Server, node_of}
 use Rattle.cluster_rules.specs.Replies.{Question}
 use Rattle.cluster_rules.specs.Requests.{holding, is_ready, is_stale_read, moved, probes}

@@ -3,7 +3,7 @@ use Rattle.std.proofs.Common.{◌≡◌, ℕ, true, false, List, Some, refl}
 use Rattle.cat_model.specs.declared.command.Command.{Command}
 use Rattle.cat_model.specs.declared.command.Command.TheVariants.{Noop, KvLock, Txn, QuerySet}
 use Rattle.cat_model.specs.LogLimits.{is_noop}
-use Rattle.request_rules.specs.Taken.{is_command_taken}
+use Rattle.cat_model.specs.Taken.{is_command_taken}
 use Rattle.office_rules.specs.Locks.{delayed}
 use Rattle.cluster_rules.specs.Replies.{Question, entered}
 

@@ -6,7 +6,7 @@ ghost use Rattle.cat_model.specs.declared.request.Asked.TheVariants.{Good};
 ghost use Rattle.cat_model.specs.declared.request.Mode.{Mode as SpecMode};
 ghost use Rattle.cat_model.specs.declared.request.Mode.TheVariants as modes;
 ghost use Rattle.cat_model.specs.declared.request.Request.TheVariants.{Write as Writes};
-ghost use Rattle.request_rules.specs.Taken.{IsTakenAsked};
+ghost use Rattle.cat_model.specs.Taken.{IsTakenAsked};
 ghost use Rattle.cluster_rules.specs.Cluster.{runs_leading};
 ghost use Rattle.cluster_rules.specs.Reached.{IsServerNumber};
 ghost use Rattle.cluster_rules.specs.Requests.{delayed_at, is_ready, is_stale_read, look_of};

@@ -3,7 +3,7 @@
 ghost use Rattle.std.specs.Prelude.{◌≡◌, OnErr, OnOk};
 ghost use Rattle.cat_model.specs.declared.request.Event.{Event as SpecEvent};
 ghost use Rattle.cat_model.specs.declared.request.Event.TheVariants as event;
-ghost use Rattle.request_rules.specs.Taken.{IsTakenAsked};
+ghost use Rattle.cat_model.specs.Taken.{IsTakenAsked};
 ghost use Rattle.cluster_rules.specs.Cluster.{Cluster as SpecCluster};
 ghost use Rattle.cluster_rules.specs.Step.{noted};
 

@@ -10,7 +10,7 @@ use std::ops::Deref;
 use std::sync::ledger::Ledger;
 
 impl<K: Keeper + Drop> Parts for Cluster<K> {
-    ghost use Rattle.request_rules.specs.Taken.{IsTakenAsked};
+    ghost use Rattle.cat_model.specs.Taken.{IsTakenAsked};
 
     ghost state = { λ c. c };
 

@@ -3,7 +3,7 @@
 ghost use Rattle.std.specs.Prelude.{◌≡◌, ◌<◌, ◌^◌, IfErr, IfOk, None, OnErr, OnOk, Some, length, true};
 ghost use Rattle.cat_model.specs.declared.row.ServiceRow.{ServiceRow as SpecServiceRow};
 ghost use Rattle.cat_model.specs.Syncs.{merged, plan};
-ghost use Rattle.request_rules.specs.Taken.{IsTakenAsked};
+ghost use Rattle.cat_model.specs.Taken.{IsTakenAsked};
 ghost use Rattle.cluster_rules.specs.Cluster.{Cluster as SpecCluster, agent_of, runs_leading};
 ghost use Rattle.cluster_rules.specs.Proposals.{is_agents, remote_at, synced, with_agent};
 ghost use Rattle.cluster_rules.specs.Reached.{Fits, IsAgentNumber, IsServerNumber};

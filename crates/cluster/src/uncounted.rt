@@ -7,7 +7,7 @@ ghost use Rattle.cluster_rules.specs.Step.{ClusterStep};
 ghost use Rattle.cluster_turns.specs.Pairs.{IsPartlySettled, IsSettled};
 ghost use Rattle.cluster_turns.specs.Turns.{FindsNoMemory, IsTaken};
 ghost use Rattle.script_runs.specs.Lines.{misfit};
-ghost use Rattle.request_rules.specs.Taken.{IsTakenAsked};
+ghost use Rattle.cat_model.specs.Taken.{IsTakenAsked};
 
 use crate::cluster::Cluster;
 use cat_model::{Asked, Draw, Event, Memory, Shared, Steps};

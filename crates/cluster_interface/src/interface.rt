@@ -7,7 +7,7 @@ ghost use Rattle.cluster_turns.specs.Pairs.{IsPartlySettled};
 ghost use Rattle.cluster_turns.specs.Turns.{FindsNoMemory};
 ghost use Rattle.script_runs.specs.Lines.{misfit};
 ghost use Rattle.script_runs.specs.Holds.{IsFirstStart};
-ghost use Rattle.request_rules.specs.Taken.{IsTakenAsked};
+ghost use Rattle.cat_model.specs.Taken.{IsTakenAsked};
 ghost use Rattle.cluster_interface.specs.Interface.{IsPlayed, SettlesTo, TakesFirst, held_numbers};
 ghost use Rattle.cat_outside.specs.KeepersInMemory.{empty_store};
 ghost use Rattle.cluster_interface.specs.Taking.{Collects, DropsSyncs};

@@ -31,7 +31,7 @@ use Rattle.cluster_rules.proofs.Steps.{or_left, or_right}
 use Rattle.cat_model.specs.declared.request.Asked.{Asked}
 use Rattle.cat_model.specs.declared.request.Asked.TheVariants.{Good, Bad}
 use Rattle.cat_model.specs.declared.request.Request.TheVariants.{Read, Execute, Write, Renew, Agent as AsksAgent}
-use Rattle.request_rules.specs.Taken.{IsTakenAsked}
+use Rattle.cat_model.specs.Taken.{IsTakenAsked}
 use Rattle.cluster_parts.specs.Working.{DidWork, IsWork, closed, whole}
 use Rattle.cluster_parts.specs.Watching.{MayBeDue, Watching}
 

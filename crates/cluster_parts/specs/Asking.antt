@@ -16,7 +16,7 @@ use Rattle.raft_model.specs.declared.message.Round.{Round}
 use Rattle.raft_node.specs.declared.fault.ProbeFault.{ProbeFault}
 use Rattle.raft_node.specs.declared.fault.ProposeFault.{ProposeFault}
 use Rattle.raft_node.specs.declared.fault.ProposeFault.TheVariants as fault
-use Rattle.request_rules.specs.Taken.{IsTakenAsked}
+use Rattle.cat_model.specs.Taken.{IsTakenAsked}
 use Rattle.cluster_rules.specs.Replies.{Says, entered}
 use Rattle.cluster_rules.specs.Cluster.{Cluster, AtPlace, InRound, Proposed, Probed, clock_of, node_of}
 use Rattle.cluster_rules.specs.Requests.{look_of, wait_of}

@@ -13,7 +13,7 @@ use Rattle.raft_model.specs.Facts.{IsPlaced}
 use Rattle.raft_model.specs.Log.{Log}
 use Rattle.raft_model.specs.World.{World, IsReached}
 use Rattle.cluster_parts.specs.Watching.{Watching, IsInLine, MayBeDue, Sleeps}
-use Rattle.request_rules.specs.Taken.{IsTakenAsked}
+use Rattle.cat_model.specs.Taken.{IsTakenAsked}
 use Rattle.cluster_rules.specs.Cluster.{Stand, AtPlace, ForIndex, Pending, Server, node_of, server_of}
 use Rattle.cluster_rules.specs.Lasting.{IsWrite}
 use Rattle.cluster_rules.specs.Replies.{Question, entered}

@@ -4,7 +4,7 @@ ghost use Rattle.std.specs.Prelude.{◌≡◌, ◌≢◌, ◌≤◌, None, Some,
 ghost use Rattle.std.specs.List.{AllByRecursion as Each};
 ghost use Rattle.cat_model.specs.declared.reply.Kind.TheVariants as kinds;
 ghost use Rattle.raft_world.specs.Steps.{IsNumber};
-ghost use Rattle.request_rules.specs.Taken.{IsTakenAsked};
+ghost use Rattle.cat_model.specs.Taken.{IsTakenAsked};
 ghost use Rattle.cluster_rules.specs.Cluster.{AtPlace, node_of, server_of};
 ghost use Rattle.cluster_rules.specs.Due.{Replies, due, early_stand, early_work, landed};
 ghost use Rattle.cluster_rules.specs.Sound.{ServerIsSound};

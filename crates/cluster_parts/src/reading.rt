@@ -10,7 +10,7 @@ ghost use Rattle.cat_model.specs.Machine.{catalog_at};
 ghost use Rattle.cat_model.specs.Queries.{answer};
 ghost use Rattle.raft_model.specs.Log.{Log};
 ghost use Rattle.raft_world.specs.Steps.{IsNumber};
-ghost use Rattle.request_rules.specs.Taken.{IsTakenAsked};
+ghost use Rattle.cat_model.specs.Taken.{IsTakenAsked};
 ghost use Rattle.cluster_rules.specs.Cluster.{clock_of};
 ghost use Rattle.cluster_rules.specs.Due.{Replies, asks, asks_read, waiting};
 ghost use Rattle.cluster_rules.specs.Replies.{shown_read};

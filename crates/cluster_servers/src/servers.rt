@@ -106,14 +106,6 @@ impl<K: Keeper> Servers<K> {
         self.replica(s).length()
     }
 
-    /// A server's clock at each position that it has applied, in milliseconds, the first one first.
-    pub fn clocks(&self, s: u32) -> &[u64]
-        requires { IsNumber s self.now.world }
-        ensures { result.now ≡ (server_of self.now.servers s).clocks }
-    {
-        self.replica(s).clocks()
-    }
-
     /// More is committed at a server than it has applied.
     pub fn has_next(&self, s: u32) -> bool
         requires { IsNumber s self.now.world }

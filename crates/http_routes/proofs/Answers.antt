@@ -6,7 +6,7 @@ use Rattle.cat_model.specs.declared.request.Request.TheVariants.{Write}
 use Rattle.json_bodies.specs.declared.error.ReadError.{ReadError}
 use Rattle.http_routes.specs.declared.error.RouteError.{RouteError}
 use Rattle.http_routes.specs.Errors.{◌>>=◌, in_body}
-use Rattle.request_rules.specs.Taken.{is_command_taken, is_taken}
+use Rattle.cat_model.specs.Taken.{is_command_taken, is_taken}
 
 -- the request, if there is one, is taken
 abbrev pub IsFit : Result Request RouteError → Type 0

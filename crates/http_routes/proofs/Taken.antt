@@ -46,7 +46,7 @@ use Rattle.http_routes.specs.Agents.{listing, service_register, service_deregist
 use Rattle.http_routes.specs.Routes as routes
 use Rattle.http_routes.specs.Routes.{methods, of_path, request_of, asked_of, route_of}
 use Rattle.http_routes.specs.Paths.{found}
-use Rattle.request_rules.specs.Taken.{is_command_taken, IsTakenAsked}
+use Rattle.cat_model.specs.Taken.{is_command_taken, IsTakenAsked}
 use Rattle.http_routes.proofs.Answers.{IsFit, after, after_command}
 use Rattle.http_routes.proofs.Bodies.{IsShort, register_fit, deregister_fit, few}
 use Rattle.http_routes.proofs.MethodAnswers.{AsksFit, MethodsFit, get_fits, put_fits, get_post_fits, delete_get_put_fits}

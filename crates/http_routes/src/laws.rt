@@ -2,7 +2,7 @@
 
 ghost use Rattle.std.specs.Prelude.{ℕ, List};
 ghost use Rattle.http_routes.specs.Routes.{route_of};
-ghost use Rattle.request_rules.specs.Taken.{IsTakenAsked};
+ghost use Rattle.cat_model.specs.Taken.{IsTakenAsked};
 
 /// What a method, a target and a body ask for is taken: no target and no body can ask for what servers enter themselves,
 /// nor for a transaction of more than 64 operations.

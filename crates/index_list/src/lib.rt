@@ -5,11 +5,9 @@
 mod chain;
 mod family;
 mod lists;
-mod memory;
 mod nodes;
 mod walk;
 
 pub use family::Family;
-pub use memory::Memory;
 pub use nodes::{IndexList, LinkFault};
 pub use walk::Walk;

@@ -9,7 +9,6 @@ ghost use Rattle.index_list.specs.declared.nodes.LinkFault.TheVariants as faults
 
 use crate::family::Family;
 use crate::lists::Lists;
-use crate::memory::Memory;
 use std::alloc::{AllocError, Global};
 use std::marker::Model;
 use thiserror::Error;

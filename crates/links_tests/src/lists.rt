@@ -3,7 +3,8 @@
 ghost use Rattle.std.specs.Prelude.{◌≡◌, ◌<◌, length, IfOk};
 ghost use Rattle.index_list.specs.Nodes.{family_of};
 
-use index_list::{Family, IndexList, LinkFault, Memory};
+use cat_model::Memory;
+use index_list::{Family, IndexList, LinkFault};
 use std::alloc::Global;
 use std::test::Fail;
 

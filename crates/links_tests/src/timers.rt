@@ -2,7 +2,8 @@
 
 use std::alloc::Global;
 use std::test::Fail;
-use timer_wheel::{Memory, TimerWheel};
+use cat_model::Memory;
+use timer_wheel::TimerWheel;
 
 /// How many timers a wheel can have.
 const MOST: usize = 1_048_576;

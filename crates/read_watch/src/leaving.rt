@@ -52,8 +52,6 @@ pub fn take_due(alloc: Global, timers: &mut TimerWheel, clock: u64) -> Result<Li
     ensures left { OnOk result (timers.new ≡ filter (λ t. not (nat_le t.1 clock)) timers.old) }
     ensures numbers { AreNumbers timers.new }
 {
-    match timers.due(alloc, clock) {
-        Ok(keys) => numbers_of(alloc, keys.as_slice()),
-        Err(_) => Err(Memory),
-    }
+    let keys = timers.due(alloc, clock)?;
+    numbers_of(alloc, keys.as_slice())
 }

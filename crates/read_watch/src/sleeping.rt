@@ -40,10 +40,8 @@ impl SleepingReads {
         ensures { IfOk result (λ s. s ≡ no_sleeper) }
     {
         let registry = WatchRegistry::new(alloc)?;
-        match TimerWheel::new(alloc) {
-            Ok(timers) => Ok(SleepingReads { registry, timers }),
-            Err(_) => Err(Memory),
-        }
+        let timers = TimerWheel::new(alloc)?;
+        Ok(SleepingReads { registry, timers })
     }
 
     /// One of those that sleep.

@@ -95,13 +95,6 @@ impl Replica {
         self.store.length()
     }
 
-    /// The server's clock at each position, in milliseconds, the first one first.
-    pub fn clocks(&self) -> &[u64]
-        ensures { result.now ≡ self.now.clocks }
-    {
-        self.clocks.as_slice()
-    }
-
     /// The catalog's answer to the last command.
     pub fn last_reply(&self) -> Option<&Applied>
         ensures { option_copied result ≡ last_reply self.now.commands }

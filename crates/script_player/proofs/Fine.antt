@@ -21,7 +21,7 @@ use Rattle.script_lang.specs.Numbers.{number_in, is_number, is_within, is_filled
 use Rattle.script_lang.specs.Requests.{asked_of, body_of, is_token}
 use Rattle.http_routes.specs.Routes.{route_of}
 use Rattle.http_routes.proofs.Taken.{route_is_taken}
-use Rattle.request_rules.specs.Taken.{IsTakenAsked}
+use Rattle.cat_model.specs.Taken.{IsTakenAsked}
 use Rattle.script_lang.specs.Words.{words_of, is_nothing, rest_of}
 use Rattle.script_lang.specs.Lines.{form_of, opening, asking, said, formed, worded, line_of, servers, agents, any32, any64, tick_ms, messages, calls}
 use Rattle.script_lang.specs.Text.{reason_text}

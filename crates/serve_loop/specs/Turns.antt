@@ -1,7 +1,7 @@
 -- What a turn does.
 use Rattle.std.specs.Prelude.{◌≡◌, ℕ, ◌+◌, ◌-◌, ◌<◌, min, List, Option, Some, None}
 use Rattle.cat_model.specs.declared.reply.Mark.{Mark}
-use Rattle.request_rules.specs.Taken.{IsTakenAsked}
+use Rattle.cat_model.specs.Taken.{IsTakenAsked}
 use Rattle.cluster_rules.specs.Replies.{Reply}
 use Rattle.serve_loop.specs.declared.cluster.Ask.{Ask}
 use Rattle.serve_loop.specs.declared.served.Turned.{Turned}

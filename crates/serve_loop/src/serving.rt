@@ -5,7 +5,7 @@ ghost use Rattle.cat_model.specs.declared.reply.Mark.{Mark};
 ghost use Rattle.turn_lock.specs.declared.knowledge.Knowledge.{Knowledge};
 ghost use Rattle.std.specs.Arc.{arc_value};
 ghost use Rattle.cat_model.specs.declared.request.Asked.TheVariants.{Good};
-ghost use Rattle.request_rules.specs.Taken.{IsTakenAsked};
+ghost use Rattle.cat_model.specs.Taken.{IsTakenAsked};
 ghost use Rattle.http_wire.specs.Reader.{raw};
 ghost use Rattle.http_wire.specs.Stream.{go_on, whole};
 ghost use Rattle.serve_loop.specs.Boards.{IsOurs, known};

@@ -81,7 +81,7 @@ fn is_at(entry: &Standing, node: &str, check: &str) -> bool
 }
 
 /// The identifiers of the node's sessions that stand on the check.
-pub(crate) fn ids_on(
+fn ids_on(
     alloc: Global,
     rows: &RowTable<SessionRow>,
     places: &RowTable<Standing>,

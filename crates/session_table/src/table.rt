@@ -1,12 +1,12 @@
-ghost use Rattle.std.specs.Prelude.{◌≡◌, [], None, IfOk, OnErr, OnOk, filter, is_some, map};
+ghost use Rattle.std.specs.Prelude.{◌≡◌, [], None, IfOk, OnErr, OnOk, filter, is_some};
 ghost use Rattle.std.specs.Option.{option_copied};
 ghost use Rattle.std.specs.Ordering.{is_eq, nat_cmp};
 ghost use Rattle.cat_model.specs.Catalog.{session_at, session_key};
 ghost use Rattle.cat_model.specs.Tables.{put, without, Ascends};
-ghost use Rattle.session_table.specs.Nodes.{is_of_node, is_on, is_on_some};
+ghost use Rattle.session_table.specs.Nodes.{is_of_node, is_on_some};
 
 use crate::places::Standing;
-use crate::rows::{add, ids_on, remove, rows_on, rows_on_some};
+use crate::rows::{add, remove, rows_on, rows_on_some};
 use cat_model::{List, Memory, SessionRow, Text};
 use row_table::{ById, RowTable, Rows};
 use std::alloc::Global;
@@ -71,13 +71,6 @@ impl SessionTable {
     {
         self.rows.in_order();
         self.rows.get(&ById(id))
-    }
-
-    /// The identifiers of the node's sessions that stand on the check, or of all of them where the check is empty.
-    pub fn broken_by(&self, alloc: Global, node: &str, check: &str) -> Result<Vec<u128>, Memory>
-        ensures { IfOk result (λ v. v.items ≡ map session_key (filter (is_on node.now check.now) self.now.now)) }
-    {
-        ids_on(alloc, &self.rows, &self.places, node, check)
     }
 
     /// The rows one after another, in the order of their identifiers.

@@ -10,7 +10,8 @@ ghost use Rattle.timer_wheel.specs.Kept.{Kept, timed};
 
 use crate::place::{Places, SLOTS};
 use crate::slots::Keys;
-use index_list::{Family, Memory};
+use cat_model::Memory;
+use index_list::Family;
 use std::alloc::Global;
 use std::collections::BTreeSet;
 

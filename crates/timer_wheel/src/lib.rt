@@ -7,5 +7,4 @@ mod place;
 mod slots;
 mod wheel;
 
-pub use index_list::Memory;
 pub use wheel::TimerWheel;

@@ -9,7 +9,8 @@ ghost use Rattle.timer_wheel.specs.Finds.{is_off};
 ghost use Rattle.timer_wheel.specs.Kept.{Kept, timed};
 
 use crate::place::{Place, Places, SLOTS};
-use index_list::{Family, IndexList, LinkFault, Memory};
+use cat_model::Memory;
+use index_list::{Family, IndexList, LinkFault};
 use std::alloc::Global;
 
 /// The keys of the timers: each on the list of its slot in the first family, and all on one list in the second.

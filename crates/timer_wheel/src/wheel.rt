@@ -9,7 +9,7 @@ ghost use Rattle.timer_wheel.specs.Dues.{AreDue};
 use crate::due::{find_due, keys_of};
 use crate::place::Places;
 use crate::slots::{Keys, empty_slots, set_timer, unset_timer, unset_timers};
-use index_list::Memory;
+use cat_model::Memory;
 use std::alloc::Global;
 use std::collections::BTreeMap;
 use std::marker::Model;

@@ -3,7 +3,6 @@
 #![tactic(auto)]
 
 mod bucket;
-mod copy;
 mod hit;
 mod reach;
 mod registry;

@@ -7,9 +7,9 @@ ghost use Rattle.std.specs.Map.{lookup, remove_entry};
 ghost use Rattle.std.specs.Ordering.{nat_cmp};
 ghost use Rattle.cat_model.specs.Reach.{is_on};
 
-use crate::copy::copied;
 use crate::hit::find_hit;
 use crate::waiting::{Index, Waiters, empty_lists, hold, release, release_all};
+use cat_model::lists::copied;
 use cat_model::{Chan, List, Memory};
 use std::alloc::Global;
 use std::collections::{BTreeMap, BTreeSet};
@@ -48,13 +48,10 @@ impl WatchRegistry {
     pub fn new(alloc: Global) -> Result<WatchRegistry, Memory>
         ensures { IfOk result (λ r. r ≡ []) }
     {
-        match empty_lists(alloc) {
-            Ok(list) => Ok(WatchRegistry {
-                list,
-                waiters: BTreeMap::new(alloc),
-            }),
-            Err(_) => Err(Memory),
-        }
+        Ok(WatchRegistry {
+            list: empty_lists(alloc)?,
+            waiters: BTreeMap::new(alloc),
+        })
     }
 
     /// How many waiters there are.
@@ -84,6 +81,7 @@ impl WatchRegistry {
     }
 
     /// Adds a new waiter on its channels.
+    #[tactic(auto, using(cat_model::proofs::Clones::chan_same))]
     pub fn register(&mut self, alloc: Global, waiter: u64, chans: &List<Chan>) -> Result<(), Memory>
         requires fresh { lookup (is_at (nat_cmp waiter)) self.old ≡ None }
         requires few { length self.old < 4096 }

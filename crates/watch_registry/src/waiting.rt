@@ -26,7 +26,7 @@ pub struct Waiting {
 pub type Waiters = BTreeMap<u64, Waiting>;
 
 /// An empty list in each family for each channel, and one for no channel.
-pub fn empty_lists(alloc: Global) -> Result<Index, index_list::Memory>
+pub fn empty_lists(alloc: Global) -> Result<Index, Memory>
     ensures first { IfOk result (λ l. length l.first ≡ 65537) }
     ensures second { IfOk result (λ l. length l.second ≡ 65537) }
     ensures items { IfOk result (λ l. l.items ≡ []) }
