@@ -29,9 +29,9 @@ impl<K: Keeper + Drop> Cluster<K> {
         requires some { 0 < length keepers }
         requires few { length keepers < 2 ^ 32 }
         requires limits { All (λ k. ForSome (K.held k) KeepsLimits) keepers }
-        requires kept { MayBegin (map (λ k. stored (K.held k) (K.armed k) (K.faults k)) keepers) }
-        ensures begun { (count : ℕ) → agents ≡ replicate count new_agent → IfOk result (HasBegun (map (λ k. stored (K.held k) (K.armed k) (K.faults k)) keepers) count) }
-        ensures back { IfErr result (λ why. AreGivenBack why.1 (map (λ k. stored (K.held k) (K.armed k) (K.faults k)) keepers) (map (λ k. stored (K.held k) (K.armed k) (K.faults k)) why.0)) }
+        requires kept { MayBegin (map (λ k. stored (K.held k) (K.armed k) (K.faults k) (K.sure k)) keepers) }
+        ensures begun { (count : ℕ) → agents ≡ replicate count new_agent → IfOk result (HasBegun (map (λ k. stored (K.held k) (K.armed k) (K.faults k) (K.sure k)) keepers) count) }
+        ensures back { IfErr result (λ why. AreGivenBack why.1 (map (λ k. stored (K.held k) (K.armed k) (K.faults k) (K.sure k)) keepers) (map (λ k. stored (K.held k) (K.armed k) (K.faults k) (K.sure k)) why.0)) }
     {
         match Servers::new(alloc, keepers) {
             Ok(servers) => Ok(Cluster {
@@ -59,9 +59,9 @@ impl<K: Keeper + Drop> Cluster<K> {
         requires few { length keepers < 2 ^ 32 }
         requires agents { agents ≤ 64 }
         requires limits { All (λ k. ForSome (K.held k) KeepsLimits) keepers }
-        requires kept { MayBegin (map (λ k. stored (K.held k) (K.armed k) (K.faults k)) keepers) }
-        ensures begun { IfOk result (HasBegun (map (λ k. stored (K.held k) (K.armed k) (K.faults k)) keepers) agents) }
-        ensures back { IfErr result (λ why. AreGivenBack why.1 (map (λ k. stored (K.held k) (K.armed k) (K.faults k)) keepers) (map (λ k. stored (K.held k) (K.armed k) (K.faults k)) why.0)) }
+        requires kept { MayBegin (map (λ k. stored (K.held k) (K.armed k) (K.faults k) (K.sure k)) keepers) }
+        ensures begun { IfOk result (HasBegun (map (λ k. stored (K.held k) (K.armed k) (K.faults k) (K.sure k)) keepers) agents) }
+        ensures back { IfErr result (λ why. AreGivenBack why.1 (map (λ k. stored (K.held k) (K.armed k) (K.faults k) (K.sure k)) keepers) (map (λ k. stored (K.held k) (K.armed k) (K.faults k) (K.sure k)) why.0)) }
     {
         match Agents::new(alloc, agents) {
             Ok(agents) => match Watching::new(alloc, keepers.len() as u32) {

@@ -263,7 +263,7 @@ abbrev pub restarted_world : World → ℕ → World
 restarted_world w i = record w { nodes = set_server w.nodes i (restarted (server w i) (server w i).store (kept_of (server w i))); contacts = set_server w.contacts i None }
 
 reads_same : (n : Node) → IsPlain n → RestartWorks n (restarted n n.store (kept_of n))
-reads_same n (told, free) = (kept_of n, record { unarmed = λ e. absurd (omega arith); armed = omega arith; faults = omega arith; contents = told ∙ sym (ap (changed as_before) told) }, inr told, refl)
+reads_same n (told, free) = (kept_of n, record { unarmed = λ e. absurd (omega arith); armed = omega arith; faults = omega arith; contents = told ∙ sym (ap (changed as_before) told); sure = refl }, inr told, refl)
 
 abbrev pub begun : Cluster → ℕ → Cluster
 begun c i = begun_anew i (moved_with (node_of (restarted_world c.world i) i).halted i (restarted_world c.world i) (marked (event.Restart i) c))

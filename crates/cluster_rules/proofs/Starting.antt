@@ -17,7 +17,7 @@ unarmed_stores (suc n) = (refl, unarmed_stores n)
 fresh_starts : (servers id n : ℕ) → StartAll servers id (replicate n empty_store) (fresh_nodes servers id n)
 fresh_starts servers id zero = tt
 fresh_starts servers id (suc n) =
-    ((nothing_kept, record { unarmed = λ q. absurd (omega arith); armed = refl; faults = omega arith; contents = refl }, inr refl, refl), fresh_starts servers (suc id) n)
+    ((nothing_kept, record { unarmed = λ q. absurd (omega arith); armed = refl; faults = omega arith; contents = refl; sure = refl }, inr refl, refl), fresh_starts servers (suc id) n)
 
 pub fresh_start : (servers agents : ℕ) → 0 < servers → servers ≤ 7 → agents ≤ 64 → IsStart (started (fresh servers) agents)
 unfolding fresh

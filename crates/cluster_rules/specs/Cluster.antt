@@ -56,7 +56,7 @@ pub record Cluster : Type 0 where
 
 -- what stands for a server that is not there
 abbrev pub no_node : Node
-no_node = begun 0 0 (record { contents = None; armed = 0; faults = 0 }) nothing_kept
+no_node = begun 0 0 (record { contents = None; armed = 0; faults = 0; sure = false }) nothing_kept
 
 abbrev pub no_server : Server
 no_server = record { applied = []; clocks = []; office = no_office }

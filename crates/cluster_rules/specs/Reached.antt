@@ -40,6 +40,11 @@ abbrev pub AreUnarmed : List Store → Type 0
 AreUnarmed [] = Unit {0}
 AreUnarmed (s ∷ ss) = (s.armed ≡ 0) × AreUnarmed ss
 
+-- each store fails only where it is armed, and then holds what it held
+abbrev pub AreSure : List Store → Type 0
+AreSure [] = Unit {0}
+AreSure (s ∷ ss) = (s.sure ≡ true) × AreSure ss
+
 -- A start of 1 to 7 servers and up to 64 agents: from empty stores, or from stores that hold what those of an earlier
 -- run of as many servers held.
 pub record IsStart (c : Cluster) : Type 0 where

@@ -35,9 +35,9 @@ impl<K: Keeper + Drop> Servers<K> {
     pub fn new(alloc: Global, keepers: List<K>) -> Result<Servers<K>, (List<K>, KeepFail)>
         requires few { length keepers < 2 ^ 32 }
         requires limits { All (λ k. ForSome (K.held k) KeepsLimits) keepers }
-        ensures world { IfOk result (λ s. Begins (map (λ k. stored (K.held k) (K.armed k) (K.faults k)) keepers) s.world) }
+        ensures world { IfOk result (λ s. Begins (map (λ k. stored (K.held k) (K.armed k) (K.faults k) (K.sure k)) keepers) s.world) }
         ensures servers { IfOk result (λ s. s.servers ≡ replicate (length keepers) no_server) }
-        ensures back { IfErr result (λ why. AreGivenBack why.1 (map (λ k. stored (K.held k) (K.armed k) (K.faults k)) keepers) (map (λ k. stored (K.held k) (K.armed k) (K.faults k)) why.0)) }
+        ensures back { IfErr result (λ why. AreGivenBack why.1 (map (λ k. stored (K.held k) (K.armed k) (K.faults k) (K.sure k)) keepers) (map (λ k. stored (K.held k) (K.armed k) (K.faults k) (K.sure k)) why.0)) }
     {
         let Ok(replicas) = idle(alloc, keepers.len()) else {
             return Err((keepers, KeepFail::Memory));

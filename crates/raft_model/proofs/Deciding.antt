@@ -184,7 +184,7 @@ worked change s = record s { contents = changed change s.contents }
 
 call_works : (change : Kept → Kept) (s : Store) → s.armed ≡ 0 → CallWorks change s (worked change s)
 unfolding worked
-call_works change s e = record { unarmed = λ q. absurd (omega arith); armed = omega arith; faults = omega arith; contents = refl }
+call_works change s e = record { unarmed = λ q. absurd (omega arith); armed = omega arith; faults = omega arith; contents = refl; sure = refl }
 
 worked_armed : (change : Kept → Kept) (s : Store) → (worked change s).armed ≡ s.armed
 unfolding worked

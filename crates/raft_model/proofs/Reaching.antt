@@ -51,11 +51,11 @@ plain_step old input (told, free) = (holding old.store (half_kept old (done old 
   where
     vote : HasVoteOf old (done old input).node ⊎ SavesVote old (done old input).node → VoteSaved old (done old input).node old.store (holding old.store (half_kept old (done old input).node))
     vote (inl e) = inl (e, holding_same old.store (half_kept old (done old input).node) (vote_saved old (done old input).node old.store old.store told (inl (e, refl))))
-    vote (inr un) = inr (un, record { unarmed = λ q. absurd (omega arith); armed = omega arith; faults = omega arith; contents = sym (ap (changed (with_vote (done old input).node.term (done old input).node.vote)) told) })
+    vote (inr un) = inr (un, record { unarmed = λ q. absurd (omega arith); armed = omega arith; faults = omega arith; contents = sym (ap (changed (with_vote (done old input).node.term (done old input).node.vote)) told); sure = refl })
 
     log : ((done old input).node.log ≡ old.log) ⊎ StoresLog old (done old input).node → LogStored old (done old input).node (holding old.store (half_kept old (done old input).node)) (holding old.store (kept_of (done old input).node))
     log (inl e) = inl (e, ap (λ (x : Log). holding old.store (record { term = (done old input).node.term; vote = (done old input).node.vote; log = x })) e)
-    log (inr un) = inr (un, record { unarmed = λ q. absurd (omega arith); armed = omega arith; faults = omega arith; contents = refl })
+    log (inr un) = inr (un, record { unarmed = λ q. absurd (omega arith); armed = omega arith; faults = omega arith; contents = refl; sure = refl })
 
 abbrev IsHere : World → ℕ → Type 0
 IsHere w i = (0 < i) × (i ≤ length w.nodes)
@@ -151,7 +151,7 @@ empty_stores (suc n) = (refl, empty_stores n)
 fresh_starts : (servers id n : ℕ) → StartAll servers id (replicate n empty_store) (fresh_nodes servers id n)
 fresh_starts servers id zero = tt
 fresh_starts servers id (suc n) =
-    ((nothing_kept, record { unarmed = λ q. absurd (omega arith); armed = refl; faults = omega arith; contents = refl }, inr refl, refl), fresh_starts servers (suc id) n)
+    ((nothing_kept, record { unarmed = λ q. absurd (omega arith); armed = refl; faults = omega arith; contents = refl; sure = refl }, inr refl, refl), fresh_starts servers (suc id) n)
 
 fresh_plain : (servers id n : ℕ) → AllPlain (fresh_nodes servers id n)
 fresh_plain servers id zero = tt

@@ -9,11 +9,13 @@ use Rattle.raft_model.specs.declared.message.Sent.{Sent}
 use Rattle.raft_model.specs.Log.{Log}
 
 -- A durable store. `contents` is none where the store does not tell. The call number `armed` from now on is to
--- fail, and 0 stands for none. `faults` is its count of failed calls.
+-- fail, and 0 stands for none. `faults` is its count of failed calls. A store that is `sure` fails only where it is
+-- armed, and then holds what it held.
 pub record Store : Type 0 where
   pub contents : Option Kept
   pub armed : ℕ
   pub faults : ℕ
+  pub sure : Bool
 
 pub record Node : Type 0 where
   pub id : ℕ

@@ -6,7 +6,7 @@ use Rattle.raft_model.specs.Rules.{Input, Timeout, Receive, done, noop}
 use Rattle.raft_model.specs.World.{World, Packet, after, without, nothing_kept, IsReached}
 
 abbrev pub empty_store : Store
-empty_store = record { contents = Some nothing_kept; armed = 0; faults = 0 }
+empty_store = record { contents = Some nothing_kept; armed = 0; faults = 0; sure = true }
 
 -- servers from number id on, with empty stores
 abbrev pub fresh_nodes : ℕ → ℕ → ℕ → List Node

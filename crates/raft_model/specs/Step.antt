@@ -26,12 +26,16 @@ pub record CallWorks (change : Kept → Kept) (old new : Store) : Type 0 where
   pub armed : new.armed ≡ old.armed - 1
   pub faults : old.faults ≤ new.faults
   pub contents : new.contents ≡ changed change old.contents
+  pub sure : new.sure ≡ old.sure
 
--- A store call that failed: the count of faults rose, and the store holds the old contents or the new.
+-- A store call that failed: the count of faults rose, and the store holds the old contents or the new. A store that is
+-- sure was armed for this call, and holds the old.
 pub record CallFails (change : Kept → Kept) (old new : Store) : Type 0 where
   pub armed : new.armed ≡ old.armed - 1
   pub faults : min (old.faults + 1) (2 ^ 64 - 1) ≤ new.faults
   pub contents : (new.contents ≡ old.contents) ⊎ (new.contents ≡ changed change old.contents)
+  pub sure : new.sure ≡ old.sure
+  pub asked : old.sure ≡ true → (old.armed ≡ 1) × (new.contents ≡ old.contents)
 
 -- what a node has to save of its values
 abbrev pub HasVoteOf : Node → Node → Type 0

@@ -99,11 +99,11 @@ tail_told st log tail (Some k) r h = ap (λ (z : Kept). Some z) (tail_log log ta
 
 tail_works : (st : State) (log : Log) (tail : Tail) (s s' : Store) → st.halted ≡ false → ForSome s.contents (HoldsLog st log) → CallWorks (with_entries (tail.keep + 1) tail.entries) s s' →
     CallWorks (with_log (take tail.keep log ++ tail.entries)) s s'
-tail_works st log tail s s' r h c = record { unarmed = c.unarmed; armed = c.armed; faults = c.faults; contents = c.contents ∙ tail_told st log tail s.contents r h }
+tail_works st log tail s s' r h c = record { unarmed = c.unarmed; armed = c.armed; faults = c.faults; contents = c.contents ∙ tail_told st log tail s.contents r h; sure = c.sure }
 
 tail_fails : (st : State) (log : Log) (tail : Tail) (s s' : Store) → st.halted ≡ false → ForSome s.contents (HoldsLog st log) → CallFails (with_entries (tail.keep + 1) tail.entries) s s' →
     CallFails (with_log (take tail.keep log ++ tail.entries)) s s'
-tail_fails st log tail s s' r h c = record { armed = c.armed; faults = c.faults; contents = go c.contents }
+tail_fails st log tail s s' r h c = record { armed = c.armed; faults = c.faults; contents = go c.contents; sure = c.sure; asked = c.asked }
   where
     go : (s'.contents ≡ s.contents) ⊎ (s'.contents ≡ changed (with_entries (tail.keep + 1) tail.entries) s.contents) →
         (s'.contents ≡ s.contents) ⊎ (s'.contents ≡ changed (with_log (take tail.keep log ++ tail.entries)) s.contents)

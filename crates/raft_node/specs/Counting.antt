@@ -10,7 +10,7 @@ abbrev pub counting : ℕ → ℕ → ℕ → ℕ → Log → List ℕ → Node
 counting id servers term commit log matched = record {
   id = id;
   servers = servers;
-  store = record { contents = None; armed = 0; faults = 0 };
+  store = record { contents = None; armed = 0; faults = 0; sure = false };
   term = term;
   vote = None;
   log = log;

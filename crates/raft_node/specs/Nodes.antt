@@ -36,7 +36,7 @@ seen store state log = record {
 
 -- a store, for what reads none
 abbrev pub nowhere : Store
-nowhere = record { contents = None; armed = 0; faults = 0 }
+nowhere = record { contents = None; armed = 0; faults = 0; sure = false }
 
 -- two states that are one to a node
 abbrev pub IsSame : State → State → Type 0

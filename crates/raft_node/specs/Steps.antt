@@ -47,9 +47,9 @@ Steps old input new sent = NodeStep Works old input new sent ⊎ (NodeStep VoteF
 abbrev pub FindsNoMemory : Node → Input → Node → Type 0
 FindsNoMemory old input new = (new ≡ old) ⊎ NodeStep Forgets old input new []
 
--- a store that holds this, where it tells, with these numbers
-abbrev pub stored : Option Kept → ℕ → ℕ → Store
-stored held armed faults = record { contents = held; armed = armed; faults = faults }
+-- a store that holds this, where it tells, with these numbers, and whether it is sure
+abbrev pub stored : Option Kept → ℕ → ℕ → Bool → Store
+stored held armed faults sure = record { contents = held; armed = armed; faults = faults; sure = sure }
 
 abbrev pub IsSameVote : State → State → Type 0
 IsSameVote old new = (new.term ≡ old.term) × (new.vote ≡ old.vote)

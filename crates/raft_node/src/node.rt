@@ -26,7 +26,7 @@ impl<K: Keeper> Model for Node<K> {
 
     ghost Value = { model.Node };
 
-    ghost view = { λ n. seen (record { contents = K.held n.keeper; armed = K.armed n.keeper; faults = K.faults n.keeper }) n.state n.log };
+    ghost view = { λ n. seen (record { contents = K.held n.keeper; armed = K.armed n.keeper; faults = K.faults n.keeper; sure = K.sure n.keeper }) n.state n.log };
 
     ghost invariant = { λ n. IsKept (K.held n.keeper) n.state n.log n.counted };
 }
@@ -124,6 +124,7 @@ impl<K: Keeper> Node<K> {
         ensures held { K.held result ≡ self.store.contents }
         ensures armed { K.armed result ≡ self.store.armed }
         ensures faults { K.faults result ≡ self.store.faults }
+        ensures sure { K.sure result ≡ self.store.sure }
     {
         self.keeper
     }

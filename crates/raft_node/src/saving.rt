@@ -31,9 +31,9 @@ fn keep_vote<K: Keeper>(
     old: &State,
     new: &State,
 ) -> Result<bool, KeepFail>
-    ensures ok { IfOk result (λ saved. VoteKept saved old.now new.now (stored (K.held keeper.old) (K.armed keeper.old) (K.faults keeper.old)) (stored (K.held keeper.new) (K.armed keeper.new) (K.faults keeper.new))) }
-    ensures failed { IsErrOf result KeepFail.Failed → VoteFailed old.now new.now (stored (K.held keeper.old) (K.armed keeper.old) (K.faults keeper.old)) (stored (K.held keeper.new) (K.armed keeper.new) (K.faults keeper.new)) }
-    ensures memory { IsErrOf result KeepFail.Memory → stored (K.held keeper.new) (K.armed keeper.new) (K.faults keeper.new) ≡ stored (K.held keeper.old) (K.armed keeper.old) (K.faults keeper.old) }
+    ensures ok { IfOk result (λ saved. VoteKept saved old.now new.now (stored (K.held keeper.old) (K.armed keeper.old) (K.faults keeper.old) (K.sure keeper.old)) (stored (K.held keeper.new) (K.armed keeper.new) (K.faults keeper.new) (K.sure keeper.new))) }
+    ensures failed { IsErrOf result KeepFail.Failed → VoteFailed old.now new.now (stored (K.held keeper.old) (K.armed keeper.old) (K.faults keeper.old) (K.sure keeper.old)) (stored (K.held keeper.new) (K.armed keeper.new) (K.faults keeper.new) (K.sure keeper.new)) }
+    ensures memory { IsErrOf result KeepFail.Memory → stored (K.held keeper.new) (K.armed keeper.new) (K.faults keeper.new) (K.sure keeper.new) ≡ stored (K.held keeper.old) (K.armed keeper.old) (K.faults keeper.old) (K.sure keeper.old) }
 {
     if new.term == old.term && new.vote == old.vote {
         return Ok(false);
@@ -53,10 +53,10 @@ fn keep<K: Keeper>(
 ) -> Result<(), Unkept>
     requires fits { keep < 2 ^ 63 }
     requires may { ForSome (K.held keeper.old) (MayStore (keep + 1) entries.now) }
-    ensures ok { OnOk result (IsStored old.now new.now keep entries.now (stored (K.held keeper.old) (K.armed keeper.old) (K.faults keeper.old)) (stored (K.held keeper.new) (K.armed keeper.new) (K.faults keeper.new))) }
-    ensures failed { IsErrOf result Unkept.Failed → IsFailed old.now new.now keep entries.now (stored (K.held keeper.old) (K.armed keeper.old) (K.faults keeper.old)) (stored (K.held keeper.new) (K.armed keeper.new) (K.faults keeper.new)) }
-    ensures forgets { IsErrOf result Unkept.Forgets → VoteKept true old.now new.now (stored (K.held keeper.old) (K.armed keeper.old) (K.faults keeper.old)) (stored (K.held keeper.new) (K.armed keeper.new) (K.faults keeper.new)) }
-    ensures memory { IsErrOf result Unkept.Memory → stored (K.held keeper.new) (K.armed keeper.new) (K.faults keeper.new) ≡ stored (K.held keeper.old) (K.armed keeper.old) (K.faults keeper.old) }
+    ensures ok { OnOk result (IsStored old.now new.now keep entries.now (stored (K.held keeper.old) (K.armed keeper.old) (K.faults keeper.old) (K.sure keeper.old)) (stored (K.held keeper.new) (K.armed keeper.new) (K.faults keeper.new) (K.sure keeper.new))) }
+    ensures failed { IsErrOf result Unkept.Failed → IsFailed old.now new.now keep entries.now (stored (K.held keeper.old) (K.armed keeper.old) (K.faults keeper.old) (K.sure keeper.old)) (stored (K.held keeper.new) (K.armed keeper.new) (K.faults keeper.new) (K.sure keeper.new)) }
+    ensures forgets { IsErrOf result Unkept.Forgets → VoteKept true old.now new.now (stored (K.held keeper.old) (K.armed keeper.old) (K.faults keeper.old) (K.sure keeper.old)) (stored (K.held keeper.new) (K.armed keeper.new) (K.faults keeper.new) (K.sure keeper.new)) }
+    ensures memory { IsErrOf result Unkept.Memory → stored (K.held keeper.new) (K.armed keeper.new) (K.faults keeper.new) (K.sure keeper.new) ≡ stored (K.held keeper.old) (K.armed keeper.old) (K.faults keeper.old) (K.sure keeper.old) }
 {
     let saved = match keep_vote(keeper, alloc, old, new) {
         Ok(saved) => saved,
@@ -82,10 +82,10 @@ fn store_log<K: Keeper>(
 ) -> Result<(), Unkept>
     requires within { tail.keep ≤ length log.old }
     requires may { ForSome (K.held keeper.old) (MayStore (tail.keep + 1) tail.entries) }
-    ensures ok { OnOk result (IsStored old.now new.now tail.keep tail.entries (stored (K.held keeper.old) (K.armed keeper.old) (K.faults keeper.old)) (stored (K.held keeper.new) (K.armed keeper.new) (K.faults keeper.new))) }
-    ensures failed { IsErrOf result Unkept.Failed → IsFailed old.now new.now tail.keep tail.entries (stored (K.held keeper.old) (K.armed keeper.old) (K.faults keeper.old)) (stored (K.held keeper.new) (K.armed keeper.new) (K.faults keeper.new)) }
-    ensures forgets { IsErrOf result Unkept.Forgets → VoteKept true old.now new.now (stored (K.held keeper.old) (K.armed keeper.old) (K.faults keeper.old)) (stored (K.held keeper.new) (K.armed keeper.new) (K.faults keeper.new)) }
-    ensures memory { IsErrOf result Unkept.Memory → stored (K.held keeper.new) (K.armed keeper.new) (K.faults keeper.new) ≡ stored (K.held keeper.old) (K.armed keeper.old) (K.faults keeper.old) }
+    ensures ok { OnOk result (IsStored old.now new.now tail.keep tail.entries (stored (K.held keeper.old) (K.armed keeper.old) (K.faults keeper.old) (K.sure keeper.old)) (stored (K.held keeper.new) (K.armed keeper.new) (K.faults keeper.new) (K.sure keeper.new))) }
+    ensures failed { IsErrOf result Unkept.Failed → IsFailed old.now new.now tail.keep tail.entries (stored (K.held keeper.old) (K.armed keeper.old) (K.faults keeper.old) (K.sure keeper.old)) (stored (K.held keeper.new) (K.armed keeper.new) (K.faults keeper.new) (K.sure keeper.new)) }
+    ensures forgets { IsErrOf result Unkept.Forgets → VoteKept true old.now new.now (stored (K.held keeper.old) (K.armed keeper.old) (K.faults keeper.old) (K.sure keeper.old)) (stored (K.held keeper.new) (K.armed keeper.new) (K.faults keeper.new) (K.sure keeper.new)) }
+    ensures memory { IsErrOf result Unkept.Memory → stored (K.held keeper.new) (K.armed keeper.new) (K.faults keeper.new) (K.sure keeper.new) ≡ stored (K.held keeper.old) (K.armed keeper.old) (K.faults keeper.old) (K.sure keeper.old) }
     ensures log { OnOk result (log.new ≡ take tail.keep log.old ++ tail.entries) }
     ensures unchanged { OnErr result (log.new ≡ log.old) }
 {

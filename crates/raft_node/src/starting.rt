@@ -23,8 +23,8 @@ impl<K: Keeper + Drop> Node<K> {
         mut keeper: K,
     ) -> Result<Node<K>, (K, KeepFail)>
         requires { ForSome (K.held keeper) KeepsLimits }
-        ensures ok { IfOk result (λ node. Starts id servers (stored (K.held keeper) (K.armed keeper) (K.faults keeper)) node) }
-        ensures err { IfErr result (λ why. FailsToLoad why.1 (stored (K.held keeper) (K.armed keeper) (K.faults keeper)) (stored (K.held why.0) (K.armed why.0) (K.faults why.0))) }
+        ensures ok { IfOk result (λ node. Starts id servers (stored (K.held keeper) (K.armed keeper) (K.faults keeper) (K.sure keeper)) node) }
+        ensures err { IfErr result (λ why. FailsToLoad why.1 (stored (K.held keeper) (K.armed keeper) (K.faults keeper) (K.sure keeper)) (stored (K.held why.0) (K.armed why.0) (K.faults why.0) (K.sure why.0))) }
     {
         match keeper.load(alloc) {
             Ok(kept) => Ok(Node {

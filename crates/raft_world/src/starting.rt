@@ -54,8 +54,8 @@ fn begin<K: Keeper + Drop>(
     requires room { length waiting.old.items ≤ vec_capacity nodes.old }
     requires empty { nodes.old.items ≡ [] }
     requires limits { All (λ k. ForSome (K.held k) KeepsLimits) waiting.old.items }
-    ensures ok { OnOk result (StartAll servers 1 (map (λ k. stored (K.held k) (K.armed k) (K.faults k)) waiting.old.items) nodes.new.items) }
-    ensures err { IfErr result (λ why. Stops servers (map (λ k. stored (K.held k) (K.armed k) (K.faults k)) waiting.old.items) nodes.new.items why.1 (stored (K.held why.0) (K.armed why.0) (K.faults why.0)) (map (λ k. stored (K.held k) (K.armed k) (K.faults k)) waiting.new.items)) }
+    ensures ok { OnOk result (StartAll servers 1 (map (λ k. stored (K.held k) (K.armed k) (K.faults k) (K.sure k)) waiting.old.items) nodes.new.items) }
+    ensures err { IfErr result (λ why. Stops servers (map (λ k. stored (K.held k) (K.armed k) (K.faults k) (K.sure k)) waiting.old.items) nodes.new.items why.1 (stored (K.held why.0) (K.armed why.0) (K.faults why.0) (K.sure why.0)) (map (λ k. stored (K.held k) (K.armed k) (K.faults k) (K.sure k)) waiting.new.items)) }
 {
     while !waiting.is_empty() {
         let keeper = waiting.remove(0);
@@ -77,7 +77,7 @@ fn given_back<K: Keeper + Drop>(
 ) -> List<K>
     requires empty { back.items ≡ [] }
     requires room { length nodes.items + 1 + length waiting.items ≤ vec_capacity back }
-    ensures { map (λ k. stored (K.held k) (K.armed k) (K.faults k)) result ≡ map (λ (n : model.Node). n.store) nodes.items ++ stored (K.held keeper) (K.armed keeper) (K.faults keeper) ∷ map (λ k. stored (K.held k) (K.armed k) (K.faults k)) waiting.items }
+    ensures { map (λ k. stored (K.held k) (K.armed k) (K.faults k) (K.sure k)) result ≡ map (λ (n : model.Node). n.store) nodes.items ++ stored (K.held keeper) (K.armed keeper) (K.faults keeper) (K.sure keeper) ∷ map (λ k. stored (K.held k) (K.armed k) (K.faults k) (K.sure k)) waiting.items }
 {
     while !nodes.is_empty() {
         let node = nodes.remove(0);
@@ -97,8 +97,8 @@ impl<K: Keeper + Drop> World<K> {
     pub fn new(alloc: Global, keepers: List<K>) -> Result<World<K>, (List<K>, KeepFail)>
         requires few { length keepers < 2 ^ 32 }
         requires limits { All (λ k. ForSome (K.held k) KeepsLimits) keepers }
-        ensures ok { IfOk result (Begins (map (λ k. stored (K.held k) (K.armed k) (K.faults k)) keepers)) }
-        ensures back { IfErr result (λ why. AreGivenBack why.1 (map (λ k. stored (K.held k) (K.armed k) (K.faults k)) keepers) (map (λ k. stored (K.held k) (K.armed k) (K.faults k)) why.0)) }
+        ensures ok { IfOk result (Begins (map (λ k. stored (K.held k) (K.armed k) (K.faults k) (K.sure k)) keepers)) }
+        ensures back { IfErr result (λ why. AreGivenBack why.1 (map (λ k. stored (K.held k) (K.armed k) (K.faults k) (K.sure k)) keepers) (map (λ k. stored (K.held k) (K.armed k) (K.faults k) (K.sure k)) why.0)) }
     {
         let servers = keepers.len();
         let Ok(room) = room_for(alloc, servers) else {

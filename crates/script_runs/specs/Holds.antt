@@ -19,11 +19,12 @@ use Rattle.cluster_rules.specs.Replies.{Question, came, Out}
 use Rattle.cluster_rules.specs.Cluster.{Pending, Cluster, applied_of, node_of, started}
 use Rattle.cluster_rules.specs.Due.{due}
 use Rattle.cluster_rules.specs.Legal.{StillWaits}
-use Rattle.cluster_rules.specs.Reached.{Move, Reached, AreUnarmed, moves_of}
+use Rattle.cluster_rules.specs.Reached.{Move, Reached, AreSure, AreUnarmed, moves_of}
 use Rattle.cluster_rules.specs.Sound.{IsAmong, NeverEnters, OutIsSound, held_times, one_if, out_times}
 use Rattle.read_rules.specs.Reads.{ReadsAreFresh, ReadsWait}
 
--- A start of 1 to 7 servers and up to 64 agents, from empty stores of which none is to fail.
+-- A start of 1 to 7 servers and up to 64 agents, from empty stores of which none is to fail, and none fails later but
+-- where it is armed.
 pub record IsFirstStart (c : Cluster) : Type 0 where
   pub stores : List Store
   pub world : World
@@ -31,6 +32,7 @@ pub record IsFirstStart (c : Cluster) : Type 0 where
   pub some : (0 < length stores) × (length stores ≤ 7)
   pub few : agents ≤ 64
   pub unarmed : AreUnarmed stores
+  pub sure : AreSure stores
   pub empty : AreEmpty stores
   pub begins : Begins stores world
   pub is : c ≡ started world agents

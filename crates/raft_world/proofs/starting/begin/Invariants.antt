@@ -9,7 +9,7 @@ use Rattle.raft_world.proofs.starting.begin.Given as goal
 
 abbrev pub invariant-loop-alloc : goal.invariant-loop-alloc
 invariant-loop-alloc g l =
-    Begun (λ k. stored (g.K.Keeper.held k) (g.K.Keeper.armed k) (g.K.Keeper.faults k)) l.servers l.fn.waiting.items l.waiting.items l.nodes.items
+    Begun (λ k. stored (g.K.Keeper.held k) (g.K.Keeper.armed k) (g.K.Keeper.faults k) (g.K.Keeper.sure k)) l.servers l.fn.waiting.items l.waiting.items l.nodes.items
     × (vec_capacity l.nodes ≡ vec_capacity l.fn.nodes)
     × All (λ k. ForSome (g.K.Keeper.held k) KeepsLimits) l.waiting.items
 

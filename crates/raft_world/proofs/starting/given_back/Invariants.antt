@@ -6,7 +6,7 @@ use Rattle.raft_world.proofs.starting.given_back.Given as goal
 
 abbrev pub invariant-loop-nodes : goal.invariant-loop-nodes
 invariant-loop-nodes g l =
-    Taken (λ k. stored (g.K.Keeper.held k) (g.K.Keeper.armed k) (g.K.Keeper.faults k)) l.back.items l.nodes.items l.fn.nodes.items
+    Taken (λ k. stored (g.K.Keeper.held k) (g.K.Keeper.armed k) (g.K.Keeper.faults k) (g.K.Keeper.sure k)) l.back.items l.nodes.items l.fn.nodes.items
     × (vec_capacity l.back ≡ vec_capacity l.fn.back)
 
 abbrev pub decreases-loop-nodes : goal.decreases-loop-nodes

@@ -13,7 +13,7 @@ returns-then-not-leads-clause-ok g c =
 
 pub returns-clause-ok : goal.returns-clause-ok
 returns-clause-ok g c =
-    let n = c.args.self.now in let keeper = c.self.inside.keeper in let store = stored (g.K.Keeper.held keeper) (g.K.Keeper.armed keeper) (g.K.Keeper.faults keeper) in
+    let n = c.args.self.now in let keeper = c.self.inside.keeper in let store = stored (g.K.Keeper.held keeper) (g.K.Keeper.armed keeper) (g.K.Keeper.faults keeper) (g.K.Keeper.sure keeper) in
     let leads = sym c.leads.ensures.leads ∙ c.if-not-leads.false in
     IfOk-weaker c.append_all.result _ _
     (λ sent s. beat_works n store c.self.inside.state c.as_slice.result.now [] sent (ap (seen store c.self.inside.state) c.as_slice.ensures ∙ c.self.view_is) refl

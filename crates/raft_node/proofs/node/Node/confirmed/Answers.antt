@@ -12,5 +12,5 @@ returns-then-self-round g c = confirmed_other c.args.self.now c.args.round.now (
 pub returns : goal.returns
 returns g c =
     let k = c.self.inside.keeper in
-    confirmed_is c.args.self.now (stored (g.K.Keeper.held k) (g.K.Keeper.armed k) (g.K.Keeper.faults k)) c.self.inside.state c.self.inside.log c.args.round.now c.deref.result.now c.have_reached.result c.self.view_is c.deref.ensures.value
+    confirmed_is c.args.self.now (stored (g.K.Keeper.held k) (g.K.Keeper.armed k) (g.K.Keeper.faults k) (g.K.Keeper.sure k)) c.self.inside.state c.self.inside.log c.args.round.now c.deref.result.now c.have_reached.result c.self.view_is c.deref.ensures.value
     (sym c.leads.ensures.leads ∙ c.if-not-leads.false) c.if-self-round.false c.have_reached.ensures

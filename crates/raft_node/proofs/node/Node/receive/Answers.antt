@@ -19,7 +19,7 @@ pub returns-clause-ok : goal.returns-clause-ok
 returns-clause-ok g c =
     let k = c.self.inside.keeper in let state = c.self.inside.state in let log = c.self.inside.log in let planned = c.in_ok-planned.planned in
     let input = Receive c.args.from c.args.message.now in
-    let v = seen (stored (g.K.Keeper.held k) (g.K.Keeper.armed k) (g.K.Keeper.faults k)) state log in
+    let v = seen (stored (g.K.Keeper.held k) (g.K.Keeper.armed k) (g.K.Keeper.faults k) (g.K.Keeper.sure k)) state log in
     let plan = subst (λ (z : Log). Plans (λ n. received n c.args.from c.args.message.now) state z planned) c.as_slice-log.ensures c.in_ok-planned.ensures.plan in
     let d = planned_does v state log c.args.from c.args.message.now planned refl c.if-self.false plan in
     IfOk-weaker c.make.result (λ sent. Makes v (planned_of v.store log planned) c.make.new.self sent) (λ sent. Steps c.args.self.now input c.make.new.self sent)
@@ -29,7 +29,7 @@ pub returns-clause-memory : goal.returns-clause-memory
 returns-clause-memory g c =
     let k = c.self.inside.keeper in let state = c.self.inside.state in let log = c.self.inside.log in let planned = c.in_ok-planned.planned in
     let input = Receive c.args.from c.args.message.now in
-    let v = seen (stored (g.K.Keeper.held k) (g.K.Keeper.armed k) (g.K.Keeper.faults k)) state log in
+    let v = seen (stored (g.K.Keeper.held k) (g.K.Keeper.armed k) (g.K.Keeper.faults k) (g.K.Keeper.sure k)) state log in
     let plan = subst (λ (z : Log). Plans (λ n. received n c.args.from c.args.message.now) state z planned) c.as_slice-log.ensures c.in_ok-planned.ensures.plan in
     let d = planned_does v state log c.args.from c.args.message.now planned refl c.if-self.false plan in
     on_err_weaker {P = Remains v (planned_of v.store log planned) c.make.new.self} {Q = FindsNoMemory c.args.self.now input c.make.new.self} c.make.result

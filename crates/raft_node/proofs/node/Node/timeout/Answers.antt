@@ -12,7 +12,7 @@ returns-then-not-may_stand-clause-ok g c =
 
 pub returns-clause-ok : goal.returns-clause-ok
 returns-clause-ok g c =
-    let n = c.args.self.now in let k = c.self.inside.keeper in let store = stored (g.K.Keeper.held k) (g.K.Keeper.armed k) (g.K.Keeper.faults k) in
+    let n = c.args.self.now in let k = c.self.inside.keeper in let store = stored (g.K.Keeper.held k) (g.K.Keeper.armed k) (g.K.Keeper.faults k) (g.K.Keeper.sure k) in
     let plan = plan_of elects n store c.self.inside.state c.as_slice.result.now c.in_ok-planned.planned (ap (seen store c.self.inside.state) c.as_slice.ensures ∙ c.self.view_is) c.in_ok-planned.ensures in
     IfOk-weaker c.make.result _ _
     (λ sent h. steps_as n c.make.new.self Timeout (planned_of n.store n.log c.in_ok-planned.planned) sent (plan ∙ sym (timeout_elects n (sym c.may_stand.ensures ∙ c.if-not-may_stand.false))) h)
@@ -20,7 +20,7 @@ returns-clause-ok g c =
 
 pub returns-clause-memory : goal.returns-clause-memory
 returns-clause-memory g c =
-    let n = c.args.self.now in let k = c.self.inside.keeper in let store = stored (g.K.Keeper.held k) (g.K.Keeper.armed k) (g.K.Keeper.faults k) in
+    let n = c.args.self.now in let k = c.self.inside.keeper in let store = stored (g.K.Keeper.held k) (g.K.Keeper.armed k) (g.K.Keeper.faults k) (g.K.Keeper.sure k) in
     let plan = plan_of elects n store c.self.inside.state c.as_slice.result.now c.in_ok-planned.planned (ap (seen store c.self.inside.state) c.as_slice.ensures ∙ c.self.view_is) c.in_ok-planned.ensures in
     weaker_err c.make.result _ _
     (memory_as n c.make.new.self Timeout (planned_of n.store n.log c.in_ok-planned.planned) (plan ∙ sym (timeout_elects n (sym c.may_stand.ensures ∙ c.if-not-may_stand.false))))

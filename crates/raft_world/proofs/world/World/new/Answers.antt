@@ -14,7 +14,7 @@ returns-in_default-clause-back g c = untouched _
 
 pub invariant_of-result : goal.invariant_of-result
 invariant_of-result g c =
-    let st : g.row.K.Denot → Store = λ k. stored (g.K.Keeper.held k) (g.K.Keeper.armed k) (g.K.Keeper.faults k) in
+    let st : g.row.K.Denot → Store = λ k. stored (g.K.Keeper.held k) (g.K.Keeper.armed k) (g.K.Keeper.faults k) (g.K.Keeper.sure k) in
     let room = c.in-Ok.room in
     let start : StartAll c.len-servers.result 1 (map st c.args.keepers) c.begin.new.nodes.items = subst (λ z. StartAll c.len-servers.result 1 (map st z) c.begin.new.nodes.items) c.into_vec-waiting.ensures c.in-Ok-begin.ensures.ok in
     subst (λ z. IsWorld c.begin.new.nodes.items room.clocks.items room.contacts.items room.bag.packets (Kept z)) (sym c.new.ensures)
@@ -23,12 +23,12 @@ invariant_of-result g c =
 
 pub given_back-requires-clause-room : goal.given_back-requires-clause-room
 given_back-requires-clause-room g c =
-    let st : g.row.K.Denot → Store = λ k. stored (g.K.Keeper.held k) (g.K.Keeper.armed k) (g.K.Keeper.faults k) in
+    let st : g.row.K.Denot → Store = λ k. stored (g.K.Keeper.held k) (g.K.Keeper.armed k) (g.K.Keeper.faults k) (g.K.Keeper.sure k) in
     let whole = stopped_length st c.len-servers.result c.into_vec-waiting.result.items c.begin.new.waiting.items c.begin.new.nodes.items c.in-Err.fail (st c.in-Err.keeper) c.in-Err.ensures.err in
     omega (arith, whole, c.in-Ok.ensures.back.1, ap length c.into_vec-waiting.ensures, c.len-servers.ensures)
 
 pub returns-in-Err-clause-back : goal.returns-in-Err-clause-back
 returns-in-Err-clause-back g c =
-    let st : g.row.K.Denot → Store = λ k. stored (g.K.Keeper.held k) (g.K.Keeper.armed k) (g.K.Keeper.faults k) in
+    let st : g.row.K.Denot → Store = λ k. stored (g.K.Keeper.held k) (g.K.Keeper.armed k) (g.K.Keeper.faults k) (g.K.Keeper.sure k) in
     handed_back c.len-servers.result (map st c.args.keepers) c.begin.new.nodes.items c.in-Err.fail (st c.in-Err.keeper) (map st c.begin.new.waiting.items) (map st c.given_back.result)
     (subst (λ z. Stops c.len-servers.result (map st z) c.begin.new.nodes.items c.in-Err.fail (st c.in-Err.keeper) (map st c.begin.new.waiting.items)) c.into_vec-waiting.ensures c.in-Err.ensures.err) c.given_back.ensures
