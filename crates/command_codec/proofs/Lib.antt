@@ -1,4 +1,4 @@
-pub mod Appending
+pub mod NumberSteps
 pub mod TextSteps
 pub mod Grammar
 pub mod NumberReads
@@ -10,5 +10,5 @@ pub mod ItemSteps
 pub mod CommandReads
 pub mod Whole
 pub mod Answering
-pub mod NumberLengths
+pub mod Taking
 pub mod Lengths

@@ -8,6 +8,9 @@ mod encoding;
 mod fault;
 mod fields;
 mod lists;
+mod out;
+mod putting;
+mod records;
 mod texts;
 
 pub use counting::encoded_len;
