@@ -59,7 +59,7 @@ impl<K: Keeper + Drop> Cluster<K> {
         let number = self.requests.asked().checked_add(1).ok_or(Memory)?;
         let node = self.servers.node(server);
         let term = node.term();
-        let before = node.log_bytes(alloc)?;
+        let before = node.log_bytes();
         let entries = node.last().checked_add(1).ok_or(Memory)?;
         let question = copied_question(number, agent, asked, draw)?;
         with_question(alloc, question, term, asked, command, entries, before)

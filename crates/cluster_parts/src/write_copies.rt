@@ -7,8 +7,8 @@ ghost use Rattle.cluster_rules.specs.Replies.{entered};
 use crate::entering::entered;
 use crate::writing::Write;
 use cat_model::{Asked, Command, Entry, Memory, Shared};
+use command_codec::encoded_len;
 use open_requests::Question;
-use raft_node::batch::command_bytes;
 use std::alloc::Global;
 
 // The entry of a write at a leader of this term.
@@ -27,12 +27,16 @@ fn entry_of(
     })
 }
 
-// How many bytes these are with a command more.
-fn total(alloc: Global, bytes: u64, command: &Command) -> Result<u64, Memory>
+// How many bytes these are with a command more. A count that reaches the greatest number of 64 bits may have stopped
+// there.
+fn total(bytes: u64, command: &Command) -> Result<u64, Memory>
     ensures { IfOk result (λ all. all ≡ bytes + bytes_of_command command.now) }
 {
-    let more = command_bytes(alloc, command)?;
-    bytes.checked_add(more as u64).ok_or(Memory)
+    let all = bytes.saturating_add(encoded_len(command));
+    if all == u64::MAX {
+        return Err(Memory);
+    }
+    Ok(all)
 }
 
 // A write with all its parts.
@@ -63,7 +67,6 @@ fn with_bytes(
 
 // A write with its entry, behind so many bytes of the log.
 fn with_entry(
-    alloc: Global,
     question: Question,
     entry: Entry,
     asked: &Shared<Asked>,
@@ -72,7 +75,7 @@ fn with_entry(
 ) -> Result<Write, Memory>
     ensures { IfOk result (λ write. write ≡ record { asked = asked.now; question = question; entry = entry; entries = entries; bytes = before + bytes_of_command entry.command }) }
 {
-    match total(alloc, before, &entry.command) {
+    match total(before, &entry.command) {
         Ok(bytes) => with_bytes(question, entry, asked, entries, bytes),
         Err(Memory) => {
             drop(question);
@@ -95,7 +98,7 @@ pub fn with_question(
     ensures { let enters = entered question command.now in IfOk result (λ write. write ≡ record { asked = asked.now; question = question; entry = record { term = term; number = question.number; command = enters }; entries = entries; bytes = before + bytes_of_command enters }) }
 {
     match entry_of(alloc, &question, term, command) {
-        Ok(entry) => with_entry(alloc, question, entry, asked, entries, before),
+        Ok(entry) => with_entry(question, entry, asked, entries, before),
         Err(Memory) => {
             drop(question);
             Err(Memory)

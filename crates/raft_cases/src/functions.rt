@@ -69,7 +69,7 @@ fn of_batch(alloc: Global, what: &str, words: &mut Words) -> Result<String, Memo
 
 fn batched(alloc: Global, what: &str, entries: &[Entry]) -> Result<String, Memory> {
     match what {
-        "batch-length" => counted(alloc, Some(batch::batch_length(alloc, entries)? as u64)),
+        "batch-length" => counted(alloc, Some(batch::batch_length(entries) as u64)),
         "batch" => put(alloc, batch::batch(alloc, entries)?),
         _ => put(alloc, batch::copied(alloc, entries)?),
     }

@@ -7,8 +7,9 @@ use crate::logs;
 use crate::shown::{counted, tested, unread};
 use crate::words::{Words, number, numbers, server};
 use cat_model::{Bytes, Command, Entry, List, Memory, Shared, Text};
+use command_codec::encoded_len;
 use raft_model::Message;
-use raft_node::{batch, quorum};
+use raft_node::quorum;
 use raft_world::agreed::Agreed;
 use raft_world::weight::message_bytes;
 use std::alloc::{AllocError, Global};
@@ -137,9 +138,7 @@ fn set_command(alloc: Global, words: &mut Words) -> Option<Command> {
 
 fn command_bytes(alloc: Global, words: &mut Words) -> Option<u64> {
     let command = command(alloc, words)?;
-    let bytes = batch::command_bytes(alloc, &command);
-    drop(command); // Before any early return.
-    Some(bytes.ok()? as u64)
+    Some(encoded_len(&command))
 }
 
 fn vote_bytes() -> u64 {

@@ -1,8 +1,10 @@
 -- Logs after a cut and an append: their bytes, their limits and the front that stays.
-use Rattle.std.proofs.Common.{◌≡◌, ◌≢◌, ℕ, zero, suc, ◌+◌, ◌-◌, ◌^◌, ◌<◌, ◌≤◌, nat_le, min, max, not, ◌&&◌, ◌||◌, Bool, true, false, [], ◌∷◌, ◌++◌, length, take, drop, get_or, refl, sym, ◌∙◌, ap, add_assoc, length-append, length-drop, arith}
+use Rattle.std.proofs.Common.{◌≡◌, ◌≢◌, ℕ, zero, suc, ◌+◌, ◌-◌, ◌^◌, ◌<◌, ◌≤◌, nat_le, min, max, not, ◌&&◌, ◌||◌, Bool, true, false, [], ◌∷◌, ◌++◌, length, take, drop, get_or, refl, sym, ◌∙◌, ap, inl, inr, add_assoc, length-append, length-drop, arith}
 use Rattle.std.proofs.lemmas.List.{append-nil, take-append-drop, length-take-le, drop-take, drop_all, drop_more, take-take, take_all, take_rest}
+use Rattle.std.proofs.lemmas.Bool.{cases_lt}
 use Rattle.std.proofs.lemmas.Bool.Decides.{nat_tests}
 use Rattle.cat_model.specs.declared.command.Entry.{Entry}
+use Rattle.command_codec.specs.Counts.{capped}
 use Rattle.raft_model.specs.Log.{Log}
 use Rattle.raft_model.specs.Limits.{most_entries, most_bytes, log_bytes, keeps_limits}
 use Rattle.raft_model.specs.Rules.{keeps_front}
@@ -29,13 +31,13 @@ bytes_between c k x l =
     ∙ ap (λ (z : Log). log_bytes z + log_bytes (drop c (take k x))) (take-take c k x l)
     ∙ ap (λ (z : Log). log_bytes (take c x) + log_bytes z) (ap (λ j. drop c (take j x)) q ∙ drop-take c (k - c) x)
 
-pub count_more : (x : Log) (i total bytes : ℕ) (d : Entry) → i < length x → bytes ≡ counted_bytes (get_or x i d) → bytes_of x ≡ min (total + log_bytes (drop i x)) (2 ^ 64 - 1) → bytes_of x ≡ min (min (total + bytes) (2 ^ 64 - 1) + log_bytes (drop (i + 1) x)) (2 ^ 64 - 1)
+pub count_more : (x : Log) (i total bytes : ℕ) (d : Entry) → i < length x → bytes ≡ capped (counted_bytes (get_or x i d)) → bytes_of x ≡ min (total + log_bytes (drop i x)) (2 ^ 64 - 1) → bytes_of x ≡ min (min (total + bytes) (2 ^ 64 - 1) + log_bytes (drop (i + 1) x)) (2 ^ 64 - 1)
 count_more x i total bytes d l e h = let n = bytes_next x i d l in omega (arith, n, e, h)
 
-pub count_step : (x : Log) (i total bytes new : ℕ) (item : Entry) → i < length x → bytes ≡ counted_bytes item → item ≡ get_or x i item → new ≡ min (total + bytes) (2 ^ 64 - 1) → bytes_of x ≡ min (total + log_bytes (drop i x)) (2 ^ 64 - 1) → bytes_of x ≡ min (new + log_bytes (drop (i + 1) x)) (2 ^ 64 - 1)
+pub count_step : (x : Log) (i total bytes new : ℕ) (item : Entry) → i < length x → bytes ≡ capped (counted_bytes item) → item ≡ get_or x i item → new ≡ min (total + bytes) (2 ^ 64 - 1) → bytes_of x ≡ min (total + log_bytes (drop i x)) (2 ^ 64 - 1) → bytes_of x ≡ min (new + log_bytes (drop (i + 1) x)) (2 ^ 64 - 1)
 count_step x i total bytes new item l e at n h =
     let g : ℕ → ℕ = λ t. min (t + log_bytes (drop (i + 1) x)) (2 ^ 64 - 1) in
-    count_more x i total bytes item l (e ∙ ap (λ (z : Entry). counted_bytes z) at) h ∙ ap g (sym n)
+    count_more x i total bytes item l (e ∙ ap (λ (z : Entry). capped (counted_bytes z)) at) h ∙ ap g (sym n)
 
 pub count_end : (x : Log) (i total : ℕ) → length x ≤ i → total < 2 ^ 64 → bytes_of x ≡ min (total + log_bytes (drop i x)) (2 ^ 64 - 1) → total ≡ bytes_of x
 count_end x i total l f h = let n = ap (λ (z : Log). log_bytes z) (drop_all i x l) in omega (arith, n, f, h)
@@ -81,6 +83,12 @@ with_within x y k bytes more l w e f m =
     let a = length_with x y k l in let b = bytes_append (take k x) y in
     ap (λ t. t && nat_le (log_bytes (take k x ++ y)) most_bytes) (le_is (length (take k x ++ y)) most_entries (omega (arith, a, w)))
     ∙ le_is (log_bytes (take k x ++ y)) most_bytes (omega (arith, b, e, f, m))
+
+pub limit_is : (x y : Log) (k bytes more : ℕ) → k ≤ length x → k + length y ≤ most_entries → bytes ≡ bytes_of (take k x) → more ≡ bytes_of y → bytes ≤ most_bytes → nat_le more (most_bytes - bytes) ≡ keeps_limits (take k x ++ y)
+limit_is x y k bytes more l w e f m = elim (cases_lt (most_bytes - bytes) more) [
+  | inl g ↦ le_not more (most_bytes - bytes) g ∙ sym (with_too_heavy x y k bytes more e f (omega (arith, g, m)))
+  | inr g ↦ le_is more (most_bytes - bytes) g ∙ sym (with_within x y k bytes more l w e f (omega (arith, g, m)))
+]
 
 -- a log, and the rest of a list, as slices have them
 pub whole : (x : Log) → take (length x) x ++ [] ≡ x

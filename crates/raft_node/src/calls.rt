@@ -63,28 +63,27 @@ impl<K: Keeper + Drop> Node<K> {
 
     /// How many bytes the commands of the log have, Noops' not counted, and 2^64 - 1 where they have more. Entries that
     /// a proposal counted are not read again.
-    pub fn log_bytes(&self, alloc: Global) -> Result<u64, Memory>
-        ensures { IfOk result (λ bytes. bytes ≡ bytes_of self.now.log) }
+    pub fn log_bytes(&self) -> u64
+        ensures { result ≡ bytes_of self.now.log }
     {
         let last = self.log.len();
-        let counted = counted_at(alloc, self.log.as_slice(), self.counted, last)?;
-        Ok(counted.bytes)
+        let counted = counted_at(self.log.as_slice(), self.counted, last);
+        counted.bytes
     }
 
     // Whether the log has room for this command.
-    fn has_room(&mut self, alloc: Global, command: &Command) -> Result<bool, Memory>
-        ensures ok { IfOk result (λ room. (term number : ℕ) → room ≡ keeps_limits (self.old.log ++ record { term = term; number = number; command = command.now } ∷ [])) }
+    fn has_room(&mut self, command: &Command) -> bool
+        ensures room { (term number : ℕ) → result ≡ keeps_limits (self.old.log ++ record { term = term; number = number; command = command.now } ∷ []) }
         ensures same { self.new ≡ self.old }
     {
         let last = self.log.len();
-        let counted = counted_at(alloc, self.log.as_slice(), self.counted, last)?;
+        let counted = counted_at(self.log.as_slice(), self.counted, last);
         self.counted = counted;
-        let bytes = bytes_in_log(alloc, command)?;
-        Ok(fits(last, counted.bytes, bytes as u64))
+        fits(last, counted.bytes, bytes_in_log(command))
     }
 
     // Whether a proposal of this command may be made.
-    fn admits(&mut self, alloc: Global, command: &Command) -> Result<(), ProposeFault>
+    fn admits(&mut self, command: &Command) -> Result<(), ProposeFault>
         ensures ok { OnOk result ((number : ℕ) → MayPropose self.old number command.now) }
         ensures fault { IfErr result (λ fault. (number : ℕ) → Proposes self.old number command.now self.new (Err fault)) }
         ensures same { self.new ≡ self.old }
@@ -95,11 +94,10 @@ impl<K: Keeper + Drop> Node<K> {
         if !self.leads() {
             return Err(ProposeFault::NotLeader);
         }
-        match self.has_room(alloc, command) {
-            Ok(true) => Ok(()),
-            Ok(false) => Err(ProposeFault::Full),
-            Err(Memory) => Err(ProposeFault::Memory),
+        if !self.has_room(command) {
+            return Err(ProposeFault::Full);
         }
+        Ok(())
     }
 
     /// Puts a command with this number into a leader's log. Gives its place and what is sent.
@@ -111,7 +109,7 @@ impl<K: Keeper + Drop> Node<K> {
     ) -> Result<(Place, List<Sent>), ProposeFault>
         ensures { Proposes self.old number command self.new result }
     {
-        if let Err(fault) = self.admits(alloc, &command) {
+        if let Err(fault) = self.admits(&command) {
             return Err(fault);
         }
         self.enter(alloc, number, command)

@@ -1,13 +1,13 @@
 //! The command bytes of a log, counted once.
 
-ghost use Rattle.std.specs.Prelude.{◌≡◌, ◌+◌, ◌≤◌, nat_le, nat_lt, ◌&&◌, ◌++◌, cond, length, take, IfOk};
+ghost use Rattle.std.specs.Prelude.{◌≡◌, ◌+◌, ◌≤◌, nat_le, nat_lt, ◌&&◌, ◌++◌, cond, length, take};
 ghost use Rattle.cat_model.specs.LogLimits.{command_bytes, is_noop};
+ghost use Rattle.command_codec.specs.Counts.{capped};
 ghost use Rattle.raft_model.specs.Log.{Log};
 ghost use Rattle.raft_node.specs.Counts.{IsCount, bytes_of};
 
-use crate::batch::command_bytes;
-use cat_model::{Command, Entry, Memory};
-use std::alloc::Global;
+use cat_model::{Command, Entry};
+use command_codec::encoded_len;
 
 /// A log has at most so many entries.
 pub const MOST_LOG_ENTRIES: usize = 262_144;
@@ -15,13 +15,13 @@ pub const MOST_LOG_ENTRIES: usize = 262_144;
 /// A log's commands have at most so many bytes, Noops' not counted.
 pub const MOST_LOG_BYTES: u64 = 67_108_864;
 
-/// How many bytes a command adds to those of a log.
-pub fn bytes_in_log(alloc: Global, command: &Command) -> Result<usize, Memory>
-    ensures { IfOk result (λ bytes. bytes ≡ cond (is_noop command.now) 0 (command_bytes command.now)) }
+/// How many bytes a command adds to those of a log, or the greatest number of 64 bits where those are more.
+pub fn bytes_in_log(command: &Command) -> u64
+    ensures { result ≡ capped (cond (is_noop command.now) 0 (command_bytes command.now)) }
 {
     match command {
-        Command::Noop => Ok(0),
-        _ => command_bytes(alloc, command),
+        Command::Noop => 0,
+        _ => encoded_len(command),
     }
 }
 
@@ -68,40 +68,35 @@ impl Counted {
 }
 
 /// How many bytes of these entries count for the limit of a log: those of their commands that are no Noops.
-pub fn log_bytes(alloc: Global, entries: &[Entry]) -> Result<u64, Memory>
-    ensures { IfOk result (λ bytes. bytes ≡ bytes_of entries.now) }
+pub fn log_bytes(entries: &[Entry]) -> u64
+    ensures { result ≡ bytes_of entries.now }
 {
     let mut total: u64 = 0;
     for entry in entries {
-        let bytes = bytes_in_log(alloc, &entry.command)?;
-        total = total.saturating_add(bytes as u64);
+        let bytes = bytes_in_log(&entry.command);
+        total = total.saturating_add(bytes);
     }
-    Ok(total)
+    total
 }
 
 /// The count of a log's first `entries` entries, from a count of others of its first. It reads no more than the
 /// entries between them.
-pub fn counted_at(
-    alloc: Global,
-    log: &[Entry],
-    counted: Counted,
-    entries: usize,
-) -> Result<Counted, Memory>
+pub fn counted_at(log: &[Entry], counted: Counted, entries: usize) -> Counted
     requires within { entries ≤ length log.now }
     requires counted { IsCount log.now counted }
-    ensures count { IfOk result (λ new. IsCount log.now new) }
-    ensures same { IfOk result (λ new. new ≡ record { entries = entries; bytes = bytes_of (take entries log.now) }) }
+    ensures count { IsCount log.now result }
+    ensures same { result ≡ record { entries = entries; bytes = bytes_of (take entries log.now) } }
 {
     if counted.entries <= entries {
-        let more = log_bytes(alloc, &log[counted.entries..entries])?;
+        let more = log_bytes(&log[counted.entries..entries]);
         let bytes = counted.bytes.saturating_add(more);
-        return Ok(Counted { entries, bytes });
+        return Counted { entries, bytes };
     }
     if counted.bytes < u64::MAX {
-        let cut = log_bytes(alloc, &log[entries..counted.entries])?;
+        let cut = log_bytes(&log[entries..counted.entries]);
         let bytes = counted.bytes - cut;
-        return Ok(Counted { entries, bytes });
+        return Counted { entries, bytes };
     }
-    let bytes = log_bytes(alloc, &log[..entries])?;
-    Ok(Counted { entries, bytes })
+    let bytes = log_bytes(&log[..entries]);
+    Counted { entries, bytes }
 }

@@ -176,7 +176,7 @@ fn accepts(
     let last = prev + entries.len() as u64;
     state.role = Role::Follower;
     state.leader = Some(from);
-    match fitting(alloc, log, counted, state.commit, prev as usize, entries)? {
+    match fitting(log, counted, state.commit, prev as usize, entries) {
         Fit::Refused => Ok(quiet(alloc, state)),
         Fit::Stands => {
             let planned = taken(alloc, state, None, from, last, commit, round)?;

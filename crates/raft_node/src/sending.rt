@@ -56,7 +56,7 @@ fn carried(alloc: Global, log: &[Entry], more: &[Entry], prev: u64) -> Result<Li
     ensures { IfOk result (λ carried. carried ≡ batch (drop prev (log.now ++ more.now))) }
 {
     let mut entries = window(alloc, log, more, prev)?;
-    let count = batch_length(alloc, &entries)?;
+    let count = batch_length(&entries);
     entries.truncate(count);
     Ok(List::from(entries))
 }

@@ -6,6 +6,6 @@ use Rattle.raft_node.proofs.sending.carried.Goals as goal
 pub returns : goal.returns
 returns c =
     let e = c.args.log.now ++ c.args.more.now in
-    let counted = c.in_ok-count.ensures.same in
-    c.from.ensures ∙ c.truncate.ensures.items ∙ ap (λ xs. take c.in_ok-count.count xs) (sym c.deref.ensures.value) ∙ counted ∙ ap batch (c.deref.ensures.value ∙ c.in_ok-entries.ensures)
+    let counted = c.batch_length-count.ensures.same in
+    c.from.ensures ∙ c.truncate.ensures.items ∙ ap (λ xs. take c.batch_length-count.result xs) (sym c.deref.ensures.value) ∙ counted ∙ ap batch (c.deref.ensures.value ∙ c.in_ok-entries.ensures)
     ∙ batch_front (drop c.args.prev e)

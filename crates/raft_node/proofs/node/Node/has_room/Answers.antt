@@ -8,9 +8,9 @@ use Rattle.raft_node.specs.declared.counted.Counted.{Counted}
 use Rattle.raft_node.proofs.Bytes.{room_is}
 use Rattle.raft_node.proofs.node.Node.has_room.Goals as goal
 
-pub returns-clause-ok : goal.returns-clause-ok
-returns-clause-ok g c = λ term number.
+pub returns-clause-room : goal.returns-clause-room
+returns-clause-room g c = λ term number.
     let e : Entry = record { term = term; number = number; command = c.args.command.now } in
-    c.fits.ensures ∙ ap (λ k. nat_lt k 262144 && nat_le (c.in_ok-counted.counted.bytes + c.in_ok-bytes.bytes) 67108864) c.len-last.ensures
-    ∙ room_is c.self.inside.log c.in_ok-counted.counted.bytes c.in_ok-bytes.bytes e (ap (λ (z : Counted). z.bytes) c.in_ok-counted.ensures.same ∙ (λ i. bytes_of (take (c.len-last.ensures i) (c.as_slice.ensures i)))) c.in_ok-bytes.ensures
+    c.fits.ensures ∙ ap (λ k. nat_lt k 262144 && nat_le (c.counted_at-counted.result.bytes + c.bytes_in_log.result) 67108864) c.len-last.ensures
+    ∙ room_is c.self.inside.log c.counted_at-counted.result.bytes c.bytes_in_log.result e (ap (λ (z : Counted). z.bytes) c.counted_at-counted.ensures.same ∙ (λ i. bytes_of (take (c.len-last.ensures i) (c.as_slice.ensures i)))) c.bytes_in_log.ensures
     ∙ ap (λ z. keeps_limits (z.log ++ e ∷ [])) c.self.view_is
