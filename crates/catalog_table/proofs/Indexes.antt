@@ -1,5 +1,5 @@
 -- What a second index tells of the rows of a table by node and ID, and what it holds after a row was put or removed.
-use Rattle.std.proofs.Common.{◌≡◌, Bool, true, false, List, [], ◌∷◌, ◌++◌, refl, sym, ◌∙◌, ap, cond, subst, Option, Some, None, filter, map, ◌||◌, Result, Ok, Err}
+use Rattle.std.proofs.Common.{◌≡◌, Bool, true, false, List, [], ◌∷◌, ◌++◌, refl, sym, ◌∙◌, ap, cond, subst, Option, Some, None, filter, map, ◌&&◌, ◌||◌, Result, Ok, Err}
 use Rattle.std.specs.Prelude.{OnOk, OnErr}
 use Rattle.std.specs.List.{filter_map, cons_option, list_any}
 use Rattle.std.specs.Cmp.{IsTotalOrder}
@@ -38,6 +38,18 @@ any_filter {X = X} p (x ∷ xs) = go (p x) (any_filter p xs)
     go true rest = refl
     go false rest = rest
 
+pub any_map : {X Y : Type 0} (p : Y → Bool) (f : X → Y) (xs : List X) → list_any p (map f xs) ≡ list_any (λ x. p (f x)) xs
+any_map p f [] = refl
+any_map p f (x ∷ xs) = ap (λ b. p (f x) || b) (any_map p f xs)
+
+pub any_both : {X : Type 0} (q p : X → Bool) (xs : List X) → list_any p (filter q xs) ≡ list_any (λ x. q x && p x) xs
+any_both q p [] = refl
+any_both {X = X} q p (x ∷ xs) = go (q x) (any_both q p xs)
+  where
+    go : (b : Bool) → list_any p (filter q xs) ≡ list_any (λ x. q x && p x) xs → list_any p (cond b (x ∷ filter q xs) (filter q xs)) ≡ ((b && p x) || list_any (λ x. q x && p x) xs)
+    go true e = ap (λ b. p x || b) e
+    go false e = e
+
 some_map : {X Y : Type 0} (f : X → Y) (xs : List X) → is_some_row (map f xs) ≡ is_some_row xs
 some_map f [] = refl
 some_map f (x ∷ xs) = refl
@@ -48,6 +60,14 @@ first_of {X = X} test x xs = go (test x)
   where
     go : (b : Bool) → is_some_row (cond b (x ∷ leading test xs) []) ≡ b
     go true = refl
+    go false = refl
+
+-- whether one of those in front passes a test, where a walk comes to the next
+pub any_leading : {X : Type 0} (mine test : X → Bool) (x : X) (from rest : List X) → from ≡ x ∷ rest → (m : Bool) → mine x ≡ m → (t : Bool) → test x ≡ t → list_any test (leading mine from) ≡ (m && (t || list_any test (leading mine rest)))
+any_leading {X = X} mine test x from rest is m e t f = ap (λ l. list_any test (leading mine l)) is ∙ ap (λ b. list_any test (cond b (x ∷ leading mine rest) [])) e ∙ go m
+  where
+    go : (m : Bool) → list_any test (cond m (x ∷ leading mine rest) []) ≡ (m && (t || list_any test (leading mine rest)))
+    go true = ap (λ b. b || list_any test (leading mine rest)) f
     go false = refl
 
 append-one : {R : Type 0} (found : List R) (o : Option R) (rest : List R) → (found ++ cons_option o []) ++ rest ≡ found ++ cons_option o rest
@@ -100,6 +120,13 @@ module _ {S R : Type 0} (cmp_s : S → S → Ordering) (total_s : IsTotalOrder c
         ap is_some_row (walk_is cmp_s pair_cmp total_s pair_cmp_total exact_s exact_pair s ([], []) least_pair pairs ordered) ∙ sym (some_map (λ (h : S × Pair). h.1) (filter (is_mine cmp_s s) pairs))
         ∙ ap is_some_row (keys_are cmp_s pair_cmp total_s pair_cmp_total exact_s exact_pair s key place rows pairs asc ordered files)
         ∙ some_map key (filter (labelled s) rows) ∙ sym (any_filter (labelled s) rows)
+
+    -- some row of the label has a key that passes a test where a pair of those that stand there has it
+    pub any_keyed : (test : Pair → Bool) → list_any (λ h. test h.1) (leading (is_mine cmp_s s) (onward cmp_s pair_cmp s ([], []) pairs)) ≡ list_any (λ r. labelled s r && test (key r)) rows
+    any_keyed test =
+        ap (list_any (λ h. test h.1)) (walk_is cmp_s pair_cmp total_s pair_cmp_total exact_s exact_pair s ([], []) least_pair pairs ordered) ∙ sym (any_map test (λ (h : S × Pair). h.1) (filter (is_mine cmp_s s) pairs))
+        ∙ ap (list_any test) (keys_are cmp_s pair_cmp total_s pair_cmp_total exact_s exact_pair s key place rows pairs asc ordered files)
+        ∙ any_map test key (filter (labelled s) rows) ∙ any_both (labelled s) (λ r. test (key r)) rows
 
   apart : (s : S) (old : Option S) → is_place cmp_s s old ≡ false → Apart cmp_s pair_cmp total_s pair_cmp_total exact_s exact_pair old (Some s)
   apart s old h = apart_differ cmp_s pair_cmp total_s pair_cmp_total exact_s exact_pair old (Some s) (λ e. true≢false (sym (ap (is_place cmp_s s) e ∙ ap is_eq (tied_itself total_s s)) ∙ h))

@@ -1,5 +1,5 @@
 -- The names of services, and the statuses and the services of checks, as places in an index.
-use Rattle.std.proofs.Common.{◌≡◌, ℕ, ◌&&◌, List, [], refl, sym, ◌∙◌, ap, Option, Some, None, filter}
+use Rattle.std.proofs.Common.{◌≡◌, ℕ, Bool, not, ◌&&◌, List, [], refl, sym, ◌∙◌, ap, Option, Some, None, filter}
 use Rattle.std.specs.List.{list_any}
 use Rattle.std.specs.Ordering.{is_eq, nat_cmp, ordering_then}
 use Rattle.std.proofs.lemmas.Cmp.{nat_cmp_total, nat_list_cmp_total, tied_itself}
@@ -19,7 +19,7 @@ use Rattle.row_table.proofs.Spans.{leading}
 use Rattle.row_table.proofs.FiledUnder.{is_mine, onward, same_test}
 use Rattle.row_table.proofs.Places.{text_place}
 use Rattle.catalog_table.specs.Filings.{Pair, FilesNames, FilesServices, FilesStatuses, home, home_of, homed, rank, service_of}
-use Rattle.catalog_table.proofs.Indexes.{any_labelled, is_some_row, rows_from, walked}
+use Rattle.catalog_table.proofs.Indexes.{any_keyed, any_labelled, is_some_row, rows_from, walked}
 use Rattle.catalog_table.proofs.Ranges.{pair_place}
 
 pub status_place : (a b : Status) → same_status a b ≡ is_eq (nat_cmp (rank b) (rank a))
@@ -48,6 +48,16 @@ pub any_named : (name : List ℕ) (rows : List ServiceRow) (pairs : List (List �
 any_named name rows pairs asc ordered files =
     any_labelled text_cmp nat_list_cmp_total exact_bytes service_key label_name name rows pairs asc ordered files
     ∙ λ i. list_any (λ r. sym (text_place r.name name) i) rows
+
+-- a pair of another node
+abbrev pub is_off : List ℕ → Pair → Bool
+is_off node k = not (same_text k.0 node)
+
+pub any_elsewhere : (name node : List ℕ) (rows : List ServiceRow) (pairs : List (List ℕ × Pair)) → Ascends pair_cmp service_key rows → Ascends (filed_cmp text_cmp pair_cmp) filed_key pairs → FilesNames rows pairs
+    → list_any (λ h. is_off node h.1) (leading (is_mine text_cmp name) (onward text_cmp pair_cmp name ([], []) pairs)) ≡ list_any (λ r. same_text r.name name && not (same_text r.node node)) rows
+any_elsewhere name node rows pairs asc ordered files =
+    any_keyed text_cmp nat_list_cmp_total exact_bytes service_key label_name name rows pairs asc ordered files (is_off node)
+    ∙ λ i. list_any (λ r. sym (text_place r.name name) i && not (same_text r.node node)) rows
 
 pub statuses_walked : (status : Status) (rows : List CheckRow) (pairs : List (ℕ × Pair)) → Ascends pair_cmp check_key rows → Ascends (filed_cmp nat_cmp pair_cmp) filed_key pairs → FilesStatuses rows pairs → rows_from nat_cmp check_key (rank status) rows pairs ≡ filter (λ r. same_status r.status status) rows
 statuses_walked status rows pairs asc ordered files =

@@ -14,3 +14,6 @@ pub mod Ranges
 pub mod Indexes
 pub mod Labels
 pub mod Deregistering
+pub mod Sorting
+pub mod Leaving
+pub mod OwnChecks

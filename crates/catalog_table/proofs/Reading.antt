@@ -25,6 +25,7 @@ use Rattle.catalog_table.specs.Touching.{Touches, check_services, name_in, is_wh
 use Rattle.catalog_table.specs.declared.touched.Touched.{Touched}
 use Rattle.catalog_table.proofs.Edits.{Found, found, any_row, or_right, same_itself, has_filter, has_passing, edited_here, edited_differs, unedited, same_rows, has_is, found_has}
 use Rattle.catalog_table.proofs.Naming.{same_turned}
+use Rattle.catalog_table.proofs.Indexes.{any_map, any_both}
 
 or_parts : (a b : Bool) → (a || b) ≡ true → {X : Type 0} → (a ≡ true → X) → (b ≡ true → X) → X
 or_parts true b h f g = f refl
@@ -40,18 +41,6 @@ both_true {a} {b} h g = (λ i. h i && g i)
 either : (b : Bool) {X : Type 0} → (b ≡ true → X) → (b ≡ false → X) → X
 either true f g = f refl
 either false f g = g refl
-
-any_map : {X Y : Type 0} (p : Y → Bool) (f : X → Y) (xs : List X) → list_any p (map f xs) ≡ list_any (λ x. p (f x)) xs
-any_map p f [] = refl
-any_map p f (x ∷ xs) = ap (λ b. p (f x) || b) (any_map p f xs)
-
-any_both : {X : Type 0} (q p : X → Bool) (xs : List X) → list_any p (filter q xs) ≡ list_any (λ x. q x && p x) xs
-any_both q p [] = refl
-any_both {X = X} q p (x ∷ xs) = go (q x) (any_both q p xs)
-  where
-    go : (b : Bool) → list_any p (filter q xs) ≡ list_any (λ x. q x && p x) xs → list_any p (cond b (x ∷ filter q xs) (filter q xs)) ≡ ((b && p x) || list_any (λ x. q x && p x) xs)
-    go true e = ap (λ b. p x || b) e
-    go false e = e
 
 -- the service that a key finds has the name
 abbrev has_name_in : List ℕ → Option ServiceRow → Bool

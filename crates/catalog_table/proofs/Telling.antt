@@ -1,5 +1,5 @@
 -- What changed, told from what was touched of a node.
-use Rattle.std.proofs.Common.{◌≡◌, ℕ, Bool, true, false, not, List, [], ◌∷◌, refl, sym, ◌∙◌, ap, subst, filter, map, ◌&&◌}
+use Rattle.std.proofs.Common.{◌≡◌, ℕ, Bool, true, false, not, List, [], ◌∷◌, refl, sym, ◌∙◌, ap, subst, filter, map, ◌&&◌, Option, Some, None}
 use Rattle.std.specs.List.{IsDistinct, list_any}
 use Rattle.std.proofs.lemmas.Bool.{true≢false}
 use Rattle.std.proofs.lemmas.Cmp.{nat_list_cmp_total}
@@ -15,7 +15,7 @@ use Rattle.cat_model.proofs.SameLemmas.{node_decides, service_decides, check_dec
 use Rattle.cat_model.proofs.Pairs.{pair_cmp_total, exact_pair}
 use Rattle.catalog_table.specs.Rows.{Rows, catalog_of}
 use Rattle.catalog_table.specs.Names.{is_among}
-use Rattle.catalog_table.specs.Changes.{is_named, reads_differ, vanishes, Tells}
+use Rattle.catalog_table.specs.Changes.{is_named, reads_differ, vanishes, AreGone, MayBeGone, gone_of, Tells}
 use Rattle.catalog_table.specs.Touching.{Touches, names_read}
 use Rattle.catalog_table.specs.declared.changed.Changed.{Changed}
 use Rattle.catalog_table.specs.declared.touched.Touched.{Touched}
@@ -48,9 +48,18 @@ gone old new name = go (is_named name old) refl (is_named name new) refl (same_c
     go false p false q false e =
         absurd (true≢false (sym ((catalog_decides _ _).1 (reads_nothing name old p ∙ sym (reads_nothing name new q))) ∙ e))
 
+-- the names that are known, or else those of the names that no service has now
+are_gone : (old new : Rows) (names vanished : List (List ℕ)) → ((name : List ℕ) → is_among names name ≡ reads_differ old new name) → IsDistinct same_text names → (known : Option (List (List ℕ))) → MayBeGone old new known → vanished ≡ gone_of new names known → AreGone old new vanished
+are_gone old new names vanished differing once (Some found) known are = subst (AreGone old new) (sym are) known
+are_gone old new names vanished differing once None known are =
+    record {
+      each = λ name. ap (λ l. is_among l name) are ∙ among_filter (λ n. not (is_named n new)) names name ∙ ap (λ b. not (is_named name new) && b) (differing name) ∙ gone old new name;
+      once = subst (IsDistinct same_text) (sym are) (distinct_filter (λ n. not (is_named n new)) names once);
+    }
+
 pub told : (node : List ℕ) (old new : Rows) (t : Touched) (c : Changed) → Touches node old new t → c.nodes ≡ t.nodes → c.services ≡ not (is_empty t.names) → c.checks ≡ not (is_empty t.served)
-    → ((name : List ℕ) → is_among c.names name ≡ is_among (names_read node new t) name) → IsDistinct same_text c.names → c.vanished ≡ filter (λ n. not (is_named n new)) c.names → Tells old new c
-told node old new t c touches nodes services checks names once vanished =
+    → ((name : List ℕ) → is_among c.names name ≡ is_among (names_read node new t) name) → IsDistinct same_text c.names → (known : Option (List (List ℕ))) → MayBeGone old new known → c.vanished ≡ gone_of new c.names known → Tells old new c
+told node old new t c touches nodes services checks names once found known vanished =
     record {
       nodes = nodes ∙ touches.told ∙ edits_told text_cmp node_key nat_list_cmp_total exact_bytes same_node node_decides old.nodes new.nodes touches.node_edits touches.before.nodes touches.after.nodes touches.nodes_edited;
       services =
@@ -61,9 +70,12 @@ told node old new t c touches nodes services checks names once vanished =
           ∙ edits_told pair_cmp check_key pair_cmp_total exact_pair same_check check_decides old.checks new.checks touches.check_edits touches.before.checks touches.after.checks touches.checks_edited;
       names = differing;
       names_once = once;
-      vanished = λ name. ap (λ l. is_among l name) vanished ∙ among_filter (λ n. not (is_named n new)) c.names name ∙ ap (λ b. not (is_named name new) && b) (differing name) ∙ gone old new name;
-      vanished_once = subst (IsDistinct same_text) (sym vanished) (distinct_filter (λ n. not (is_named n new)) c.names once);
+      vanished = those.each;
+      vanished_once = those.once;
     }
   where
     differing : (name : List ℕ) → is_among c.names name ≡ reads_differ old new name
     differing name = names name ∙ names_told node old new t touches name
+
+    those : AreGone old new c.vanished
+    those = are_gone old new c.names c.vanished differing once found known vanished

@@ -1,5 +1,5 @@
 -- What a change of the rows changes: which tables, and which service names' reads.
-use Rattle.std.specs.Prelude.{◌≡◌, ℕ, Bool, not, List, ◌&&◌}
+use Rattle.std.specs.Prelude.{◌≡◌, ℕ, Bool, not, List, ◌&&◌, Option, Some, None, filter}
 use Rattle.std.specs.List.{IsDistinct}
 use Rattle.std.specs.Cmp.Lexicographic.{pointwise}
 use Rattle.cat_model.specs.Keys.{same_text}
@@ -22,6 +22,21 @@ reads_differ old new name = not (same_catalog (service_rows name (catalog_of old
 -- the name has service rows before and none after
 abbrev pub vanishes : Rows → Rows → List ℕ → Bool
 vanishes old new name = is_named name old && not (is_named name new)
+
+-- these are the names that vanish, each once
+pub record AreGone (old new : Rows) (names : List (List ℕ)) : Type 0 where
+  pub each : (name : List ℕ) → is_among names name ≡ vanishes old new name
+  pub once : IsDistinct same_text names
+
+-- the same of names that may be known
+abbrev pub MayBeGone : Rows → Rows → Option (List (List ℕ)) → Type 0
+MayBeGone old new None = Unit {0}
+MayBeGone old new (Some names) = AreGone old new names
+
+-- the names that vanished: those that are known, or those of the names that no service has now
+abbrev pub gone_of : Rows → List (List ℕ) → Option (List (List ℕ)) → List (List ℕ)
+gone_of new names None = filter (λ name. not (is_named name new)) names
+gone_of new names (Some known) = known
 
 -- the change from old to new: the tables that differ, the names whose reads differ and those that vanish, each once
 pub record Tells (old new : Rows) (c : Changed) : Type 0 where

@@ -1,10 +1,10 @@
 //! The rows of checks together with the indexes of those of each status and of each service.
 
-ghost use Rattle.std.specs.Prelude.{◌≡◌, ◌&&◌, [], IfOk, OnOk, filter};
+ghost use Rattle.std.specs.Prelude.{◌≡◌, ◌&&◌, ◌||◌, [], IfOk, OnOk, filter};
 ghost use Rattle.std.specs.Option.{option_copied};
 ghost use Rattle.std.specs.Ordering.{is_eq};
 ghost use Rattle.cat_model.specs.Catalog.{check_at, check_key};
-ghost use Rattle.cat_model.specs.Keys.{pair_cmp, same_text};
+ghost use Rattle.cat_model.specs.Keys.{is_empty, pair_cmp, same_text};
 ghost use Rattle.cat_model.specs.Same.{same_status};
 ghost use Rattle.cat_model.specs.Tables.{put, without, Ascends};
 
@@ -103,6 +103,19 @@ impl CheckTable {
         ensures { IfOk result (λ l. l ≡ filter (λ r. same_text r.node node.now && same_text r.service service.now) self.now.now) }
     {
         let found = served::filed_under(alloc, &self.rows, &self.services, node, service)?;
+        Ok(List::from(found))
+    }
+
+    /// Copies of the checks that count for a service of the node: its own and the node's own.
+    pub(crate) fn counting_for(
+        &self,
+        alloc: Global,
+        node: &str,
+        service: &str,
+    ) -> Result<List<CheckRow>, Memory>
+        ensures { IfOk result (λ l. l ≡ filter (λ r. same_text r.node node.now && (is_empty r.service || same_text r.service service.now)) self.now.now) }
+    {
+        let found = served::counting_for(alloc, &self.rows, &self.services, node, service)?;
         Ok(List::from(found))
     }
 

@@ -1,12 +1,12 @@
 //! The undoing of a registration.
 
-ghost use Rattle.std.specs.Prelude.{◌≡◌, [], IfOk, OnErr, OnOk};
-ghost use Rattle.std.specs.List.{cons_option};
+ghost use Rattle.std.specs.Prelude.{◌≡◌, ◌&&◌, [], IfOk, OnErr, OnOk, filter, not};
+ghost use Rattle.std.specs.List.{cons_option, list_any};
 ghost use Rattle.cat_model.specs.Catalog.{check_at, check_key, service_at, service_key};
-ghost use Rattle.cat_model.specs.Keys.{is_empty, pair_cmp};
+ghost use Rattle.cat_model.specs.Keys.{is_empty, pair_cmp, same_text};
 ghost use Rattle.cat_model.specs.Machine.{deregister as the_deregister};
 ghost use Rattle.catalog_table.specs.Rows.{rows_of, catalog_of};
-ghost use Rattle.catalog_table.specs.Changes.{Tells};
+ghost use Rattle.catalog_table.specs.Changes.{AreGone, MayBeGone, Tells};
 ghost use Rattle.catalog_table.specs.Steps.{IsUndone, step_of, take_service as the_take_service, take_check as the_take_check, take_node as the_take_node};
 ghost use Rattle.catalog_table.specs.Takes.{without_each};
 ghost use Rattle.catalog_table.specs.Touching.{check_services, check_touches, name_in, node_touches, service_touches, take_touches};
@@ -14,19 +14,15 @@ ghost use Rattle.catalog_table.specs.Touching.{check_services, check_touches, na
 use crate::checks::CheckTable;
 use crate::copies::copy_of;
 use crate::names::{names_of, services_of};
+use crate::once::each_once;
+use crate::same::is_blank;
 use crate::services::ServiceTable;
 use crate::touched::Touched;
 use crate::{CatalogTable, Changed};
-use cat_model::lists::one;
-use cat_model::{Applied, CheckRow, Command, List, Memory, ServiceRow, Texts};
+use cat_model::lists::{kept, one};
+use cat_model::{Applied, CheckRow, Command, List, Memory, ServiceRow, Text, Texts};
 use row_table::ByNode;
 use std::alloc::Global;
-
-fn is_blank(text: &str) -> bool
-    ensures { result ≡ is_empty text.now }
-{
-    text.len() == 0
-}
 
 // Removes the rows of these services.
 fn take_services(services: &mut ServiceTable, gone: &[ServiceRow])
@@ -147,6 +143,49 @@ impl CatalogTable {
         }
     }
 
+    // Whether a service of another node has this name.
+    fn is_elsewhere(&self, name: &Text, node: &str) -> bool
+        ensures { result ≡ list_any (λ r. same_text r.name name.now && not (same_text r.node node.now)) self.now.now.services }
+    {
+        self.services.is_elsewhere(name.as_str(), node)
+    }
+
+    // Those of the names that the other nodes' services do not have.
+    fn names_apart(&self, alloc: Global, names: &[Text], node: &str) -> Result<Texts, Memory>
+        ensures { IfOk result (λ l. l ≡ filter (λ n. not (list_any (λ r. same_text r.name n && not (same_text r.node node.now)) self.now.now.services)) names.now) }
+    {
+        kept(alloc, names, |n| !self.is_elsewhere(n, node))
+    }
+
+    // The names that the node's services alone have, each once.
+    fn names_alone(&self, alloc: Global, node: &str) -> Result<Texts, Memory>
+        ensures { IfOk result (AreGone self.now.now (the_take_node node.now self.now.now)) }
+    {
+        let mut names = List::new(alloc);
+        self.services.add_names_on(&mut names, node)?;
+        let names = each_once(alloc, names)?;
+        self.names_apart(alloc, names.as_slice(), node)
+    }
+
+    // The names that vanish, where it is the node that will be removed. They are told beforehand, since behind it each
+    // look for a name would walk over the places of the services that went.
+    #[tactic(auto, unfolding(cat_model::specs::Machine::deregister))]
+    fn gone_with(
+        &self,
+        alloc: Global,
+        node: &str,
+        service: &str,
+        check: &str,
+    ) -> Result<Option<Texts>, Memory>
+        ensures { IfOk result (MayBeGone self.now.now (rows_of (the_deregister node.now service.now check.now (catalog_of self.now.now)))) }
+    {
+        if is_blank(service) && is_blank(check) {
+            Ok(Some(self.names_alone(alloc, node)?))
+        } else {
+            Ok(None)
+        }
+    }
+
     fn take_and_tell(
         &mut self,
         alloc: Global,
@@ -159,8 +198,9 @@ impl CatalogTable {
         ensures before { self.new.before ≡ self.old.before }
     {
         self.in_order();
+        let known = self.gone_with(alloc, node, service, check)?;
         let touched = self.take(alloc, node, service, check)?;
-        self.changed_by(alloc, node, touched)
+        self.changed_by(alloc, node, touched, known)
     }
 
     /// Removes the service with its checks, or where `service` is empty the check, or where both are empty the node with

@@ -117,7 +117,7 @@ impl CatalogTable {
     {
         self.in_order();
         let touched = self.put_all(alloc, position, node, address, service, checks)?;
-        self.changed_by(alloc, node.as_str(), touched)
+        self.changed_by(alloc, node.as_str(), touched, None)
     }
 
     fn try_register(

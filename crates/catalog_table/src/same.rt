@@ -1,11 +1,17 @@
-//! Whether texts or rows are equal.
+//! Whether texts are empty, and whether texts or rows are equal.
 
 ghost use Rattle.std.specs.Prelude.{◌≡◌};
-ghost use Rattle.cat_model.specs.Keys.{same_text, same_texts};
+ghost use Rattle.cat_model.specs.Keys.{is_empty, same_text, same_texts};
 ghost use Rattle.cat_model.specs.Same.{same_bool, same_status, alike_nodes, alike_services, alike_checks};
 
 use cat_model::lists::all_same;
 use cat_model::{CheckRow, NodeRow, ServiceRow, Status, Text, Texts};
+
+pub(crate) fn is_blank(text: &str) -> bool
+    ensures { result ≡ is_empty text.now }
+{
+    text.len() == 0
+}
 
 pub(crate) fn is_same(a: &Text, b: &Text) -> bool
     ensures { result ≡ same_text a.now b.now }

@@ -1,18 +1,19 @@
 //! Which checks each service has, by the service's node and ID there and then by the check's. The rows and the index
 //! of those of each status are changed with it.
 
-ghost use Rattle.std.specs.Prelude.{◌≡◌, ◌&&◌, Some, IfOk, OnErr, OnOk, false, filter};
-ghost use Rattle.std.specs.Ordering.{is_eq};
+ghost use Rattle.std.specs.Prelude.{◌≡◌, ◌&&◌, ◌||◌, Some, IfOk, OnErr, OnOk, false, filter};
+ghost use Rattle.std.specs.List.Sorted.{IsPermutation, IsSortedBy};
+ghost use Rattle.std.specs.Ordering.{is_eq, is_lt};
 ghost use Rattle.std.proofs.lemmas.Map.Lookups.{exact_pairs};
 ghost use Rattle.cat_model.proofs.Pairs.{both_total, exact_pair, pair_cmp_total};
 ghost use Rattle.cat_model.specs.Catalog.{check_at, check_key};
-ghost use Rattle.cat_model.specs.Keys.{pair_cmp, same_text, text_cmp};
+ghost use Rattle.cat_model.specs.Keys.{is_empty, pair_cmp, same_text, text_cmp};
 ghost use Rattle.cat_model.specs.Tables.{put, without};
 ghost use Rattle.row_table.specs.Filing.{filed, filed_cmp, filed_key, is_place, place_of, unfiled};
 ghost use Rattle.catalog_table.specs.Filings.{home, homed, service_of, FilesServices, FilesStatuses};
 
 use crate::copies::{add_check, copy_of};
-use crate::same::{is_same, is_text};
+use crate::same::{is_blank, is_same, is_text};
 use crate::stated::{self, Stated};
 use cat_model::{CheckRow, Memory, Text};
 use row_table::{ByPair, Probe, Row, RowTable};
@@ -283,5 +284,36 @@ pub(crate) fn filed_under(
         }
         add_check(&mut found, rows, &entry.node, &entry.id)?;
     }
+    Ok(found)
+}
+
+// Brings the rows into the order of their keys. Those that come as two lists in order are merged.
+fn sort(rows: &mut Vec<CheckRow>) -> Result<(), Memory>
+    ensures moved { IsPermutation rows.old.items rows.new.items }
+    ensures sorted { OnOk result (IsSortedBy (λ a b. is_lt (pair_cmp (check_key a) (check_key b))) rows.new.items) }
+{
+    rows.sort_by(|a, b| a.order(b))?;
+    Ok(())
+}
+
+/// Copies of the rows that count for a service of the node: its own, and those of the node alone.
+pub(crate) fn counting_for(
+    alloc: Global,
+    rows: &RowTable<CheckRow>,
+    services: &RowTable<Served>,
+    node: &str,
+    service: &str,
+) -> Result<Vec<CheckRow>, Memory>
+    requires { FilesServices rows.now.now services.now.now }
+    ensures { IfOk result (λ v. v.items ≡ filter (λ r. same_text r.node node.now && (is_empty r.service || same_text r.service service.now)) rows.now.now) }
+{
+    rows.in_order();
+    let mut found = filed_under(alloc, rows, services, node, "")?;
+    if is_blank(service) {
+        return Ok(found);
+    }
+    let mut own = filed_under(alloc, rows, services, node, service)?;
+    found.append(&mut own)?;
+    sort(&mut found)?;
     Ok(found)
 }

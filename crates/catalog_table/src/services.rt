@@ -1,6 +1,6 @@
 //! The rows of services together with the index of those of each name.
 
-ghost use Rattle.std.specs.Prelude.{◌≡◌, ◌++◌, [], Some, IfOk, OnErr, OnOk, false, filter};
+ghost use Rattle.std.specs.Prelude.{◌≡◌, ◌++◌, ◌&&◌, [], Some, IfOk, OnErr, OnOk, false, filter, not};
 ghost use Rattle.std.specs.List.{cons_option, filter_map, list_any};
 ghost use Rattle.std.specs.Option.{option_copied};
 ghost use Rattle.std.specs.Ordering.{is_eq};
@@ -164,6 +164,34 @@ fn is_filed(rows: &RowTable<ServiceRow>, names: &RowTable<Named>, name: &str) ->
     }
 }
 
+// Whether a service of another node is filed under the name.
+fn is_filed_elsewhere(
+    rows: &RowTable<ServiceRow>,
+    names: &RowTable<Named>,
+    name: &str,
+    node: &str,
+) -> bool
+    requires { FilesNames rows.now.now names.now.now }
+    ensures { result ≡ list_any (λ r. same_text r.name name.now && not (same_text r.node node.now)) rows.now.now }
+{
+    rows.in_order();
+    names.in_order();
+    let least = ByName {
+        name,
+        node: "",
+        id: "",
+    };
+    for entry in names.rows_from(&least) {
+        if !is_text(&entry.name, name) {
+            return false;
+        }
+        if !is_text(&entry.node, node) {
+            return true;
+        }
+    }
+    false
+}
+
 // Adds a copy of the row of a key, if it is there.
 fn add_row(
     found: &mut Vec<ServiceRow>,
@@ -207,6 +235,17 @@ fn filed_under(
         add_row(&mut found, rows, entry)?;
     }
     Ok(found)
+}
+
+// The names of all services.
+fn each_name(alloc: Global, rows: &RowTable<ServiceRow>) -> Result<Texts, Memory>
+    ensures { IfOk result (λ l. l ≡ service_names rows.now.now) }
+{
+    let mut names = List::new(alloc);
+    for row in rows.rows() {
+        names.push(copy_of(&row.name)?)?;
+    }
+    Ok(names)
 }
 
 // Adds the names of the node's services.
@@ -291,6 +330,20 @@ impl ServiceTable {
         ensures { result ≡ list_any (λ r. same_text r.name name.now) self.now.now }
     {
         is_filed(&self.rows, &self.names, name)
+    }
+
+    /// Whether a service of another node has this name.
+    pub(crate) fn is_elsewhere(&self, name: &str, node: &str) -> bool
+        ensures { result ≡ list_any (λ r. same_text r.name name.now && not (same_text r.node node.now)) self.now.now }
+    {
+        is_filed_elsewhere(&self.rows, &self.names, name, node)
+    }
+
+    /// The names of all services, by node and then by ID.
+    pub(crate) fn each_name(&self, alloc: Global) -> Result<Texts, Memory>
+        ensures { IfOk result (λ l. l ≡ service_names self.now.now) }
+    {
+        each_name(alloc, &self.rows)
     }
 
     /// Copies of the services with this name.

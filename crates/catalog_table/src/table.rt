@@ -1,14 +1,14 @@
-ghost use Rattle.std.specs.Prelude.{◌&&◌, ◌≡◌, ℕ, List as Items, IfErr, IfOk, OnErr, OnOk, filter, not};
+ghost use Rattle.std.specs.Prelude.{◌&&◌, ◌||◌, ◌≡◌, ℕ, List as Items, IfErr, IfOk, OnErr, OnOk, filter, map};
 ghost use Rattle.std.specs.List.{IsDistinct};
 ghost use Rattle.std.specs.Option.{option_copied};
-ghost use Rattle.cat_model.specs.Keys.{text_cmp, pair_cmp, same_text};
+ghost use Rattle.cat_model.specs.Keys.{is_empty, text_cmp, pair_cmp, same_text};
 ghost use Rattle.cat_model.specs.Same.{same_status};
 ghost use Rattle.cat_model.specs.Tables.{Ascends};
 ghost use Rattle.cat_model.specs.Catalog.{node_at, service_at, check_at, node_key, service_key, check_key};
 ghost use Rattle.catalog_table.specs.Rows.{Rows, no_rows, catalog_of, InOrder};
 ghost use Rattle.catalog_table.specs.Names.{is_among};
 ghost use Rattle.catalog_table.specs.Touching.{names_read, Touches};
-ghost use Rattle.catalog_table.specs.Changes.{is_named, Tells};
+ghost use Rattle.catalog_table.specs.Changes.{gone_of, is_named, MayBeGone, Tells};
 ghost use Rattle.catalog_table.specs.Steps.{IsRegister, IsNotDone, IsUndone, step_of, put_rows, take_service, take_check, take_node};
 
 use crate::checks::CheckTable;
@@ -75,6 +75,20 @@ impl CatalogTable {
         self.checks.get(node, id)
     }
 
+    /// Whether some service has this name.
+    pub fn has_name(&self, name: &str) -> bool
+        ensures { result ≡ is_named name.now self.now.now }
+    {
+        self.services.has_name(name)
+    }
+
+    /// Copies of the names of all services, by node and then by ID.
+    pub fn service_names(&self, alloc: Global) -> Result<Texts, Memory>
+        ensures { IfOk result (λ l. l ≡ map (λ r. r.name) self.now.now.services) }
+    {
+        self.services.each_name(alloc)
+    }
+
     /// Copies of the services with this name, by node and then by ID.
     pub fn services_named(&self, alloc: Global, name: &str) -> Result<List<ServiceRow>, Memory>
         ensures { IfOk result (λ l. l ≡ filter (λ r. same_text r.name name.now) self.now.now.services) }
@@ -106,6 +120,18 @@ impl CatalogTable {
         ensures { IfOk result (λ l. l ≡ filter (λ r. same_text r.node node.now && same_text r.service service.now) self.now.now.checks) }
     {
         self.checks.of_service(alloc, node, service)
+    }
+
+    /// Copies of the checks that count for a service of the node, by ID: its own and the node's own.
+    pub fn checks_for(
+        &self,
+        alloc: Global,
+        node: &str,
+        service: &str,
+    ) -> Result<List<CheckRow>, Memory>
+        ensures { IfOk result (λ l. l ≡ filter (λ r. same_text r.node node.now && (is_empty r.service || same_text r.service service.now)) self.now.now.checks) }
+    {
+        self.checks.counting_for(alloc, node, service)
     }
 
     /// Copies of the checks in this state, by node and then by ID.
@@ -164,18 +190,14 @@ impl CatalogTable {
         self.checks.undo();
     }
 
-    // Whether some service has this name.
-    fn has_name(&self, name: &Text) -> bool
-        ensures { result ≡ is_named name.now self.now.now }
+    // Those of the names that no service has, or those of which that is known.
+    fn vanished(&self, alloc: Global, names: &[Text], known: Option<Texts>) -> Result<Texts, Memory>
+        ensures { IfOk result (λ l. l ≡ gone_of self.now.now names.now known) }
     {
-        self.services.has_name(name.as_str())
-    }
-
-    // Those of the names that no service has.
-    fn unnamed(&self, alloc: Global, names: &[Text]) -> Result<Texts, Memory>
-        ensures { IfOk result (λ l. l ≡ filter (λ n. not (is_named n self.now.now)) names.now) }
-    {
-        kept(alloc, names, |n| !self.has_name(n))
+        match known {
+            Some(names) => Ok(names),
+            None => kept(alloc, names, |n| !self.has_name(n.as_str())),
+        }
     }
 
     // The names of which a read takes something else, each once.
@@ -187,20 +209,21 @@ impl CatalogTable {
         each_once(alloc, names)
     }
 
-    // What changed, where this is what was touched of the node.
+    // What changed, where this is what was touched of the node, and these names vanished, if that is known.
     pub(crate) fn changed_by(
         &self,
         alloc: Global,
         node: &str,
         touched: Touched,
+        known: Option<Texts>,
     ) -> Result<Changed, Memory>
-        ensures { IfOk result (λ c. (old : Rows) → Touches node.now old self.now.now touched → Tells old self.now.now c) }
+        ensures { IfOk result (λ c. (old : Rows) → Touches node.now old self.now.now touched → MayBeGone old self.now.now known → Tells old self.now.now c) }
     {
         let nodes = touched.nodes;
         let services = is_some_of(touched.names.as_slice());
         let checks = is_some_of(touched.served.as_slice());
         let names = self.names_changed(alloc, node, touched)?;
-        let vanished = self.unnamed(alloc, names.as_slice())?;
+        let vanished = self.vanished(alloc, names.as_slice(), known)?;
         Ok(Changed {
             nodes,
             services,

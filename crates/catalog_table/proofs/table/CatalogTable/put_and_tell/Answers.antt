@@ -12,4 +12,4 @@ returns-clause-tells c =
     let made : Touches node old put (put_touches c.args.position node c.args.address.now c.args.service.now c.args.checks.now old) =
     put_touched c.args.position node c.args.address.now c.args.service.now c.args.checks.now old c.in_order.ensures c.requires in
     let here : Touches node old new c.in_ok-touched.touched = subst (λ r. Touches node old r c.in_ok-touched.touched) (sym c.in_ok-touched.ensures.ok) (subst (Touches node old put) (sym c.in_ok-touched.ensures.told) made) in
-    IfOk-weaker c.changed_by.result _ _ (λ x told. told old (subst (λ n. Touches n old new c.in_ok-touched.touched) (sym c.as_str.ensures) here)) c.changed_by.ensures
+    IfOk-weaker c.changed_by.result _ _ (λ x told. told old (subst (λ n. Touches n old new c.in_ok-touched.touched) (sym c.as_str.ensures) here) tt) c.changed_by.ensures

@@ -2,6 +2,7 @@ use Rattle.std.proofs.Common.{sym, subst}
 use Rattle.std.proofs.lemmas.Result.{IfOk-weaker}
 use Rattle.cat_model.specs.Machine.{deregister}
 use Rattle.catalog_table.specs.Rows.{rows_of, catalog_of}
+use Rattle.catalog_table.specs.Changes.{MayBeGone}
 use Rattle.catalog_table.specs.Touching.{Touches}
 use Rattle.catalog_table.proofs.Touching.{take_touched}
 use Rattle.catalog_table.proofs.table.CatalogTable.take_and_tell.Goals as goal
@@ -13,4 +14,5 @@ returns-clause-tells c =
     let here : Touches node old new c.in_ok-touched.touched =
     subst (λ r. Touches node old r c.in_ok-touched.touched) (sym c.in_ok-touched.ensures.now)
     (subst (Touches node old left) (sym c.in_ok-touched.ensures.told) (take_touched node old c.in_order.ensures c.args.service.now c.args.check.now)) in
-    IfOk-weaker c.changed_by.result _ _ (λ x told. told old here) c.changed_by.ensures
+    let known : MayBeGone old new c.in_ok-known.known = subst (λ r. MayBeGone old r c.in_ok-known.known) (sym c.in_ok-touched.ensures.now) c.in_ok-known.ensures in
+    IfOk-weaker c.changed_by.result _ _ (λ x told. told old here known) c.changed_by.ensures
