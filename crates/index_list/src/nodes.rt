@@ -9,6 +9,7 @@ ghost use Rattle.index_list.specs.declared.nodes.LinkFault.TheVariants as faults
 
 use crate::family::Family;
 use crate::lists::Lists;
+use cat_model::Memory;
 use std::alloc::{AllocError, Global};
 use std::marker::Model;
 use thiserror::Error;
