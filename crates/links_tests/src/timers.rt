@@ -1,8 +1,8 @@
 //! The wheel of timers: what is due, in which order, and how fast.
 
+use cat_model::Memory;
 use std::alloc::Global;
 use std::test::Fail;
-use cat_model::Memory;
 use timer_wheel::TimerWheel;
 
 /// How many timers a wheel can have.

@@ -6,7 +6,7 @@ use Rattle.read_watch.proofs.Leavers.{keys_fit}
 use Rattle.read_watch.proofs.leaving.take_due.Goals as goal
 
 pub numbers_of-requires : goal.numbers_of-requires
-numbers_of-requires c = subst (AllByRecursion (λ k. k < 2 ^ 64)) (sym c.as_slice.ensures.value) (keys_fit c.args.timers.now c.args.clock c.in-Ok.keys.items c.requires c.in-Ok.ensures.due)
+numbers_of-requires c = subst (AllByRecursion (λ k. k < 2 ^ 64)) (sym c.as_slice.ensures.value) (keys_fit c.args.timers.now c.args.clock c.in_ok-keys.keys.items c.requires c.in_ok-keys.ensures.due)
 
-pub returns-in-Ok-clause-numbers : goal.returns-in-Ok-clause-numbers
-returns-in-Ok-clause-numbers c = subst AreNumbers (sym c.in-Ok.ensures.left) (numbers_passing (λ t. not (nat_le t.1 c.args.clock)) c.args.timers.now c.requires)
+pub returns-clause-numbers : goal.returns-clause-numbers
+returns-clause-numbers c = subst AreNumbers (sym c.in_ok-keys.ensures.left) (numbers_passing (λ t. not (nat_le t.1 c.args.clock)) c.args.timers.now c.requires)
