@@ -4,6 +4,7 @@ use Rattle.std.specs.Prelude.{find}
 use Rattle.std.specs.List.{AllByRecursion, list_any, filter_map, cons_option}
 use Rattle.std.specs.Ordering.{is_eq}
 use Rattle.std.proofs.lemmas.Bool.{false≢true, and_parts}
+use Rattle.std.proofs.lemmas.Bool.Decides.{same_from_decides}
 use Rattle.std.proofs.lemmas.Cmp.{nat_list_cmp_total, tied_itself}
 use Rattle.std.proofs.lemmas.Map.Lookups.{exact_bytes}
 use Rattle.cat_model.specs.Keys.{text_cmp, pair_cmp, same_text, is_empty}
@@ -20,7 +21,7 @@ use Rattle.cat_model.proofs.TableLemmas.{All-filter_test, row_at-filter}
 use Rattle.health_view.specs.Rows.{rows_with}
 use Rattle.health_view.proofs.Joining as joining
 use Rattle.cat_model.specs.Lists.{flat}
-use Rattle.catalog_query.specs.Placing.{placed}
+use Rattle.catalog_query.specs.Placing.{counts_for, placed}
 use Rattle.catalog_query.proofs.Filters.{filter_weaker, map_alike, each_found, both_hold, flat_is}
 
 abbrev shown_as : CheckRow → List ℕ → CheckView
@@ -66,7 +67,7 @@ module _ (k : Catalog) (name : List ℕ) where
     own_nodes = cons_option (node_at s.node k.nodes) []
 
     abbrev own_checks : List CheckRow
-    own_checks = filter (λ c. same_text c.node s.node) k.checks
+    own_checks = filter (counts_for s) k.checks
 
     abbrev own : Catalog
     own = rows_with (s ∷ []) own_nodes own_checks
@@ -79,8 +80,11 @@ module _ (k : Catalog) (name : List ℕ) where
     counted : (c : CheckRow) → is_of (s ∷ []) c ≡ true → counts s c ≡ true
     counted c e = sym (or_false (counts s c)) ∙ e
 
-    on_node : (c : CheckRow) → is_of (s ∷ []) c ≡ true → same_text c.node s.node ≡ true
-    on_node c e = (text_decides c.node s.node).1 (sym ((text_decides s.node c.node).0 (and_parts _ _ (counted c e)).0))
+    turned : (a b : List ℕ) → same_text a b ≡ same_text b a
+    turned a b = same_from_decides _ _ (text_decides a b) (λ e. sym ((text_decides b a).0 e), λ e. (text_decides b a).1 (sym e))
+
+    own_check : (c : CheckRow) → is_of (s ∷ []) c ≡ true → counts_for s c ≡ true
+    own_check c e = (λ i. turned c.node s.node i && (is_empty c.service || turned c.service s.id i)) ∙ counted c e
 
     among : (c : CheckRow) → is_of (s ∷ []) c ≡ true → is_of services c ≡ true
     among c e = found (λ t. counts t c) (counted c e)
@@ -107,7 +111,7 @@ module _ (k : Catalog) (name : List ℕ) where
 
     same_checks : map (check_view (s ∷ [])) (filter (is_of (s ∷ [])) own_checks) ≡ map (check_view services) (filter (is_of (s ∷ [])) rows.checks)
     same_checks =
-        ap (map (check_view (s ∷ []))) (filter_weaker (is_of (s ∷ [])) (λ c. same_text c.node s.node) on_node k.checks)
+        ap (map (check_view (s ∷ []))) (filter_weaker (is_of (s ∷ [])) (counts_for s) own_check k.checks)
         ∙ map_alike (is_of (s ∷ [])) (check_view (s ∷ [])) (check_view services) same_names k.checks
         ∙ ap (map (check_view services)) (sym (filter_weaker (is_of (s ∷ [])) (is_of services) among k.checks))
 

@@ -15,8 +15,7 @@ use std::alloc::Global;
 fn of_services(alloc: Global, catalog: &CatalogTable) -> Result<Answer, Memory>
     ensures { IfOk result (λ x. x ≡ Answer.Services (names_and_tags catalog.now.now.services)) }
 {
-    let services = catalog.services(alloc)?;
-    Ok(Answer::Services(names::with_tags(alloc, services.as_slice())?))
+    Ok(Answer::Services(names::with_tags(alloc, catalog)?))
 }
 
 #[tactic(auto, unfolding(cat_model::specs::Queries::answer_from, cat_model::specs::Queries::reads))]

@@ -1,7 +1,7 @@
 //! The channels on which a waiting query hangs.
 
 ghost use Rattle.std.specs.Prelude.{◌≡◌, [], ◌∷◌, IfOk, List, if◌then◌else◌};
-ghost use Rattle.cat_model.specs.Indexes.{has_name, has_node};
+ghost use Rattle.cat_model.specs.Indexes.{has_node};
 ghost use Rattle.cat_model.specs.Channels.{service_chans, key_chans, node_chans, node_health_chans, chans};
 ghost use Rattle.cat_model.specs.declared.row.SessionRow.{SessionRow};
 ghost use Rattle.cat_model.specs.declared.row.QueryRow.{QueryRow};
@@ -16,19 +16,11 @@ use catalog_table::CatalogTable;
 use kv_table::KvTable;
 use std::alloc::Global;
 
-/// Whether some service has this name.
-fn is_served(alloc: Global, catalog: &CatalogTable, name: &Text) -> Result<bool, Memory>
-    ensures { IfOk result (λ b. b ≡ has_name name.now (catalog_of catalog.now.now)) }
-{
-    let services = catalog.services_named(alloc, name.as_str())?;
-    Ok(!services.as_slice().is_empty())
-}
-
 fn of_service(alloc: Global, catalog: &CatalogTable, name: &Text) -> Result<List<Chan>, Memory>
     ensures { IfOk result (λ l. l ≡ service_chans name.now (catalog_of catalog.now.now)) }
 {
     let service = Chan::Service(name.clone()?);
-    if is_served(alloc, catalog, name)? {
+    if catalog.has_name(name.as_str()) {
         one(alloc, service)
     } else {
         two(alloc, service, Chan::Vanished)

@@ -25,7 +25,7 @@ fn place(
 {
     let services = one(alloc, copy_of(service)?)?;
     let nodes = copy_if_any(alloc, catalog.node(service.node.as_str()))?;
-    let checks = catalog.checks_of(alloc, service.node.as_str())?;
+    let checks = catalog.checks_for(alloc, service.node.as_str(), service.id.as_str())?;
     join(alloc, &services, &nodes, &checks)
 }
 
@@ -39,7 +39,7 @@ fn place_each(
     gathered(alloc, services, |s| place(alloc, catalog, s))
 }
 
-/// The instances of the services with this name. Each is joined with the rows of its own node alone.
+/// The instances of the services with this name. Each is joined with its node and the checks that count for it alone.
 pub(crate) fn all_named(
     alloc: Global,
     catalog: &CatalogTable,

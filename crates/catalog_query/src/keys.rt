@@ -71,5 +71,5 @@ pub(crate) fn names_under(
 {
     let keys = kv.names(alloc, prefix.as_str())?;
     let cut = cut_each(alloc, prefix, separator, keys.as_slice())?;
-    sorted(alloc, cut.as_slice())
+    sorted(cut)
 }

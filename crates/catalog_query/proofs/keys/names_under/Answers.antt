@@ -16,5 +16,5 @@ pub returns : goal.returns
 returns c =
     let p = c.args.prefix.now in let s = c.args.separator.now in let rows = c.args.kv.now.now.rows in
     IfOk-weaker c.sorted.result _ _
-    (λ l e. e ∙ ap all_names (c.as_slice-2.ensures ∙ c.in_ok-cut.ensures ∙ ap (map (cut_key p s)) (c.as_slice.ensures ∙ c.in_ok-keys.ensures.keys ∙ ap (λ n. map kv_key (filter (λ r. has_prefix n r.key) rows)) c.as_str.ensures) ∙ cut_keys p s (filter (λ r. has_prefix p r.key) rows)))
+    (λ l e. e ∙ ap all_names (c.in_ok-cut.ensures ∙ ap (map (cut_key p s)) (c.as_slice.ensures ∙ c.in_ok-keys.ensures.keys ∙ ap (λ n. map kv_key (filter (λ r. has_prefix n r.key) rows)) c.as_str.ensures) ∙ cut_keys p s (filter (λ r. has_prefix p r.key) rows)))
     c.sorted.ensures
