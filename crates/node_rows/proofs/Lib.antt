@@ -1,0 +1,4 @@
+pub mod SideBySide
+pub mod Onto
+pub mod Places
+pub mod Tagging
