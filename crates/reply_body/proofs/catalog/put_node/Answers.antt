@@ -1,0 +1,12 @@
+use Rattle.std.proofs.lemmas.Result.{on_ok_weaker}
+use Rattle.json.specs.Print.{escape_byte}
+use Rattle.reply_body.specs.Rows.{node_data}
+use Rattle.reply_body.proofs.Pieces.{then}
+use Rattle.reply_body.proofs.catalog.put_node.Goals as goal
+
+pub returns : goal.returns
+unfolding escape_byte node_data
+returns c =
+    on_ok_weaker c.put.result
+    (λ e. then c.in_ok-put_text.ensures (then c.in_ok-put_number.ensures (then c.in_ok-put_number-2.ensures (then c.in_ok-put_text-2.ensures e))))
+    c.put.ensures
