@@ -1,5 +1,5 @@
 -- Names that are sorted, and then each taken once, and the tags of services.
-use Rattle.std.proofs.Common.{◌≡◌, ◌∙◌, ℕ, Bool, true, false, cond, List, [], ◌∷◌, ◌++◌, ◌||◌, Option, Some, None, refl, sym, ap, is_some}
+use Rattle.std.proofs.Common.{◌≡◌, ◌∙◌, ℕ, Bool, true, false, cond, List, [], ◌∷◌, ◌++◌, ◌||◌, Some, refl, sym, ap, is_some}
 use Rattle.std.specs.Cmp.Lexicographic.{texts_ties}
 use Rattle.std.specs.List.{list_any, dedup, dedup_from}
 use Rattle.std.specs.List.Sorted.{IsPermutation, IsSorted, IsStrictlySortedBy}
@@ -76,10 +76,10 @@ names_are names sorted moved up =
     (ascending (dedup same_text sorted) (IsStrictlySortedBy-dedup nat_list_cmp_total texts_ties sorted up))
     (names_ascend names)
     (λ name.
-      has_is name (dedup same_text sorted)
-      ∙ any_dedup same_text (is_one name) (λ x y e. ap (is_one name) ((text_decides x y).0 e)) sorted
-      ∙ sym (list_any-IsPermutation (is_one name) names sorted moved)
-      ∙ sym (has_all name names))
+    has_is name (dedup same_text sorted)
+    ∙ any_dedup same_text (is_one name) (λ x y e. ap (is_one name) ((text_decides x y).0 e)) sorted
+    ∙ sym (list_any-IsPermutation (is_one name) names sorted moved)
+    ∙ sym (has_all name names))
 
 pub tags_are : (services : List ServiceRow) → flat (λ s. s.tags) services ≡ all_tags services
 tags_are [] = refl

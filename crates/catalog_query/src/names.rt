@@ -49,5 +49,9 @@ pub(crate) fn with_tags(alloc: Global, catalog: &CatalogTable) -> Result<List<Na
     ensures { IfOk result (λ l. l ≡ names_and_tags catalog.now.now.services) }
 {
     let names = sorted(catalog.service_names(alloc)?)?;
-    made(alloc, names.as_slice(), |n| name_with_tags(alloc, catalog, n))
+    made(
+        alloc,
+        names.as_slice(),
+        |n| name_with_tags(alloc, catalog, n),
+    )
 }
