@@ -12,11 +12,11 @@ use crate::checks::{
     drop_checks, drop_checks_of, has_check, has_own, is_own, note_checks, place_check,
 };
 use crate::fault::ChangeFault;
-use crate::services::{drop_services, has_service, service_row};
+use crate::services::{drop_services, has_service, place_service, service_row};
 use crate::watched::watched_row;
 use cat_model::lists::copied;
 use cat_model::{AgentOp, Memory, ServiceDef, Status, Text, TtlDef};
-use node_rows::{is_blank, place_service};
+use node_rows::is_blank;
 use std::alloc::Global;
 
 // The agent with these checks too, one after the other.

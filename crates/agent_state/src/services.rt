@@ -2,15 +2,15 @@
 
 ghost use Rattle.std.specs.Prelude.{◌≡◌, ◌<◌, IfOk, is_some};
 ghost use Rattle.std.specs.Option.{option_copied};
-ghost use Rattle.cat_model.specs.Keys.{same_text};
-ghost use Rattle.cat_model.specs.Tables.{without};
-ghost use Rattle.cat_model.specs.Catalog.{service_at};
+ghost use Rattle.cat_model.specs.Keys.{pair_cmp, same_text};
+ghost use Rattle.cat_model.specs.Tables.{put, without};
+ghost use Rattle.cat_model.specs.Catalog.{service_at, service_key};
 ghost use Rattle.agent_rules.specs.Agents.{agent_node, service_row};
 
 use crate::names::{agent_node, compare_own};
-use cat_model::lists::kept;
+use cat_model::lists::{around, kept};
 use cat_model::{List, Memory, ServiceDef, ServiceRow, Text};
-use node_rows::is_same;
+use node_rows::{compare_pairs, is_same};
 use std::alloc::Global;
 
 /// An agent's service as it was asked for.
@@ -61,4 +61,26 @@ pub(crate) fn drop_services(
     ensures { IfOk result (λ l. l ≡ without (λ s. same_text s.id id.now) rows.now) }
 {
     kept(alloc, rows, |s| !is_same(&s.id, id))
+}
+
+/// The services with this one in the place of the one of its key.
+#[tactic(auto, unfolding(cat_model::specs::Tables::put))]
+pub(crate) fn place_service(
+    alloc: Global,
+    new: ServiceRow,
+    rows: &[ServiceRow],
+) -> Result<List<ServiceRow>, Memory>
+    ensures { IfOk result (λ l. l ≡ put pair_cmp service_key new rows.now) }
+{
+    let smaller = kept(
+        alloc,
+        rows,
+        |r| compare_pairs(&r.node, &r.id, &new.node, &new.id).is_lt(),
+    )?;
+    let greater = kept(
+        alloc,
+        rows,
+        |r| compare_pairs(&r.node, &r.id, &new.node, &new.id).is_gt(),
+    )?;
+    around(smaller, new, greater)
 }
