@@ -27,6 +27,22 @@ pub items_plain : {A : Type 0} (f : A → Data) → ((x : A) → has_float (f x)
 items_plain f each [] = refl
 items_plain f each (x ∷ xs) = rw (each x, items_plain f each xs) refl
 
+value_plain : (value : List ℕ) → (b : Bool) → (length value == 0) ≡ b → has_float (value_data value) ≡ false
+value_plain value true e = rw e refl
+value_plain value false e = rw e refl
+
+session_plain : (session : Option ℕ) (value : List ℕ) → members_have_float (session_member session (member (codes "Value") (value_data value) no_members)) ≡ false
+session_plain None value = rw (value_plain value _ refl) refl
+session_plain (Some id) value = rw (value_plain value _ refl) refl
+
+row_plain : (row : KvRow) → has_float (row_data row) ≡ false
+unfolding row_data
+row_plain row = session_plain row.session row.value
+
+pub rows_plain : (rows : List KvRow) → has_float (rows_data rows) ≡ false
+unfolding rows_data
+rows_plain rows = items_plain row_data row_plain rows
+
 pub names_plain : (names : List (List ℕ)) → has_float (names_data names) ≡ false
 unfolding names_data
 names_plain names = items_plain string (λ x. refl) names
@@ -39,6 +55,14 @@ pub failure_plain : (op : ℕ) (v : Verb) → has_float (failure_data op v) ≡ 
 unfolding failure_data
 failure_plain op v = refl
 
+result_plain : (r : TxnResult) → has_float (result_data r) ≡ false
+unfolding result_data
+result_plain r = rw (row_plain (shown_row r)) refl
+
+pub results_plain : (results : List TxnResult) → has_float (results_data results) ≡ false
+unfolding results_data
+results_plain results = rw (items_plain result_data result_plain results) refl
+
 pub node_plain : (row : NodeRow) → has_float (node_data row) ≡ false
 unfolding node_data
 node_plain row = refl
@@ -46,6 +70,26 @@ node_plain row = refl
 pub service_plain : (row : ServiceRow) → has_float (service_data row) ≡ false
 unfolding service_data
 service_plain row = rw (names_plain row.tags) refl
+
+pub instance_plain : (x : Instance) → has_float (instance_data x) ≡ false
+unfolding instance_data
+instance_plain x = rw (names_plain x.service.tags) refl
+
+pub check_plain : (x : CheckView) → has_float (check_data x) ≡ false
+unfolding check_data
+check_plain x = refl
+
+pub health_plain : (x : Instance) → has_float (health_data x) ≡ false
+unfolding health_data
+health_plain x = rw (items_plain check_data check_plain x.checks, node_plain x.node, service_plain x.service) refl
+
+pub session_row_plain : (row : SessionRow) → has_float (session_data row) ≡ false
+unfolding session_data
+session_row_plain row = rw (names_plain row.checks) refl
+
+pub query_plain : (row : QueryRow) → has_float (query_data row) ≡ false
+unfolding query_data
+query_plain row = rw (names_plain row.tags) refl
 
 -- a member put among others
 placed_plain : (o : Ordering) (a b c : Members) → members_have_float a ≡ false → members_have_float b ≡ false → members_have_float c ≡ false → members_have_float (match_ordering o a b c) ≡ false
@@ -82,6 +126,31 @@ pub node_view_plain : (row : Option NodeRow) (services : List ServiceRow) → ha
 unfolding node_view_data
 node_view_plain None services = refl
 node_view_plain (Some row) services = rw (node_plain row, by_id_plain services) refl
+
+pub nodes_plain : (rows : List NodeRow) → has_float (array (items_of (map node_data rows))) ≡ false
+nodes_plain rows = items_plain node_data node_plain rows
+
+pub checks_plain : (rows : List CheckView) → has_float (array (items_of (map check_data rows))) ≡ false
+checks_plain rows = items_plain check_data check_plain rows
+
+pub sessions_plain : (rows : List SessionRow) → has_float (array (items_of (map session_data rows))) ≡ false
+sessions_plain rows = items_plain session_data session_row_plain rows
+
+pub queries_plain : (rows : List QueryRow) → has_float (array (items_of (map query_data rows))) ≡ false
+queries_plain rows = items_plain query_data query_plain rows
+
+pub instances_plain : (rows : List Instance) → has_float (array (items_of (map instance_data rows))) ≡ false
+instances_plain rows = items_plain instance_data instance_plain rows
+
+pub healths_plain : (rows : List Instance) → has_float (array (items_of (map health_data rows))) ≡ false
+healths_plain rows = items_plain health_data health_plain rows
+
+pub ran_plain : (ran : Ran) → has_float (ran_data ran) ≡ false
+unfolding ran_data
+ran_plain ran = rw (healths_plain ran.nodes) refl
+
+pub renewed_plain : (row : SessionRow) → has_float (array (items_of (session_data row ∷ []))) ≡ false
+renewed_plain row = sessions_plain (row ∷ [])
 
 pub delay_plain : (op : ℕ) → has_float (delay_data op) ≡ false
 unfolding delay_data

@@ -1,54 +1,65 @@
 //! Nodes, services, checks and instances.
 
-ghost use Rattle.std.specs.Prelude.{◌≡◌, ◌++◌, OnOk, map};
+ghost use Rattle.std.specs.Prelude.{◌≡◌, IfOk, map};
 ghost use Rattle.serde_json.specs.Data.{array};
-ghost use Rattle.serde_json.specs.View.{items_of};
-ghost use Rattle.serde_json.specs.Written.{compact_text};
+ghost use Rattle.serde_json.specs.View.{view, items_of};
 ghost use Rattle.reply_body.specs.Rows.{node_data, service_data, instance_data, check_data, health_data, status_text};
 
-use crate::text::{Row, Shape, put, put_bool, put_list, put_names, put_number, put_str, put_text};
-use cat_model::{CheckView, Instance, List, NodeRow, ServiceRow, Status};
-use std::alloc::AllocError;
+use crate::json::listed;
+use crate::rows::names_json;
+use cat_model::{CheckView, Instance, NodeRow, ServiceRow, Status};
+use serde_json::{Value, json};
+use std::alloc::{AllocError, Global};
 
-fn put_node(out: &mut Vec<u8>, row: &NodeRow) -> Result<(), AllocError>
-    ensures { OnOk result (out.new.items ≡ out.old.items ++ compact_text (node_data row.now)) }
+#[tactic(auto, unfolding(crate::specs::Rows::node_data))]
+pub(crate) fn node_json(alloc: Global, row: &NodeRow) -> Result<Value, AllocError>
+    ensures { IfOk result (λ json. view json ≡ node_data row.now) }
 {
-    put_text(out, "{\"Address\":", &row.address)?;
-    put_number(out, ",\"CreateIndex\":", row.create)?;
-    put_number(out, ",\"Datacenter\":\"dc1\",\"ModifyIndex\":", row.modify)?;
-    put_text(out, ",\"Node\":", &row.node)?;
-    put(out, "}")
+    json!(in alloc; {
+        "Address": row.address.as_str(),
+        "CreateIndex": row.create,
+        "Datacenter": "dc1",
+        "ModifyIndex": row.modify,
+        "Node": row.node.as_str()
+    })
 }
 
-fn put_service(out: &mut Vec<u8>, row: &ServiceRow) -> Result<(), AllocError>
-    ensures { OnOk result (out.new.items ≡ out.old.items ++ compact_text (service_data row.now)) }
+#[tactic(auto, unfolding(crate::specs::Rows::service_data))]
+pub(crate) fn service_json(alloc: Global, row: &ServiceRow) -> Result<Value, AllocError>
+    ensures { IfOk result (λ json. view json ≡ service_data row.now) }
 {
-    put_text(out, "{\"Address\":", &row.address)?;
-    put_number(out, ",\"CreateIndex\":", row.create)?;
-    put_bool(out, ",\"EnableTagOverride\":", row.tag_override)?;
-    put_text(out, ",\"ID\":", &row.id)?;
-    put_number(out, ",\"ModifyIndex\":", row.modify)?;
-    put_number(out, ",\"Port\":", u64::from(row.port))?;
-    put_text(out, ",\"Service\":", &row.name)?;
-    put_names(out, ",\"Tags\":", &row.tags)?;
-    put(out, "}")
+    let tags = names_json(alloc, row.tags.as_slice())?;
+    json!(in alloc; {
+        "Address": row.address.as_str(),
+        "CreateIndex": row.create,
+        "EnableTagOverride": row.tag_override,
+        "ID": row.id.as_str(),
+        "ModifyIndex": row.modify,
+        "Port": row.port,
+        "Service": row.name.as_str(),
+        "Tags": tags
+    })
 }
 
-fn put_instance(out: &mut Vec<u8>, item: &Instance) -> Result<(), AllocError>
-    ensures { OnOk result (out.new.items ≡ out.old.items ++ compact_text (instance_data item.now)) }
+#[tactic(auto, unfolding(crate::specs::Rows::instance_data))]
+fn instance_json(alloc: Global, item: &Instance) -> Result<Value, AllocError>
+    ensures { IfOk result (λ json. view json ≡ instance_data item.now) }
 {
     let row = &item.service;
-    put_text(out, "{\"Address\":", &item.node.address)?;
-    put_number(out, ",\"CreateIndex\":", row.create)?;
-    put_number(out, ",\"Datacenter\":\"dc1\",\"ModifyIndex\":", row.modify)?;
-    put_text(out, ",\"Node\":", &row.node)?;
-    put_text(out, ",\"ServiceAddress\":", &row.address)?;
-    put_bool(out, ",\"ServiceEnableTagOverride\":", row.tag_override)?;
-    put_text(out, ",\"ServiceID\":", &row.id)?;
-    put_text(out, ",\"ServiceName\":", &row.name)?;
-    put_number(out, ",\"ServicePort\":", u64::from(row.port))?;
-    put_names(out, ",\"ServiceTags\":", &row.tags)?;
-    put(out, "}")
+    let tags = names_json(alloc, row.tags.as_slice())?;
+    json!(in alloc; {
+        "Address": item.node.address.as_str(),
+        "CreateIndex": row.create,
+        "Datacenter": "dc1",
+        "ModifyIndex": row.modify,
+        "Node": row.node.as_str(),
+        "ServiceAddress": row.address.as_str(),
+        "ServiceEnableTagOverride": row.tag_override,
+        "ServiceID": row.id.as_str(),
+        "ServiceName": row.name.as_str(),
+        "ServicePort": row.port,
+        "ServiceTags": tags
+    })
 }
 
 fn status_name(status: Status) -> &'static str
@@ -61,71 +72,55 @@ fn status_name(status: Status) -> &'static str
     }
 }
 
-fn put_check(out: &mut Vec<u8>, item: &CheckView) -> Result<(), AllocError>
-    ensures { OnOk result (out.new.items ≡ out.old.items ++ compact_text (check_data item.now)) }
+#[tactic(auto, unfolding(crate::specs::Rows::check_data))]
+fn check_json(alloc: Global, item: &CheckView) -> Result<Value, AllocError>
+    ensures { IfOk result (λ json. view json ≡ check_data item.now) }
 {
     let row = &item.row;
-    put_text(out, "{\"CheckID\":", &row.id)?;
-    put_number(out, ",\"CreateIndex\":", row.create)?;
-    put_number(out, ",\"ModifyIndex\":", row.modify)?;
-    put_text(out, ",\"Name\":", &row.name)?;
-    put_text(out, ",\"Node\":", &row.node)?;
-    put_text(out, ",\"Notes\":", &row.notes)?;
-    put_text(out, ",\"Output\":", &row.output)?;
-    put_text(out, ",\"ServiceID\":", &row.service)?;
-    put_text(out, ",\"ServiceName\":", &item.service_name)?;
-    put_str(out, ",\"Status\":", status_name(row.status))?;
-    put(out, "}")
+    json!(in alloc; {
+        "CheckID": row.id.as_str(),
+        "CreateIndex": row.create,
+        "ModifyIndex": row.modify,
+        "Name": row.name.as_str(),
+        "Node": row.node.as_str(),
+        "Notes": row.notes.as_str(),
+        "Output": row.output.as_str(),
+        "ServiceID": row.service.as_str(),
+        "ServiceName": item.service_name.as_str(),
+        "Status": status_name(row.status)
+    })
 }
 
-fn put_checks(out: &mut Vec<u8>, before: &str, items: &List<CheckView>) -> Result<(), AllocError>
-    ensures { OnOk result (out.new.items ≡ out.old.items ++ (before.now ++ compact_text (array (items_of (map check_data items.now))))) }
+pub(crate) fn checks_json(alloc: Global, items: &[CheckView]) -> Result<Value, AllocError>
+    ensures { IfOk result (λ json. view json ≡ array (items_of (map check_data items.now))) }
 {
-    put_list::<CheckView, Row>(out, before, items.as_slice())
+    listed(alloc, items, |item| check_json(alloc, item))
 }
 
-fn put_health(out: &mut Vec<u8>, item: &Instance) -> Result<(), AllocError>
-    ensures { OnOk result (out.new.items ≡ out.old.items ++ compact_text (health_data item.now)) }
+#[tactic(auto, unfolding(crate::specs::Rows::health_data))]
+fn health_json(alloc: Global, item: &Instance) -> Result<Value, AllocError>
+    ensures { IfOk result (λ json. view json ≡ health_data item.now) }
 {
-    put_checks(out, "{\"Checks\":", &item.checks)?;
-    put(out, ",\"Node\":")?;
-    put_node(out, &item.node)?;
-    put(out, ",\"Service\":")?;
-    put_service(out, &item.service)?;
-    put(out, "}")
+    let checks = checks_json(alloc, item.checks.as_slice())?;
+    let node = node_json(alloc, &item.node)?;
+    let service = service_json(alloc, &item.service)?;
+    json!(in alloc; { "Checks": checks, "Node": node, "Service": service })
 }
 
-impl Shape<NodeRow> for Row {
-    ghost meaning = { node_data };
-
-    fn write(out: &mut Vec<u8>, value: &NodeRow) -> Result<(), AllocError> {
-        put_node(out, value)
-    }
+pub(crate) fn nodes_json(alloc: Global, items: &[NodeRow]) -> Result<Value, AllocError>
+    ensures { IfOk result (λ json. view json ≡ array (items_of (map node_data items.now))) }
+{
+    listed(alloc, items, |item| node_json(alloc, item))
 }
 
-impl Shape<CheckView> for Row {
-    ghost meaning = { check_data };
-
-    fn write(out: &mut Vec<u8>, value: &CheckView) -> Result<(), AllocError> {
-        put_check(out, value)
-    }
+pub(crate) fn instances_json(alloc: Global, items: &[Instance]) -> Result<Value, AllocError>
+    ensures { IfOk result (λ json. view json ≡ array (items_of (map instance_data items.now))) }
+{
+    listed(alloc, items, |item| instance_json(alloc, item))
 }
 
-impl Shape<Instance> for Row {
-    ghost meaning = { instance_data };
-
-    fn write(out: &mut Vec<u8>, value: &Instance) -> Result<(), AllocError> {
-        put_instance(out, value)
-    }
-}
-
-/// The shape of instances in the health endpoints.
-pub(crate) struct Health;
-
-impl Shape<Instance> for Health {
-    ghost meaning = { health_data };
-
-    fn write(out: &mut Vec<u8>, value: &Instance) -> Result<(), AllocError> {
-        put_health(out, value)
-    }
+pub(crate) fn healths_json(alloc: Global, items: &[Instance]) -> Result<Value, AllocError>
+    ensures { IfOk result (λ json. view json ≡ array (items_of (map health_data items.now))) }
+{
+    listed(alloc, items, |item| health_json(alloc, item))
 }

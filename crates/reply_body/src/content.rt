@@ -2,7 +2,7 @@ ghost use Rattle.std.specs.Prelude.{◌≡◌, IfOk};
 ghost use Rattle.open_requests.specs.Contents.{content_of};
 ghost use Rattle.reply_body.specs.Contents.{shown_content};
 
-use crate::bodies::plain;
+use crate::json::plain;
 use crate::others::{agent_body, delay_body, ran_body, renewal_body};
 use crate::reads::read_body;
 use crate::refusals::refusal_body;

@@ -2,10 +2,10 @@
 //! the bytes of a value.
 #![tactic(auto)]
 
-mod bodies;
 mod catalog;
 mod content;
 mod given;
+mod json;
 mod named;
 mod others;
 mod reads;
@@ -13,7 +13,6 @@ mod refusals;
 mod rows;
 mod sessions;
 mod shown;
-mod text;
 mod writes;
 
 pub use content::body;

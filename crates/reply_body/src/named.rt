@@ -1,57 +1,14 @@
 //! Objects with a member for each item.
 
 ghost use Rattle.std.specs.Prelude.{◌≡◌, IfOk, Some};
-ghost use Rattle.serde_json.specs.Data.{string};
 ghost use Rattle.serde_json.specs.View.{view};
-ghost use Rattle.reply_body.specs.Rows.{by_name, names_data, node_data, service_data, services_data, node_view_data};
+ghost use Rattle.reply_body.specs.Rows.{by_name, service_data, services_data, node_view_data};
 
-use crate::bodies::listed;
-use cat_model::{Memory, NameTags, NodeRow, ServiceRow, Text};
+use crate::catalog::{node_json, service_json};
+use crate::rows::names_json;
+use cat_model::{Memory, NameTags, NodeRow, ServiceRow};
 use serde_json::{Map, Value, json};
-use std::alloc::{AllocError, Global};
-
-fn name_json(alloc: Global, name: &Text) -> Result<Value, AllocError>
-    ensures { IfOk result (λ json. view json ≡ string name.now) }
-{
-    Ok(Value::String(String::from_str(alloc, name.as_str())?))
-}
-
-#[tactic(auto, unfolding(crate::specs::Rows::names_data))]
-fn names_json(alloc: Global, names: &[Text]) -> Result<Value, AllocError>
-    ensures { IfOk result (λ json. view json ≡ names_data names.now) }
-{
-    listed(alloc, names, |name| name_json(alloc, name))
-}
-
-#[tactic(auto, unfolding(crate::specs::Rows::node_data))]
-fn node_json(alloc: Global, row: &NodeRow) -> Result<Value, AllocError>
-    ensures { IfOk result (λ json. view json ≡ node_data row.now) }
-{
-    json!(in alloc; {
-        "Address": row.address.as_str(),
-        "CreateIndex": row.create,
-        "Datacenter": "dc1",
-        "ModifyIndex": row.modify,
-        "Node": row.node.as_str()
-    })
-}
-
-#[tactic(auto, unfolding(crate::specs::Rows::service_data))]
-fn service_json(alloc: Global, row: &ServiceRow) -> Result<Value, AllocError>
-    ensures { IfOk result (λ json. view json ≡ service_data row.now) }
-{
-    let tags = names_json(alloc, row.tags.as_slice())?;
-    json!(in alloc; {
-        "Address": row.address.as_str(),
-        "CreateIndex": row.create,
-        "EnableTagOverride": row.tag_override,
-        "ID": row.id.as_str(),
-        "ModifyIndex": row.modify,
-        "Port": row.port,
-        "Service": row.name.as_str(),
-        "Tags": tags
-    })
-}
+use std::alloc::Global;
 
 /// The names of services with their tags.
 #[tactic(auto, unfolding(crate::specs::Rows::services_data, crate::specs::Rows::by_name))]

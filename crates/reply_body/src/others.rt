@@ -1,60 +1,71 @@
 //! What executions, renewals, agents' answers and delayed writes show.
 
-ghost use Rattle.std.specs.Prelude.{◌≡◌, ◌++◌, ◌&&◌, IfOk, OnOk};
+ghost use Rattle.std.specs.Prelude.{◌≡◌, ◌∷◌, ◌&&◌, [], IfOk};
 ghost use Rattle.std.specs.List.{position};
-ghost use Rattle.serde_json.specs.View.{view};
-ghost use Rattle.serde_json.specs.Written.{compact_text};
+ghost use Rattle.serde_json.specs.Data.{array};
+ghost use Rattle.serde_json.specs.View.{view, items_of};
 ghost use Rattle.cat_model.specs.Keys.{same_text};
 ghost use Rattle.office_rules.specs.Locks.{is_lock};
+ghost use Rattle.reply_body.specs.Rows.{session_data};
 ghost use Rattle.reply_body.specs.Bodies.{json as json_body};
 ghost use Rattle.reply_body.specs.Others as spec;
 
-use crate::bodies::{plain, written};
-use crate::catalog::Health;
-use crate::sessions::duration;
+use crate::catalog::healths_json;
+use crate::json::{plain, written};
+use crate::sessions::{duration, session_json};
 use crate::shown::Shown;
-use crate::text::{Row, empty, list_shown, put, put_list, put_number, put_str, put_text, shown};
 use crate::writes::no;
-use cat_model::{Bytes, Command, Form, Instance, Memory, Ran, SessionRow, Text, TxnOp, Verb};
+use cat_model::{Bytes, Command, Form, Memory, Ran, SessionRow, Text, TxnOp, Verb};
 use serde_json::{Value, json};
 use std::alloc::{AllocError, Global};
 
-fn put_ran(out: &mut Vec<u8>, ran: &Ran) -> Result<(), AllocError>
-    ensures { OnOk result (out.new.items ≡ out.old.items ++ compact_text (spec.ran_data ran.now)) }
+#[tactic(auto, unfolding(crate::specs::Others::ran_data))]
+fn ran_json(alloc: Global, ran: &Ran) -> Result<Value, AllocError>
+    ensures { IfOk result (λ json. view json ≡ spec.ran_data ran.now) }
 {
-    let ttl = duration(*out.allocator(), ran.dns_ttl_ms)?;
-    put_str(out, "{\"DNS\":{\"TTL\":", ttl.as_str())?;
-    put_number(out, "},\"Datacenter\":\"dc1\",\"Failovers\":", 0)?;
-    put_list::<Instance, Health>(out, ",\"Nodes\":", ran.nodes.as_slice())?;
-    put_text(out, ",\"Service\":", &ran.service)?;
-    put(out, "}")
-}
-
-fn ran_shown(alloc: Global, ran: &Ran) -> Result<Shown, Memory>
-    ensures { IfOk result (λ shown. shown ≡ json_body 200 (spec.ran_data ran.now)) }
-{
-    let mut out = empty(alloc)?;
-    put_ran(&mut out, ran)?;
-    Ok(shown(out))
+    let ttl = duration(alloc, ran.dns_ttl_ms)?;
+    let nodes = healths_json(alloc, ran.nodes.as_slice())?;
+    json!(in alloc; {
+        "DNS": { "TTL": ttl.as_str() },
+        "Datacenter": "dc1",
+        "Failovers": 0u32,
+        "Nodes": nodes,
+        "Service": ran.service.as_str()
+    })
 }
 
 /// The execution of a prepared query, if there is one.
+#[tactic(auto, using(crate::proofs::Plain::ran_plain))]
 pub(crate) fn ran_body(alloc: Global, ran: &Option<Ran>) -> Result<Shown, Memory>
     ensures { IfOk result (λ shown. shown ≡ spec.shown_ran ran.now) }
 {
     match ran {
         None => plain(alloc, 404, "Query not found"),
-        Some(ran) => ran_shown(alloc, ran),
+        Some(ran) => {
+            let json = ran_json(alloc, ran)?;
+            written(alloc, 200, &json)
+        }
     }
 }
 
+fn renewed_json(alloc: Global, row: &SessionRow) -> Result<Value, AllocError>
+    ensures { IfOk result (λ json. view json ≡ array (items_of (session_data row.now ∷ []))) }
+{
+    let session = session_json(alloc, row)?;
+    json!(in alloc; [session])
+}
+
 /// The session that was renewed, if there is one, in a list.
+#[tactic(auto, using(crate::proofs::Plain::renewed_plain))]
 pub(crate) fn renewal_body(alloc: Global, row: &Option<SessionRow>) -> Result<Shown, Memory>
     ensures { IfOk result (λ shown. shown ≡ spec.shown_renewal row.now) }
 {
     match row {
         None => plain(alloc, 404, "Session not found"),
-        Some(row) => list_shown::<SessionRow, Row>(alloc, std::slice::from_ref(row)),
+        Some(row) => {
+            let json = renewed_json(alloc, row)?;
+            written(alloc, 200, &json)
+        }
     }
 }
 

@@ -2,18 +2,17 @@
 
 ghost use Rattle.std.specs.Prelude.{◌≡◌, IfOk};
 ghost use Rattle.reply_body.specs.Bodies as spec;
-ghost use Rattle.reply_body.specs.Rows.{instance_data, health_data, services_data, node_view_data};
-ghost use Rattle.reply_body.specs.Reads.{shown_key, shown_tree, shown_listing, shown_instances, shown_other, shown_read};
+ghost use Rattle.reply_body.specs.Rows.{node_data, check_data, session_data, query_data, instance_data, health_data, services_data, node_view_data};
+ghost use Rattle.reply_body.specs.Reads.{listed, shown_key, shown_tree, shown_listing, shown_instances, shown_other, shown_read};
 
-use crate::bodies::{plain, written};
-use crate::catalog::Health;
+use crate::catalog::{checks_json, healths_json, instances_json, nodes_json};
+use crate::json::{plain, written};
 use crate::named::{node_view_json, services_json};
 use crate::rows::{names_shown, rows_shown, value_shown};
+use crate::sessions::{queries_json, sessions_json};
 use crate::shown::Shown;
-use crate::text::{Row, list_shown};
 use cat_model::{
-    Answer, CheckView, Instance, Memory, NameTags, NodeRow, Query, QueryRow, ServiceRow,
-    SessionRow, Text,
+    Answer, CheckView, Memory, NameTags, NodeRow, Query, QueryRow, ServiceRow, SessionRow, Text,
 };
 use std::alloc::Global;
 
@@ -50,20 +49,60 @@ fn listing_shown(alloc: Global, prefix: &Text, answer: &Answer) -> Result<Shown,
     }
 }
 
+#[tactic(auto, using(crate::proofs::Plain::nodes_plain))]
+fn nodes_shown(alloc: Global, rows: &[NodeRow]) -> Result<Shown, Memory>
+    ensures { IfOk result (λ shown. shown ≡ listed node_data rows.now) }
+{
+    let json = nodes_json(alloc, rows)?;
+    written(alloc, 200, &json)
+}
+
+#[tactic(auto, using(crate::proofs::Plain::checks_plain))]
+fn checks_shown(alloc: Global, rows: &[CheckView]) -> Result<Shown, Memory>
+    ensures { IfOk result (λ shown. shown ≡ listed check_data rows.now) }
+{
+    let json = checks_json(alloc, rows)?;
+    written(alloc, 200, &json)
+}
+
+#[tactic(auto, using(crate::proofs::Plain::sessions_plain))]
+fn sessions_shown(alloc: Global, rows: &[SessionRow]) -> Result<Shown, Memory>
+    ensures { IfOk result (λ shown. shown ≡ listed session_data rows.now) }
+{
+    let json = sessions_json(alloc, rows)?;
+    written(alloc, 200, &json)
+}
+
+#[tactic(auto, using(crate::proofs::Plain::queries_plain))]
+fn queries_shown(alloc: Global, rows: &[QueryRow]) -> Result<Shown, Memory>
+    ensures { IfOk result (λ shown. shown ≡ listed query_data rows.now) }
+{
+    let json = queries_json(alloc, rows)?;
+    written(alloc, 200, &json)
+}
+
+#[tactic(auto, using(crate::proofs::Plain::instances_plain))]
 fn instances_shown(alloc: Global, answer: &Answer) -> Result<Shown, Memory>
     ensures { IfOk result (λ shown. shown ≡ shown_instances instance_data answer.now) }
 {
     match answer {
-        Answer::Instances(rows) => list_shown::<Instance, Row>(alloc, rows.as_slice()),
+        Answer::Instances(rows) => {
+            let json = instances_json(alloc, rows.as_slice())?;
+            written(alloc, 200, &json)
+        }
         _ => plain(alloc, 404, ""),
     }
 }
 
+#[tactic(auto, using(crate::proofs::Plain::healths_plain))]
 fn health_shown(alloc: Global, answer: &Answer) -> Result<Shown, Memory>
     ensures { IfOk result (λ shown. shown ≡ shown_instances health_data answer.now) }
 {
     match answer {
-        Answer::Instances(rows) => list_shown::<Instance, Health>(alloc, rows.as_slice()),
+        Answer::Instances(rows) => {
+            let json = healths_json(alloc, rows.as_slice())?;
+            written(alloc, 200, &json)
+        }
         _ => plain(alloc, 404, ""),
     }
 }
@@ -92,12 +131,12 @@ fn other_shown(alloc: Global, answer: &Answer) -> Result<Shown, Memory>
     ensures { IfOk result (λ shown. shown ≡ shown_other answer.now) }
 {
     match answer {
-        Answer::Nodes(rows) => list_shown::<NodeRow, Row>(alloc, rows.as_slice()),
+        Answer::Nodes(rows) => nodes_shown(alloc, rows.as_slice()),
         Answer::Services(rows) => services_shown(alloc, rows.as_slice()),
         Answer::NodeView(row, services) => node_view_shown(alloc, row, services.as_slice()),
-        Answer::Checks(rows) => list_shown::<CheckView, Row>(alloc, rows.as_slice()),
-        Answer::Sessions(rows) => list_shown::<SessionRow, Row>(alloc, rows.as_slice()),
-        Answer::Queries(rows) => list_shown::<QueryRow, Row>(alloc, rows.as_slice()),
+        Answer::Checks(rows) => checks_shown(alloc, rows.as_slice()),
+        Answer::Sessions(rows) => sessions_shown(alloc, rows.as_slice()),
+        Answer::Queries(rows) => queries_shown(alloc, rows.as_slice()),
         Answer::Absent => plain(alloc, 404, "Query not found"),
         Answer::Instances(_) | Answer::Rows(_) | Answer::Names(_) => plain(alloc, 404, ""),
     }

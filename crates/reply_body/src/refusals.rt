@@ -4,7 +4,7 @@ ghost use Rattle.std.specs.Prelude.{◌≡◌, ◌++◌, IfOk, codes};
 ghost use Rattle.reply_body.specs.Bodies.{plain as plain_text};
 ghost use Rattle.reply_body.specs.Refusals.{shown_refusal};
 
-use crate::bodies::plain;
+use crate::json::plain;
 use crate::shown::Shown;
 use cat_model::{Memory, Refusal};
 use std::alloc::Global;

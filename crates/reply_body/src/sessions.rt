@@ -1,12 +1,14 @@
 //! Sessions and prepared queries.
 
-ghost use Rattle.std.specs.Prelude.{◌≡◌, ◌++◌, IfOk, OnOk, string_bytes};
-ghost use Rattle.serde_json.specs.Written.{compact_text};
+ghost use Rattle.std.specs.Prelude.{◌≡◌, IfOk, map, string_bytes};
+ghost use Rattle.serde_json.specs.Data.{array};
+ghost use Rattle.serde_json.specs.View.{view, items_of};
 ghost use Rattle.reply_body.specs.Rows.{behavior_text, duration_text, nanoseconds, session_data, id_or_none, query_data};
 
-use crate::bodies::id_text;
-use crate::text::{Row, Shape, put, put_bool, put_names, put_number, put_str, put_text};
+use crate::json::{id_text, listed};
+use crate::rows::names_json;
 use cat_model::{Behavior, QueryRow, SessionRow};
+use serde_json::{Value, json};
 use std::alloc::{AllocError, Global};
 
 fn behavior_name(behavior: Behavior) -> &'static str
@@ -38,21 +40,24 @@ fn delay_in_nanoseconds(ms: u64) -> u64
     ms.saturating_mul(1_000_000)
 }
 
-fn put_session(out: &mut Vec<u8>, row: &SessionRow) -> Result<(), AllocError>
-    ensures { OnOk result (out.new.items ≡ out.old.items ++ compact_text (session_data row.now)) }
+#[tactic(auto, unfolding(crate::specs::Rows::session_data))]
+pub(crate) fn session_json(alloc: Global, row: &SessionRow) -> Result<Value, AllocError>
+    ensures { IfOk result (λ json. view json ≡ session_data row.now) }
 {
-    let id = id_text(*out.allocator(), row.id)?;
-    let ttl = duration(*out.allocator(), row.ttl_ms)?;
-    put_str(out, "{\"Behavior\":", behavior_name(row.behavior))?;
-    put_names(out, ",\"Checks\":", &row.checks)?;
-    put_number(out, ",\"CreateIndex\":", row.create)?;
-    put_str(out, ",\"ID\":", id.as_str())?;
-    put_number(out, ",\"LockDelay\":", delay_in_nanoseconds(row.delay_ms))?;
-    put_number(out, ",\"ModifyIndex\":", row.modify)?;
-    put_text(out, ",\"Name\":", &row.name)?;
-    put_text(out, ",\"Node\":", &row.node)?;
-    put_str(out, ",\"TTL\":", ttl.as_str())?;
-    put(out, "}")
+    let checks = names_json(alloc, row.checks.as_slice())?;
+    let id = id_text(alloc, row.id)?;
+    let ttl = duration(alloc, row.ttl_ms)?;
+    json!(in alloc; {
+        "Behavior": behavior_name(row.behavior),
+        "Checks": checks,
+        "CreateIndex": row.create,
+        "ID": id.as_str(),
+        "LockDelay": delay_in_nanoseconds(row.delay_ms),
+        "ModifyIndex": row.modify,
+        "Name": row.name.as_str(),
+        "Node": row.node.as_str(),
+        "TTL": ttl.as_str()
+    })
 }
 
 // The identifier, or the empty text.
@@ -65,36 +70,37 @@ fn id_if_any(alloc: Global, id: Option<u128>) -> Result<String, AllocError>
     }
 }
 
-fn put_query(out: &mut Vec<u8>, row: &QueryRow) -> Result<(), AllocError>
-    ensures { OnOk result (out.new.items ≡ out.old.items ++ compact_text (query_data row.now)) }
+#[tactic(auto, unfolding(crate::specs::Rows::query_data))]
+fn query_json(alloc: Global, row: &QueryRow) -> Result<Value, AllocError>
+    ensures { IfOk result (λ json. view json ≡ query_data row.now) }
 {
-    let id = id_text(*out.allocator(), row.id)?;
-    let session = id_if_any(*out.allocator(), row.session)?;
-    let ttl = duration(*out.allocator(), row.dns_ttl_ms)?;
-    put_number(out, "{\"CreateIndex\":", row.create)?;
-    put_str(out, ",\"DNS\":{\"TTL\":", ttl.as_str())?;
-    put_str(out, "},\"ID\":", id.as_str())?;
-    put_number(out, ",\"ModifyIndex\":", row.modify)?;
-    put_text(out, ",\"Name\":", &row.name)?;
-    put_bool(out, ",\"Service\":{\"OnlyPassing\":", row.only_passing)?;
-    put_text(out, ",\"Service\":", &row.service)?;
-    put_names(out, ",\"Tags\":", &row.tags)?;
-    put_str(out, "},\"Session\":", session.as_str())?;
-    put(out, "}")
+    let tags = names_json(alloc, row.tags.as_slice())?;
+    let id = id_text(alloc, row.id)?;
+    let session = id_if_any(alloc, row.session)?;
+    let ttl = duration(alloc, row.dns_ttl_ms)?;
+    json!(in alloc; {
+        "CreateIndex": row.create,
+        "DNS": { "TTL": ttl.as_str() },
+        "ID": id.as_str(),
+        "ModifyIndex": row.modify,
+        "Name": row.name.as_str(),
+        "Service": {
+            "OnlyPassing": row.only_passing,
+            "Service": row.service.as_str(),
+            "Tags": tags
+        },
+        "Session": session.as_str()
+    })
 }
 
-impl Shape<SessionRow> for Row {
-    ghost meaning = { session_data };
-
-    fn write(out: &mut Vec<u8>, value: &SessionRow) -> Result<(), AllocError> {
-        put_session(out, value)
-    }
+pub(crate) fn sessions_json(alloc: Global, items: &[SessionRow]) -> Result<Value, AllocError>
+    ensures { IfOk result (λ json. view json ≡ array (items_of (map session_data items.now))) }
+{
+    listed(alloc, items, |item| session_json(alloc, item))
 }
 
-impl Shape<QueryRow> for Row {
-    ghost meaning = { query_data };
-
-    fn write(out: &mut Vec<u8>, value: &QueryRow) -> Result<(), AllocError> {
-        put_query(out, value)
-    }
+pub(crate) fn queries_json(alloc: Global, items: &[QueryRow]) -> Result<Value, AllocError>
+    ensures { IfOk result (λ json. view json ≡ array (items_of (map query_data items.now))) }
+{
+    listed(alloc, items, |item| query_json(alloc, item))
 }

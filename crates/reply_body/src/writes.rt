@@ -1,15 +1,13 @@
 //! What the catalog's answers to writes show.
 
-ghost use Rattle.std.specs.Prelude.{◌≡◌, ◌++◌, IfOk, OnOk, codes, false, true};
+ghost use Rattle.std.specs.Prelude.{◌≡◌, ◌++◌, IfOk, codes, false, true};
 ghost use Rattle.serde_json.specs.View.{view};
-ghost use Rattle.serde_json.specs.Written.{compact_text};
 ghost use Rattle.reply_body.specs.Bodies as spec;
 ghost use Rattle.reply_body.specs.Writes.{id_data, shown_bool, shown_row, result_data, results_data, failure_data, shown_done, shown_refuse, shown_write, verb_text};
 
-use crate::bodies::{id_text, plain, written};
-use crate::rows::put_row;
+use crate::json::{id_text, listed, plain, written};
+use crate::rows::row_json;
 use crate::shown::Shown;
-use crate::text::{Row, Shape, empty, put, put_list, shown};
 use cat_model::{Applied, Bytes, Command, Form, KvRow, List, Memory, Refuse, TxnResult, Verb};
 use serde_json::{Value, json};
 use std::alloc::{AllocError, Global};
@@ -136,36 +134,29 @@ fn row_of(alloc: Global, item: &TxnResult) -> Result<KvRow, AllocError>
     }
 }
 
-fn put_result(out: &mut Vec<u8>, item: &TxnResult) -> Result<(), AllocError>
-    ensures { OnOk result (out.new.items ≡ out.old.items ++ compact_text (result_data item.now)) }
+#[tactic(auto, unfolding(crate::specs::Writes::result_data))]
+fn result_json(alloc: Global, item: &TxnResult) -> Result<Value, AllocError>
+    ensures { IfOk result (λ json. view json ≡ result_data item.now) }
 {
-    let row = row_of(*out.allocator(), item)?;
-    put(out, "{\"KV\":")?;
-    put_row(out, &row)?;
-    put(out, "}")
+    let row = row_of(alloc, item)?;
+    let row = row_json(alloc, &row)?;
+    json!(in alloc; { "KV": row })
 }
 
-impl Shape<TxnResult> for Row {
-    ghost meaning = { result_data };
-
-    fn write(out: &mut Vec<u8>, value: &TxnResult) -> Result<(), AllocError> {
-        put_result(out, value)
-    }
-}
-
-fn put_results(out: &mut Vec<u8>, results: &[TxnResult]) -> Result<(), AllocError>
-    ensures { OnOk result (out.new.items ≡ out.old.items ++ compact_text (results_data results.now)) }
+#[tactic(auto, unfolding(crate::specs::Writes::results_data))]
+fn results_json(alloc: Global, results: &[TxnResult]) -> Result<Value, AllocError>
+    ensures { IfOk result (λ json. view json ≡ results_data results.now) }
 {
-    put_list::<TxnResult, Row>(out, "{\"Errors\":null,\"Results\":", results)?;
-    put(out, "}")
+    let list = listed(alloc, results, |item| result_json(alloc, item))?;
+    json!(in alloc; { "Errors": null, "Results": list })
 }
 
+#[tactic(auto, using(crate::proofs::Plain::results_plain))]
 fn results_shown(alloc: Global, results: &List<TxnResult>) -> Result<Shown, Memory>
     ensures { IfOk result (λ shown. shown ≡ spec.json 200 (results_data results.now)) }
 {
-    let mut out = empty(alloc)?;
-    put_results(&mut out, results.as_slice())?;
-    Ok(shown(out))
+    let json = results_json(alloc, results.as_slice())?;
+    written(alloc, 200, &json)
 }
 
 /// What the catalog's answer to the command shows.

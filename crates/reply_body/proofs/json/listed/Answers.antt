@@ -5,7 +5,7 @@ use Rattle.serde_json.specs.Data.{array}
 use Rattle.serde_json.specs.View.{view, items_of}
 use Rattle.serde_json.proofs.Views.{view-Array}
 use Rattle.reply_body.proofs.Items.{next_listed}
-use Rattle.reply_body.proofs.bodies.listed.Goals as goal
+use Rattle.reply_body.proofs.json.listed.Goals as goal
 
 pub loop-item-preserved : goal.loop-item-preserved
 loop-item-preserved g c = λ f h.
