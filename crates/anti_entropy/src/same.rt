@@ -1,14 +1,15 @@
 //! Whether rows and their small values are equal.
 
-ghost use Rattle.std.specs.Prelude.{◌≡◌};
+ghost use Rattle.std.specs.Prelude.{◌≡◌, Some};
 ghost use Rattle.cat_model.specs.Keys.{same_texts};
-ghost use Rattle.cat_model.specs.Same.{same_bool, same_status, alike_nodes, alike_services, alike_checks};
+ghost use Rattle.cat_model.specs.Same.{same_bool, same_status, alike_nodes, alike_checks};
+ghost use Rattle.anti_entropy.specs.Parts.{are_alike, retagged};
 
 use cat_model::lists::all_same;
 use cat_model::{CheckRow, NodeRow, ServiceRow, Status, Texts};
 use node_rows::is_same;
 
-fn are_same(a: &Texts, b: &Texts) -> bool
+pub(crate) fn are_same(a: &Texts, b: &Texts) -> bool
     ensures { result ≡ same_texts a.now b.now }
 {
     all_same(a.as_slice(), b.as_slice(), |x, y| is_same(x, y))
@@ -37,16 +38,25 @@ pub(crate) fn are_alike_nodes(a: &NodeRow, b: &NodeRow) -> bool
     is_same(&a.node, &b.node) && is_same(&a.address, &b.address)
 }
 
-pub(crate) fn are_alike_services(a: &ServiceRow, b: &ServiceRow) -> bool
-    ensures { result ≡ alike_services a.now b.now }
+// Whether the service has the catalog's tags once it took over what it may.
+#[tactic(auto, using(crate::proofs::TakenTags::same_already))]
+fn has_same_tags(there: &ServiceRow, service: &ServiceRow) -> bool
+    ensures { result ≡ same_texts there.now.tags (retagged (Some there.now) service.now).tags }
 {
-    is_same(&a.node, &b.node)
-        && is_same(&a.id, &b.id)
-        && is_same(&a.name, &b.name)
-        && are_same(&a.tags, &b.tags)
-        && is_same(&a.address, &b.address)
-        && a.port == b.port
-        && is_same_flag(a.tag_override, b.tag_override)
+    service.tag_override || are_same(&there.tags, &service.tags)
+}
+
+/// Whether the catalog's service and the agent's are equal, with the tags that this one takes over.
+pub(crate) fn are_alike_services(there: &ServiceRow, service: &ServiceRow) -> bool
+    ensures { result ≡ are_alike there.now service.now }
+{
+    is_same(&there.node, &service.node)
+        && is_same(&there.id, &service.id)
+        && is_same(&there.name, &service.name)
+        && has_same_tags(there, service)
+        && is_same(&there.address, &service.address)
+        && there.port == service.port
+        && is_same_flag(there.tag_override, service.tag_override)
 }
 
 pub(crate) fn are_alike_checks(a: &CheckRow, b: &CheckRow) -> bool

@@ -1,36 +1,49 @@
 //! Tags that an agent takes over from the catalog.
 
-ghost use Rattle.std.specs.Prelude.{◌≡◌, IfOk, map};
-ghost use Rattle.cat_model.specs.Syncs.{merged_service};
+ghost use Rattle.std.specs.Prelude.{◌≡◌, ◌∷◌, [], IfOk, map};
+ghost use Rattle.cat_model.specs.Catalog.{service_at, service_key};
+ghost use Rattle.cat_model.specs.Keys.{pair_cmp};
+ghost use Rattle.cat_model.specs.Tables.{Ascends};
+ghost use Rattle.node_rows.specs.Tags.{all_tagged, tagged_at};
+ghost use Rattle.anti_entropy.specs.Parts.{new_tagged, retagged};
 
-use cat_model::lists::{copy_of, made};
-use cat_model::{List, Memory, ServiceRow};
-use node_rows::find_service;
+use crate::same::are_same;
+use cat_model::{Memory, ServiceRow, Texts};
+use node_rows::{Retag, Seen, found};
 use std::alloc::Global;
 
-/// The service with the catalog's tags, where it allows that and the catalog has it.
-fn merged_service(remote: &[ServiceRow], service: &ServiceRow) -> Result<ServiceRow, Memory>
-    ensures { IfOk result (λ s. s ≡ merged_service remote.now service.now) }
+// The tags of the catalog's service that the service takes over, where they are others.
+#[tactic(auto, using(crate::proofs::TakenTags::none_taken, crate::proofs::TakenTags::same_taken))]
+fn new_tags(service: &ServiceRow, there: &[Seen<'_, ServiceRow>]) -> Result<Option<Texts>, Memory>
+    requires { Ascends pair_cmp service_key there.now }
+    ensures { IfOk result (λ tags. new_tagged tags service.now ≡ retagged (service_at (service_key service.now) there.now) service.now) }
 {
-    let copy = copy_of(service)?;
     if !service.tag_override {
-        return Ok(copy);
+        return Ok(None);
     }
-    match find_service(&service.node, &service.id, remote) {
-        None => Ok(copy),
-        Some(there) => {
-            let tags = there.tags.clone()?;
-            Ok(ServiceRow { tags, ..copy })
-        }
+    let Some(other) = found(there, service) else {
+        return Ok(None);
+    };
+    if are_same(&other.tags, &service.tags) {
+        return Ok(None);
     }
+    Ok(Some(other.tags.clone()?))
 }
 
-pub(crate) fn merged_services(
+/// The tags that the services take over.
+pub(crate) fn retags<'b, 'a>(
     alloc: Global,
-    remote: &[ServiceRow],
-    services: &[ServiceRow],
-) -> Result<List<ServiceRow>, Memory>
-    ensures { IfOk result (λ l. l ≡ map (merged_service remote.now) services.now) }
+    services: &'b [Seen<'a, ServiceRow>],
+    there: &'b [Seen<'a, ServiceRow>],
+) -> Result<Vec<Retag>, Memory>
+    requires { Ascends pair_cmp service_key there.now }
+    ensures { IfOk result (λ tags. all_tagged tags.items services.now ≡ map (λ s. retagged (service_at (service_key s) there.now) s) services.now) }
 {
-    made(alloc, services, |s| merged_service(remote, s))
+    let mut all = Vec::new(alloc);
+    for (at, service) in services.iter().enumerate() {
+        if let Some(tags) = new_tags(service.row(), there)? {
+            all.push(Retag { at, tags })?;
+        }
+    }
+    Ok(all)
 }
