@@ -12,7 +12,6 @@ use Rattle.httparse.specs.Spans.{IsRequestAt, IsRequestOf}
 use Rattle.httparse.specs.declared.spans.HeaderSpan.{HeaderSpan}
 use Rattle.httparse.specs.declared.spans.RequestSpans.{RequestSpans}
 use Rattle.http_wire.specs.Head.{judged}
-use Rattle.http_wire.specs.declared.head.Found.TheVariants as founds
 use Rattle.http_wire.specs.declared.rejection.Rejection.{Rejection}
 use Rattle.http_wire.specs.declared.rejection.Rejection.TheVariants as rejections
 use Rattle.http_wire.specs.declared.judge.Head.{Head}
@@ -129,9 +128,6 @@ front_size bytes top e = grind (arith, ap (λ (l : List ℕ). length l) e, lengt
 
 abbrev pub HasNone : List ℕ → Type 0
 HasNone bytes = HasNoRequest bytes
-
-pub more_not_bad : founds.More ≡ founds.Bad → ⊥
-more_not_bad e = cc e
 
 -- ---- no bytes may become a head
 

@@ -1,5 +1,5 @@
 -- What a step of the reader gives, from what the body's bytes make of it.
-use Rattle.std.proofs.Common.{◌≡◌, ◌≢◌, ℕ, ◌+◌, ◌-◌, ◌<◌, ◌≤◌, List, [], ◌∷◌, ◌++◌, true, false, length, take, drop, true≢false, refl, sym, ap, ◌∙◌, subst, arith, append_assoc, append-nil}
+use Rattle.std.proofs.Common.{◌≡◌, ◌≢◌, ℕ, ◌+◌, ◌-◌, ◌<◌, ◌≤◌, List, [], ◌∷◌, ◌++◌, true, false, length, take, drop, true≢false, refl, sym, ap, ◌∙◌, subst, arith, append_assoc, append-nil, length-append}
 use Rattle.std.specs.Prelude.{Option, Some, None, is_some}
 use Rattle.std.proofs.lemmas.List.{take-append-drop, take_at, length-drop, length-take-le}
 use Rattle.std.proofs.Math.Seq.{take-append-add}
@@ -173,6 +173,14 @@ pub held_few : (top : List ℕ) (head : Option Head) (body : List ℕ) → AreHe
 held_few top None body are = omega (arith, ap (λ (l : List ℕ). length l) are.0, are.1.1)
 held_few top (Some hd) body are =
     omega (arith, are.1, length_few are.0.head (facts_of hd) are.0.judged_so, are.0.is_head.size, ap (λ (l : List ℕ). length l) are.0.are)
+
+-- what refuses keeps what it had
+pub refused_few : (top body top' body' piece : List ℕ) (used : ℕ) (got : Got) (e : Rejection) → got ≡ gots.Refused e → Moves (top ++ body) piece used got (top' ++ body') → length top + length body ≤ 1064960
+    → length top' + length body' ≤ 1064960
+refused_few top body top' body' piece used got e is moves few =
+    let refuses = subst (λ (g : Got). Moves (top ++ body) piece used g (top' ++ body')) is moves in
+    let same : length (top' ++ body') ≡ length (top ++ body) = ap (λ (l : List ℕ). length l) refuses.1 in
+    grind (arith, same, length-append, few)
 
 pub keeps_held : (got : Got) (top : List ℕ) (head : Option Head) (body : List ℕ) → KeepsOf got top head body → ((e : Rejection) → got ≢ gots.Refused e) → got ≢ gots.Memory → AreHeld top head body
 keeps_held gots.More top head body k r m = k

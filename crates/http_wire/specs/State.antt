@@ -24,7 +24,6 @@ GoesOnHeld None a = IsHeld a.partial
 GoesOnHeld (Some s) a = Unit {0}
 
 pub record IsReader (a : Inside) : Type 0 where
-  pub room : length a.spans.items ≡ 8192
   pub is : GoesOnHeld a.stop a
   pub few : length a.partial.top.items + length a.partial.body.items ≤ 1064960
 

@@ -7,7 +7,6 @@ use crate::judge::Head;
 use crate::rejection::Rejection;
 use crate::seeking::{Look, first, rest_of, seek_head, size};
 use cat_model::{Bytes, Text};
-use httparse::spans::HeaderSpan;
 use std::alloc::Global;
 
 /// A request as it came (RFC 9112, sections 3 and 6). `close` says that the connection ends behind it (section 9.6).
@@ -133,24 +132,17 @@ fn feed_found(alloc: Global, partial: &mut Partial, head: Head, before: usize, p
 }
 
 // The next thing that a piece gives, behind what is held.
-pub(crate) fn advance(
-    alloc: Global,
-    partial: &mut Partial,
-    spans: &mut Vec<HeaderSpan>,
-    piece: &[u8],
-) -> Fed
-    requires room { length spans.old.items ≡ 8192 }
+pub(crate) fn advance(alloc: Global, partial: &mut Partial, piece: &[u8]) -> Fed
     requires is { IsHeld partial.old }
     ensures moves { Moves (held partial.old) piece.now result.used result.got (held partial.new) }
     ensures keeps { Keeps result.got partial.new }
-    ensures room { length spans.new.items ≡ 8192 }
     ensures used { result.used ≤ length piece.now }
 {
     if partial.head.is_some() {
         return feed_body(alloc, partial, piece);
     }
     let before = size(&partial.top);
-    match seek_head(alloc, &mut partial.top, spans.as_mut_slice(), piece) {
+    match seek_head(alloc, &mut partial.top, piece) {
         Look::More => Fed {
             used: piece.len(),
             got: Got::More,

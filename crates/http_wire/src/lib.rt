@@ -15,5 +15,5 @@ mod stream;
 pub use feeding::{Fed, Got, RawRequest};
 pub use reader::RequestReader;
 pub use rejection::Rejection;
-pub use reply::{write_continue, write_reply};
+pub use reply::{write_continue, write_head, write_reply};
 pub use stream::{Decoded, Item, decode};

@@ -5,13 +5,14 @@ ghost use Rattle.http_wire.specs.Reader.{Takes};
 ghost use Rattle.http_wire.specs.State.{Feeds, Tells, Told, rejection_in};
 
 use crate::feeding::{Fed, Got, Partial, advance};
-use crate::limits::SPANS;
 use crate::rejection::Rejection;
 use crate::seeking::size;
 use cat_model::Memory;
-use httparse::spans::{EMPTY_HEADER_SPAN, HeaderSpan};
 use std::alloc::Global;
 use std::marker::Model;
+
+/// Room for the bytes of a usual head.
+const USUAL_HEAD: usize = 512;
 
 /// Why a reader gives nothing more.
 #[derive(Clone, Copy, Debug, PartialEq, Eq)]
@@ -20,20 +21,11 @@ pub enum Stop {
     Memory,
 }
 
-// Room for the headers of a head.
-fn make_spans(alloc: Global) -> Result<Vec<HeaderSpan>, Memory>
-    ensures { IfOk result (λ v. length v.items ≡ 8192) }
-{
-    let spans = vec![in alloc; EMPTY_HEADER_SPAN; SPANS]?;
-    Ok(spans)
-}
-
 /// Reads the requests of a stream that comes in pieces, cut anywhere (RFC 9112, section 2.2).
 #[derive(Drop)]
 pub struct RequestReader {
     partial: Partial,
     stop: Option<Stop>,
-    spans: Vec<HeaderSpan>,
     alloc: Global,
 }
 
@@ -53,15 +45,13 @@ impl RequestReader {
         ensures empty { IfOk result (λ reader. (reader.held ≡ []) × (reader.stop ≡ None)) }
         ensures told { IfOk result (λ reader. Told [] [] reader.held reader.stop) }
     {
-        let spans = make_spans(alloc)?;
         Ok(RequestReader {
             partial: Partial {
-                top: Vec::new(alloc),
+                top: Vec::with_capacity(alloc, USUAL_HEAD)?,
                 head: None,
                 body: Vec::new(alloc),
             },
             stop: None,
-            spans,
             alloc,
         })
     }
@@ -92,7 +82,7 @@ impl RequestReader {
                 got: Got::Memory,
             },
             None => {
-                let fed = advance(self.alloc, &mut self.partial, &mut self.spans, piece);
+                let fed = advance(self.alloc, &mut self.partial, piece);
                 match &fed.got {
                     Got::Refused(rejection) => {
                         self.stop = Some(Stop::Refused(*rejection));

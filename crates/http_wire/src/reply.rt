@@ -51,6 +51,18 @@ pub fn write_reply(alloc: Global, reply: &Reply, close: bool, out: &mut Bytes) -
     out.extend(written.as_slice())
 }
 
+/// Puts the head of the reply last, with the length of the content that it would have (RFC 9110, section 9.3.2). After want
+/// of memory `out` is as before.
+pub fn write_head(alloc: Global, reply: &Reply, close: bool, out: &mut Bytes) -> Result<(), Memory>
+    requires { IsStatusCode reply.now.status }
+    ensures ok { OnOk result (out.new ≡ out.old ++ head_bytes reply.now close) }
+    ensures err { OnErr result (out.new ≡ out.old) }
+{
+    let mut written = Vec::new(alloc);
+    put_head(alloc, &mut written, reply, close)?;
+    out.extend(written.as_slice())
+}
+
 /// Puts `100 Continue` last (RFC 9110, section 15.2.1). After want of memory `out` is as before.
 pub fn write_continue(out: &mut Bytes) -> Result<(), Memory>
     ensures ok { OnOk result (out.new ≡ out.old ++ continue_bytes) }

@@ -4,10 +4,11 @@ ghost use Rattle.std.specs.Prelude.{◌≡◌, ◌≤◌, ◌<◌, ◌++◌, len
 ghost use Rattle.http_wire.specs.Stream.{IsTail, no_head, front};
 ghost use Rattle.http_wire.specs.Reader.{Looks};
 
-use crate::head::{Found, read_head};
+use crate::head::{Found, make_spans, read_head};
 use crate::judge::{Head, Judged, judge_head};
-use crate::limits::HEAD_BYTES;
+use crate::limits::{HEAD_BYTES, HEADERS};
 use crate::rejection::Rejection;
+use cat_model::Memory;
 use httparse::spans::HeaderSpan;
 use std::alloc::Global;
 
@@ -66,14 +67,8 @@ fn cut_back(top: &mut Vec<u8>, keep: usize)
     top.truncate(keep);
 }
 
-// Looks for a head at the front of what is held and the piece.
-pub(crate) fn seek_head(
-    alloc: Global,
-    top: &mut Vec<u8>,
-    spans: &mut [HeaderSpan],
-    piece: &[u8],
-) -> Look
-    requires room { length spans.old ≡ 8192 }
+// Looks for a head at the front of what is held and the piece, in that room for headers.
+fn look_in(alloc: Global, top: &mut Vec<u8>, spans: &mut Vec<HeaderSpan>, piece: &[u8]) -> Look
     requires start { IsTail no_head top.old.items }
     ensures { Looks top.old.items piece.now top.new.items result }
 {
@@ -81,7 +76,8 @@ pub(crate) fn seek_head(
     if !fill_front(top, piece) {
         return Look::Memory;
     }
-    match read_head(top.as_slice(), spans) {
+    match read_head(alloc, top.as_slice(), spans) {
+        Found::Memory => Look::Memory,
         Found::Bad => {
             cut_back(top, before);
             Look::Refused(Rejection::Head)
@@ -94,7 +90,7 @@ pub(crate) fn seek_head(
                 Look::Refused(Rejection::HeadTooLarge)
             }
         }
-        Found::Head(head) => match judge_head(alloc, top.as_slice(), &head, spans) {
+        Found::Head(head) => match judge_head(alloc, top.as_slice(), &head, spans.as_slice()) {
             Judged::Fine(found) => {
                 cut_back(top, head.len);
                 Look::Found(found)
@@ -105,5 +101,16 @@ pub(crate) fn seek_head(
                 Look::Refused(rejection)
             }
         },
+    }
+}
+
+// Looks for a head at the front of what is held and the piece.
+pub(crate) fn seek_head(alloc: Global, top: &mut Vec<u8>, piece: &[u8]) -> Look
+    requires start { IsTail no_head top.old.items }
+    ensures { Looks top.old.items piece.now top.new.items result }
+{
+    match make_spans(alloc, HEADERS) {
+        Ok(mut spans) => look_in(alloc, top, &mut spans, piece),
+        Err(Memory) => Look::Memory,
     }
 }

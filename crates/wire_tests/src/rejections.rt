@@ -48,24 +48,30 @@ fn wrong_headers_are_refused(rt: HostRuntime) -> Result<(), Fail> {
     Ok(())
 }
 
-// A head with so many headers, each a Host.
-fn hosts(alloc: Global, count: usize) -> Result<Vec<u8>, Memory> {
+// A head with so many headers, each a Host, and what stands behind them.
+fn hosts(alloc: Global, count: usize, behind: &str) -> Result<Vec<u8>, Memory> {
     let mut stream = Vec::from_slice(alloc, b"GET / HTTP/1.1\r\n")?;
     for _ in 0..count {
         stream.extend_from_slice(b"Host: x\r\n")?;
     }
-    stream.extend_from_slice(b"\r\n")?;
+    stream.extend_from_slice(behind.as_bytes())?;
     Ok(stream)
 }
 
 #[test]
 fn many_headers_are_refused_before_two_hosts(rt: HostRuntime) -> Result<(), Fail> {
     let alloc = rt.alloc();
-    assert_eq!(rt; rejection(alloc, hosts(alloc, 64)?)?, Some(Rejection::Host));
-    assert_eq!(rt;
-        rejection(alloc, hosts(alloc, 65)?)?,
-        Some(Rejection::HeadTooLarge)
-    );
+    for (count, behind, want) in [
+        (64, "\r\n", Some(Rejection::Host)),
+        (65, "\r\n", Some(Rejection::HeadTooLarge)),
+        (1800, "\r\n", Some(Rejection::HeadTooLarge)),
+        (65, "", None),
+        (1800, "", None),
+        (1800, "\0", Some(Rejection::Head)),
+    ] {
+        let stream = hosts(alloc, count, behind)?;
+        assert_eq!(rt; rejection(alloc, stream)?, want, "{count} headers");
+    }
     Ok(())
 }
 

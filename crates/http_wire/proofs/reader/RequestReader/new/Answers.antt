@@ -7,10 +7,9 @@ use Rattle.http_wire.proofs.reader.RequestReader.new.Goals as goal
 
 pub invariant_of-result : goal.invariant_of-result
 invariant_of-result c = record {
-  room = c.in_ok-spans.ensures;
-  is = (c.new-2.ensures.items, subst (IsTail no_head) (sym c.new.ensures.items) nothing_yet);
-  few = grind (arith, ap (λ (l : List ℕ). length l) c.new.ensures.items, ap (λ (l : List ℕ). length l) c.new-2.ensures.items);
+  is = (c.new.ensures.items, subst (IsTail no_head) (sym c.in_ok-with_capacity.ensures.items) nothing_yet);
+  few = grind (arith, ap (λ (l : List ℕ). length l) c.new.ensures.items, ap (λ (l : List ℕ). length l) c.in_ok-with_capacity.ensures.items);
 }
 
 pub returns-clause-told : goal.returns-clause-told
-returns-clause-told c = told_first _ _ (both_none _ _ c.new.ensures.items c.new-2.ensures.items) refl
+returns-clause-told c = told_first _ _ (both_none _ _ c.in_ok-with_capacity.ensures.items c.new.ensures.items) refl
