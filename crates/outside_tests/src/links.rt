@@ -7,7 +7,7 @@ use crate::echo::Echo;
 use cat_model::{Bytes, List};
 use cat_outside::{Failed, KeepFail};
 use serve_outside::{
-    Link, Listener, MemLink, MemListener, Script, TcpLink, TcpLinks, ThreadSpawner, finish, start,
+    Link, Listener, MemLink, MemListener, Script, TcpLinks, ThreadSpawner, finish, start,
 };
 use std::alloc::Global;
 use std::io;
@@ -15,6 +15,7 @@ use std::io::{Read, Write};
 use std::net::{Net, Shutdown, TcpListener, TcpStream};
 use std::test::Fail;
 use std::thread::Threads;
+use std::time::Clock;
 
 // The calls of these numbers.
 fn calls(alloc: Global, numbers: &[u64]) -> Result<List<u64>, Fail> {
@@ -178,8 +179,12 @@ fn is_at_end(client: &mut TcpStream) -> bool {
 
 // Echoes in a thread what the client says, and gives the connection back and whether the client hears it, or none where
 // the job is refused.
-fn echoed(rt: &impl Threads, client: &mut TcpStream, link: TcpLink) -> Option<(TcpLink, bool)>
-    requires still_open { (⟦<TcpLink as Link>⟧.state link).shut ≡ false }
+fn echoed<L: Link + Send + 'static>(
+    rt: &impl Threads,
+    client: &mut TcpStream,
+    link: L,
+) -> Option<(L, bool)>
+    requires still_open { (L.state link).shut ≡ false }
 {
     match start(&mut ThreadSpawner::new(), rt, Echo { link }) {
         Ok(task) => {
@@ -194,11 +199,14 @@ fn echoed(rt: &impl Threads, client: &mut TcpStream, link: TcpLink) -> Option<(T
 }
 
 // Whether the client hears its echo, and nothing behind that.
-fn is_served(
+fn is_served<Li: Listener>(
     rt: &impl Threads,
-    listener: &mut impl Listener<Link = TcpLink>,
+    listener: &mut Li,
     client: &mut TcpStream,
-) -> Result<bool, Failed> {
+) -> Result<bool, Failed>
+where
+    Li::Link: Send + 'static,
+{
     let link = listener.accept()?;
     match echoed(rt, client, link) {
         Some((link, heard)) => {
@@ -211,10 +219,16 @@ fn is_served(
 }
 
 // Whether a client is served at a port that the system chooses.
-fn serves_a_client<R: Threads + Net<Listener = TcpListener, Stream = TcpStream>>(
-    rt: &R,
-    listener: &mut TcpLinks<R>,
-) -> Result<bool, Fail> {
+fn serves_a_client<R>(rt: &R, listener: &mut TcpLinks<R>) -> Result<bool, Fail>
+where
+    R: Threads
+        + Net<Listener = TcpListener, Stream = TcpStream>
+        + Clock
+        + Copy
+        + Drop
+        + Send
+        + 'static,
+{
     listener.listen(0)?;
     let Some(address) = listener.address() else {
         return Ok(false);

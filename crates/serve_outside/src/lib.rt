@@ -2,8 +2,10 @@
 //! caller, drawn words, durable stores of servers, a clock, and a pause. Each is there in memory, and over the machine.
 #![tactic(auto)]
 
+mod awaited;
 mod job;
 mod keepers;
+mod lingering;
 mod link;
 mod machine;
 mod mem_link;
@@ -11,9 +13,11 @@ mod mem_listener;
 mod pace;
 mod spawner;
 mod starting;
-mod tcp;
+mod tcp_link;
+mod tcp_listener;
 mod words;
 
+pub use awaited::{Awaited, Limits};
 pub use job::{Job, NoteOf, Task};
 pub use keepers::{Keepers, MemKeepers, SureKeepers};
 pub use link::{Link, Listener};
@@ -23,5 +27,6 @@ pub use mem_listener::MemListener;
 pub use pace::{Clock, Gate, SetClock};
 pub use spawner::{Spawner, finish, start};
 pub use starting::{MemSpawner, ThreadSpawner};
-pub use tcp::{TcpLink, TcpLinks};
+pub use tcp_link::TcpLink;
+pub use tcp_listener::TcpLinks;
 pub use words::{CountWords, Words};

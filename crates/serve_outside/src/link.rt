@@ -2,12 +2,17 @@ ghost use Rattle.std.specs.Prelude.{◌≡◌, ℕ, ◌+◌, List, [], ◌∷◌
 ghost use Rattle.cat_outside.specs.Causes.{HasCause};
 ghost use Rattle.serve_outside.specs.Links.{LinkState, IsNew, Reads, Writes, Shuts};
 
+use crate::Awaited;
 use cat_outside::{Failed, KeepFail};
 
 /// A connection. It counts its ends, its failed reads and its failed writes.
 pub trait Link: Drop {
     /// All that it tells.
     ghost state: { Self → LinkState };
+
+    /// Says what the next reads wait for, which bounds how long they wait: a read that waits longer fails.
+    fn expect(&mut self, what: Awaited)
+        ensures { state self.new ≡ state self.old };
 
     /// Takes the next bytes, and says how many. 0 for a buffer that is not empty is the end.
     fn read(&mut self, into: &mut [u8]) -> Result<usize, Failed>
@@ -53,6 +58,13 @@ pub trait Listener {
         ensures given { MatchResult result (λ _. given self.new ≡ given self.old + 1) (λ _. given self.new ≡ given self.old) }
         ensures cause { HasCause (faults self.old) (faults self.new) result }
         ensures closed { closed self.new ≡ closed self.old }
+        ensures listens { listens_on self.new ≡ listens_on self.old };
+
+    /// Takes no more connections, and gives back what it listens with.
+    fn stop(&mut self)
+        ensures given { given self.new ≡ given self.old }
+        ensures closed { closed self.new ≡ closed self.old }
+        ensures faults { faults self.new ≡ faults self.old }
         ensures listens { listens_on self.new ≡ listens_on self.old };
 
     /// Takes a connection back. It takes no memory.

@@ -2,7 +2,7 @@ ghost use Rattle.std.specs.Prelude.{◌≡◌, ◌↔◌, ◌≤◌, ◌++◌, S
 ghost use Rattle.cat_outside.specs.Causes.{counted};
 ghost use Rattle.cat_outside.specs.InMemory.{is_listed};
 
-use crate::Link;
+use crate::{Awaited, Link};
 use cat_model::{Bytes, List};
 use cat_outside::{Failed, KeepFail, is_listed};
 use std::alloc::Global;
@@ -110,6 +110,8 @@ impl Link for MemLink {
     ghost use Rattle.serve_outside.specs.Links.{Reads, Writes};
 
     ghost state = { told };
+
+    fn expect(&mut self, _what: Awaited) {}
 
     fn read(&mut self, into: &mut [u8]) -> Result<usize, Failed>
         ensures reads { Reads (told self.old) into.new result (told self.new) }

@@ -137,6 +137,10 @@ impl Listener for MemListener {
         Ok(MemLink::new(self.alloc, script, self.given))
     }
 
+    fn stop(&mut self)
+        ensures { self.new ≡ self.old }
+    {}
+
     fn close(&mut self, link: MemLink)
         ensures closed { map (λ p. told p.0) self.new.closed.items ≡ map (λ p. told p.0) self.old.closed.items ++ told link ∷ [] }
         ensures given { self.new.given ≡ self.old.given }
