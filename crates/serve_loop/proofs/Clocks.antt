@@ -1,20 +1,20 @@
 -- How far clocks go, over marks that stand one behind another.
-use Rattle.std.proofs.Common.{◌≡◌, ◌⊎◌, inl, inr, ℕ, ◌+◌, ◌^◌, ◌<◌, ◌≤◌, true, List, [], ◌∷◌, ◌++◌, refl, sym, ◌∙◌, subst, append-nil, arith, Result, Ok, Err}
-use Rattle.std.specs.Prelude.{OnOk}
+use Rattle.std.proofs.Common.{◌≡◌, ℕ, ◌+◌, List, [], ◌∷◌, ◌++◌, refl, sym, ◌∙◌, subst, append-nil, arith, Result, Ok, Err}
+use Rattle.std.specs.Prelude.{IfOk, OnOk}
 use Rattle.std.specs.List.{AllByRecursion}
 use Rattle.cat_model.specs.declared.memory.Memory.{Memory}
 use Rattle.cat_model.specs.declared.request.Event.TheVariants as event
 use Rattle.cat_model.specs.declared.reply.Mark.{Mark}
 use Rattle.cat_model.specs.declared.reply.Mark.TheVariants as mark
 use Rattle.cluster_rules.specs.Replies.{Reply}
-use Rattle.turn_lock.specs.Lists.{Among, EachOnce, numbers}
+use Rattle.turn_lock.specs.Lists.{EachOnce, numbers}
 use Rattle.serve_loop.specs.declared.cluster.Ask.{Ask}
 use Rattle.serve_loop.specs.declared.cluster.Collected.{Collected}
 use Rattle.serve_loop.specs.declared.cluster.Collected.TheVariants as collected
 use Rattle.serve_loop.specs.Collects.{Collects}
-use Rattle.serve_loop.specs.Marks.{Delivers, TicksAll, TicksBy, TicksNone, ticks, ticks_by}
-use Rattle.serve_loop.specs.Turns.{GetsOn, GoesOn, StandsStill, passed}
-use Rattle.serve_loop.proofs.MarkLists.{append_none, in_left, in_right, joined, none_append}
+use Rattle.serve_loop.specs.Marks.{AddsQuiet, Delivers, TicksBy, TicksNone, ticks, ticks_by}
+use Rattle.serve_loop.specs.Turns.{GoesOn, Settles, StandsStill, passed}
+use Rattle.serve_loop.proofs.MarkLists.{append_none, joined, none_append}
 
 -- where no clock went on, none did by any milliseconds
 pub by_none : (xs : List Mark) → numbers ticks xs ≡ [] → numbers ticks_by xs ≡ []
@@ -77,57 +77,8 @@ collects_still shows n (collected.Ready reply) old new x = still_taken n old new
 collects_still shows n collected.NotYet old new x = still_same old new x
 collects_still shows n collected.Gone old new x = still_same old new x.0
 
--- Clocks that went on, and marks by which none does.
-pub all_still : (servers : ℕ) (clock : ℕ → ℕ) (ms : ℕ) (a b c : List Mark) → TicksAll servers clock ms a b → TicksNone b c → TicksAll servers clock ms a c
-all_still servers clock ms a b c x y = record {
-  rest = x.rest ++ y.rest;
-  are = joined a b c x.rest y.rest x.are y.are;
-  each = λ s p l. more s (x.each s p l);
-}
-  where
-    more : (s : ℕ) → Among s (numbers ticks x.rest) ⊎ (2 ^ 53 < clock s + ms) → Among s (numbers ticks (x.rest ++ y.rest)) ⊎ (2 ^ 53 < clock s + ms)
-    more s (inl a) = inl (subst (Among s) (sym (append_none ticks x.rest y.rest y.none)) a)
-    more s (inr l) = inr l
-
--- deliveries behind other marks, and before others that leave no message under way where none was
-delivers_behind : (most : ℕ) (idle : Type 0) (count : ℕ) (a b c rest : List Mark) → b ≡ a ++ rest → Delivers most idle count b c → Delivers most idle count a c
-delivers_behind most idle count a b c rest e y = record {
-  rest = rest ++ y.rest;
-  are = joined a b c rest y.rest e y.are;
-  told = in_right (mark.Settled count true) rest y.rest y.told;
-  enough = y.enough;
-}
-
-delivers_before : (most : ℕ) (idle idle' : Type 0) (count : ℕ) (a b c : List Mark) → (idle → idle') → Delivers most idle count a b → TicksNone b c → Delivers most idle' count a c
-delivers_before most idle idle' count a b c keep x y = record {
-  rest = x.rest ++ y.rest;
-  are = joined a b c x.rest y.rest x.are y.are;
-  told = in_left (mark.Settled count true) x.rest y.rest x.told;
-  enough = kept x.enough;
-}
-  where
-    kept : (count ≡ most) ⊎ ((count ≤ most) × idle) → (count ≡ most) ⊎ ((count ≤ most) × idle')
-    kept (inl e) = inl e
-    kept (inr l) = inr (l.0, keep l.1)
-
--- an ask, if there is one, and then deliveries
-pub asked_delivers : (last last' : ℕ) (idle : Type 0) (a b c : List Mark) → StandsStill last last' a b → (count : ℕ) → Delivers 4096 idle count b c → (n : ℕ) × Delivers 4096 idle n a c
-asked_delivers last last' idle a b c x count d = (count, delivers_behind 4096 idle count a b c x.1.rest x.1.are d)
-
--- what a turn does before it collects
-pub gets_on : (r : Result ℕ Memory) (servers : ℕ) (clock : ℕ → ℕ) (k l m now : ℕ) (idle : Type 0) (a b c : List Mark) → (0 < passed k now → TicksAll servers clock (passed k now) a b) → GoesOn k l now a b → StandsStill l m b c
-    → OnOk r ((count : ℕ) × Delivers 4096 idle count b c) → OnOk r (GetsOn servers clock k now idle a c)
-gets_on (Ok n) servers clock k l m now idle a b c all x y (count, d) = record {
-  all = λ p. all_still servers clock (passed k now) a b c (all p) y.1;
-  count = count;
-  delivered = delivers_behind 4096 idle count a b c x.1.rest x.1.are d;
-}
-gets_on (Err e) servers clock k l m now idle a b c all x y o = o
-
--- and then it collects
-pub gets_past : (servers : ℕ) (clock : ℕ → ℕ) (last now : ℕ) (idle idle' : Type 0) (a b c : List Mark) → GetsOn servers clock last now idle a b → (idle → idle') → TicksNone b c → GetsOn servers clock last now idle' a c
-gets_past servers clock last now idle idle' a b c x keep y = record {
-  all = λ p. all_still servers clock (passed last now) a b c (x.all p) y;
-  count = x.count;
-  delivered = delivers_before 4096 idle idle' x.count a b c keep x.delivered y;
-}
+-- what messages that were delivered leave
+module _ {C : Type 0} (marks : C → List Mark) (idle : C → Type 0) where
+  pub settles : (r : Result ℕ Memory) (old new : C) → AddsQuiet (marks old) (marks new) → TicksNone (marks old) (marks new) → IfOk r (λ count. Delivers 4096 (idle new) count (marks old) (marks new)) → OnOk r (Settles marks idle old new)
+  settles (Ok count) old new quiet still d = record { quiet = quiet; still = still; count = count; delivered = d }
+  settles (Err e) old new quiet still d = tt

@@ -16,7 +16,7 @@ use Rattle.serve_loop.specs.declared.cause.Cause.TheVariants as cause
 use Rattle.serve_loop.specs.Complete.{AnswersAll, EndsWell, IsUnbroken}
 use Rattle.serve_loop.specs.Jobs.{agent_of}
 use Rattle.serve_loop.specs.Runs.{IsDrawn, IsServed, is_short}
-use Rattle.serve_loop.specs.Serving.{Closes, EndsBy, Exchange, IsWhole}
+use Rattle.serve_loop.specs.Serving.{AreOpen, Closes, EndsBy, Exchange, IsWhole}
 
 -- what was appended to nothing
 appended : (o o' : Option (List ℕ)) (bytes : List ℕ) → ForSome o (λ b. b ≡ []) → o' ≡ append_known o bytes → ForSome o' (λ b. b ≡ bytes)
@@ -62,11 +62,11 @@ module _ (shows : ℕ → Ask → Reply → List Mark → Type 0) (agents : ℕ)
       → EndsBy shows (record { agent = agent_of agents link.number; draw = draw; first = first; begun = begun }) why link known requests → is_short why ≡ false → IsUnbroken link → AnswersAll shows agents draws Knows link
   ended cause.Closed first draw begun known requests seen new drawn shut w long u = whole_of first draw begun known requests seen new drawn shut _ None (λ es rest e. closed es rest e) w
     where
-      closed : (es : List Exchange) (rest : List ℕ) → ((rest ≡ []) × Rose first.ends link.ends) ⊎ Closes es → ((rest ≡ []) × (0 < link.ends)) ⊎ Closes es
-      closed es rest (inl e) = inl (e.0, let k = e.1 in omega (arith, k))
-      closed es rest (inr c) = inr c
+      closed : (es : List Exchange) (rest : List ℕ) → ((rest ≡ []) × AreOpen es × Rose first.ends link.ends) ⊎ (Closes es × (link.ends ≡ first.ends)) → ((rest ≡ []) × AreOpen es × (0 < link.ends)) ⊎ (Closes es × (link.ends ≡ 0))
+      closed es rest (inl e) = inl (e.0, e.1, let k = e.2 in omega (arith, k))
+      closed es rest (inr c) = inr (c.0, c.1 ∙ new.no_ends)
   ended (cause.Refused r) first draw begun known requests seen new drawn shut w long u = whole_of first draw begun known requests seen new drawn shut _ (Some r) (λ es rest e. e) w
-  ended cause.ReadFault first draw begun known requests seen new drawn shut w long u = absurd (not_risen first.read_faults link.read_faults new.no_read_faults u.0 w.ends.1)
+  ended cause.ReadFault first draw begun known requests seen new drawn shut w long u = absurd (not_risen first.read_faults link.read_faults new.no_read_faults u.0 w.ends.2)
   ended cause.WriteFault first draw begun known requests seen new drawn shut w long u = absurd (not_risen first.write_faults link.write_faults new.no_write_faults u.1 w.1)
   ended cause.Memory first draw begun known requests seen new drawn shut w long u = absurd (cc long)
 

@@ -27,9 +27,9 @@ use Rattle.turn_lock.proofs.Lists.{among_left}
 use Rattle.serve_loop.specs.declared.cluster.Ask.{Ask}
 use Rattle.serve_loop.specs.declared.cause.Cause.{Cause}
 use Rattle.serve_loop.specs.declared.cause.Cause.TheVariants as cause
-use Rattle.serve_loop.specs.Replies.{refusing, text_of}
+use Rattle.serve_loop.specs.Replies.{refusing}
 use Rattle.serve_loop.specs.Waiting.{Grows, IsAnswered}
-use Rattle.serve_loop.specs.Serving.{Connection, Exchange, continued, replied, items_of, bytes_of, count_of, last_bytes, asked_by, IsReply, IsReplyTo, IsResponse, draw_of, unrouted, answered, AreTrue, IsLater, Passed, Came, IsCut, IsWhole, EndsBy}
+use Rattle.serve_loop.specs.Serving.{Connection, Exchange, continued, replied, items_of, answer_bytes, bytes_of, count_of, last_bytes, AreOpen, OpenBefore, asked_by, IsReply, IsReplyTo, IsResponse, draw_of, unrouted, answered, AreTrue, IsLater, Passed, Came, IsCut, IsWhole, EndsBy}
 use Rattle.serve_loop.specs.Stages.{IsAfterWrite, StopsBy, Wrote, Stage, Talks, Owes, OwesRefusal, Comes, GoesOn, IsTaking}
 use Rattle.serve_loop.proofs.OwnTurns.{grows_none, grows_on}
 use Rattle.serve_loop.proofs.Written.{known_nil, known_on, rose_from}
@@ -66,6 +66,11 @@ gives_none stream items held r = record {
 -- a write that nothing stopped wrote the whole piece
 wrote_whole : (old new : LinkState) (piece : List ℕ) {u : Unit {0}} → Wrote old piece (Ok u) new → new.said ≡ append_known old.said piece
 wrote_whole old new piece w = w.said ∙ ap (append_known old.said) (sym (w.piece_is ∙ (ap (λ (l : List ℕ). w.written ++ l) w.whole ∙ append-nil w.written)))
+
+open_before : (es : List Exchange) → AreOpen es → OpenBefore es
+open_before [] a = tt
+open_before (continued ∷ es) a = a
+open_before (replied m reply ∷ es) a = a.1
 
 drop_all : (piece : List ℕ) (used : ℕ) → used ≡ length piece → drop used piece ≡ []
 drop_all piece used e = ap (λ n. drop n piece) e ∙ drop-length piece
@@ -115,6 +120,7 @@ module _ (shows : ℕ → Ask → Reply → List Mark → Type 0) (c : Connectio
     unwritten = x.unwritten;
     least = x.least;
     most = x.most;
+    open_before = x.open_before;
     came = record { stream = x.came.stream; written = x.came.written; passed = passed_later link v w x.es _ _ g x.came.passed; gives = x.came.gives; due = x.came.due };
   }
 
@@ -146,6 +152,7 @@ module _ (shows : ℕ → Ask → Reply → List Mark → Type 0) (c : Connectio
     came = came_whole s.link s.known x.es x.stream rest x.passed (gives_none x.stream (items_of x.es) s.reader.held x.told);
     least = omega arith;
     most = omega arith;
+    open_before = open_before x.es x.are_open;
   }
 
   -- what is due was written in part
@@ -177,6 +184,8 @@ module _ (shows : ℕ → Ask → Reply → List Mark → Type 0) (c : Connectio
     going = o.going;
     count = o.count;
     unshut = w.after.shut ∙ o.unshut;
+    are_open = o.are_open;
+    unended = w.after.ends ∙ o.unended;
   }
   continues s new rest (Err why) w o = stopped why s.link new s.known s.requests o.passed.later w.stopped (let n = o.count in record {
     es = continued ∷ o.es;
@@ -187,6 +196,7 @@ module _ (shows : ℕ → Ask → Reply → List Mark → Type 0) (c : Connectio
         (gives_none o.stream (items_of (continued ∷ o.es)) s.reader.held o.told) (append-nil (bytes_of o.es ++ continue_bytes)) w;
     least = omega arith;
     most = omega arith;
+    open_before = o.are_open;
   })
 
   -- the reply to a request
@@ -206,40 +216,43 @@ module _ (shows : ℕ → Ask → Reply → List Mark → Type 0) (c : Connectio
     gives : GivesAll o.stream (items_of es) None
     gives = gives_none o.stream (items_of es) s.reader.held o.told
 
-    pub gave : (new : LinkState) {u : Unit {0}} → Wrote s.link (text_of reply m.close) (Ok u) new → Talks shows c (record s { link = new; requests = n }) rest
-    gave new w = record {
+    pub gave : (new : LinkState) {u : Unit {0}} → Wrote s.link (answer_bytes m reply) (Ok u) new → m.close ≡ false → Talks shows c (record s { link = new; requests = n }) rest
+    gave new w goes_on = record {
       es = es;
       stream = o.stream;
-      passed = passed_wrote s.link new s.known es _ _ (text_of reply m.close) w.after (wrote_whole s.link new _ w) passed;
+      passed = passed_wrote s.link new s.known es _ _ (answer_bytes m reply) w.after (wrote_whole s.link new _ w) passed;
       told = o.told;
       going = o.going;
       count = counted;
       unshut = w.after.shut ∙ o.unshut;
+      are_open = (goes_on, o.are_open);
+      unended = w.after.ends ∙ o.unended;
     }
 
-    pub gave_last : (new : LinkState) {u : Unit {0}} → Wrote s.link (text_of reply m.close) (Ok u) new → m.close ≡ true → EndsBy shows c cause.Closed new s.known n
+    pub gave_last : (new : LinkState) {u : Unit {0}} → Wrote s.link (answer_bytes m reply) (Ok u) new → m.close ≡ true → EndsBy shows c cause.Closed new s.known n
     gave_last new w closes = record {
       es = es;
       rest = rest;
-      came = came_whole new s.known es o.stream rest (passed_wrote s.link new s.known es _ _ (text_of reply m.close) w.after (wrote_whole s.link new _ w) passed) gives;
+      came = came_whole new s.known es o.stream rest (passed_wrote s.link new s.known es _ _ (answer_bytes m reply) w.after (wrote_whole s.link new _ w) passed) gives;
       count = counted;
-      ends = inr closes;
+      ends = inr ((closes, o.are_open), w.after.ends ∙ o.unended);
     }
 
-    pub gave_part : (new : LinkState) (why : Cause) → Wrote s.link (text_of reply m.close) (Err why) new → EndsBy shows c why new s.known s.requests
+    pub gave_part : (new : LinkState) (why : Cause) → Wrote s.link (answer_bytes m reply) (Err why) new → EndsBy shows c why new s.known s.requests
     gave_part new why w = stopped why s.link new s.known s.requests o.passed.later w.stopped (let k = o.count in record {
       es = es;
       rejection = None;
       rest = rest;
       unwritten = w.unwritten;
-      came = came_part s.link new s.known es None o.stream rest (bytes_of o.es) (text_of reply m.close) (Err why) passed gives (append-nil (bytes_of o.es ++ text_of reply m.close)) w;
+      came = came_part s.link new s.known es None o.stream rest (bytes_of o.es) (answer_bytes m reply) (Err why) passed gives (append-nil (bytes_of o.es ++ answer_bytes m reply)) w;
       least = omega arith;
       most = omega arith;
+      open_before = o.are_open;
     })
 
-    pub gave_next : (new : LinkState) {u : Unit {0}} (r : Result Unit Cause) → Wrote s.link (text_of reply m.close) (Ok u) new → MatchResult r (λ _. m.close ≡ false) (λ why. (m.close ≡ true) × (why ≡ cause.Closed))
+    pub gave_next : (new : LinkState) {u : Unit {0}} (r : Result Unit Cause) → Wrote s.link (answer_bytes m reply) (Ok u) new → MatchResult r (λ _. m.close ≡ false) (λ why. (m.close ≡ true) × (why ≡ cause.Closed))
         → GoesOn shows c r (record s { link = new; requests = n }) rest
-    gave_next new (Ok v) w x = gave new w
+    gave_next new (Ok v) w x = gave new w x
     gave_next new (Err why) w x = subst (λ (z : Cause). EndsBy shows c z new s.known n) (sym x.1) (gave_last new w x.0)
 
   -- the reply to what is refused
@@ -250,7 +263,7 @@ module _ (shows : ℕ → Ask → Reply → List Mark → Type 0) (c : Connectio
     came = subst (λ (l : List ℕ). Came shows c new s.known o.es (Some why) [] l) w.whole
         (came_part s.link new s.known o.es (Some why) o.stream [] (bytes_of o.es) (last_bytes (Some why)) (Ok u) (passed_as s.link s.known o.es o.stream (o.stream ++ []) _ (append-nil o.stream) o.passed) o.gives refl w);
     count = o.count;
-    ends = refl;
+    ends = (refl, o.are_open);
   }
 
   pub refuses_part : (s : Stage) (new : LinkState) (why : Rejection) (cut : Cause) → Wrote s.link (last_bytes (Some why)) (Err cut) new → OwesRefusal shows c s.link s.known s.requests why → EndsBy shows c cut new s.known s.requests
@@ -262,11 +275,12 @@ module _ (shows : ℕ → Ask → Reply → List Mark → Type 0) (c : Connectio
     came = came_part s.link new s.known o.es (Some why) o.stream [] (bytes_of o.es) (last_bytes (Some why)) (Err cut) (passed_as s.link s.known o.es o.stream (o.stream ++ []) _ (append-nil o.stream) o.passed) o.gives refl w;
     least = omega arith;
     most = omega arith;
+    open_before = o.are_open;
   })
 
   -- what a read leaves
-  pub read_more : (s : Stage) (new : LinkState) (into : List ℕ) (n : ℕ) (r : Result ℕ Failed) → r ≡ Ok n → Reads s.link into r new → Talks shows c s [] → Talks shows c (record s { link = new }) (take n into)
-  read_more s new into n r e w x = record {
+  pub read_more : (s : Stage) (new : LinkState) (into : List ℕ) (n : ℕ) (r : Result ℕ Failed) → r ≡ Ok n → 0 < n → Reads s.link into r new → Talks shows c s [] → Talks shows c (record s { link = new }) (take n into)
+  read_more s new into n r e some w x = record {
     es = x.es;
     stream = x.stream;
     passed = record {
@@ -281,6 +295,8 @@ module _ (shows : ℕ → Ask → Reply → List Mark → Type 0) (c : Connectio
     going = x.going;
     count = x.count;
     unshut = w.shut ∙ x.unshut;
+    are_open = x.are_open;
+    unended = w.at_end.elsewhere n e some ∙ x.unended;
   }
 
   came_read : (s : Stage) (new : LinkState) (into : List ℕ) (r : Result ℕ Failed) → new.heard ≡ s.link.heard → Reads s.link into r new → (x : Talks shows c s []) → Came shows c new s.known x.es None [] []
@@ -298,7 +314,7 @@ module _ (shows : ℕ → Ask → Reply → List Mark → Type 0) (c : Connectio
     rest = [];
     came = came_read s new into (Ok n) (w.heard ∙ (ap (λ (z : ℕ). append_known s.link.heard (take z into)) e ∙ known_nil s.link.heard)) w x;
     count = x.count;
-    ends = inl (refl, rose_from c.first.ends s.link.ends new.ends x.passed.later.ends (w.at_end.at_end (ap Ok e) room));
+    ends = inl (refl, x.are_open, rose_from c.first.ends s.link.ends new.ends x.passed.later.ends (w.at_end.at_end (ap Ok e) room));
   }
 
   pub read_fault : (s : Stage) (new : LinkState) (into : List ℕ) {f : Failed} → Reads s.link into (Err f) new → Talks shows c s [] → EndsBy shows c cause.ReadFault new s.known s.requests
@@ -307,7 +323,7 @@ module _ (shows : ℕ → Ask → Reply → List Mark → Type 0) (c : Connectio
     rest = [];
     came = came_read s new into (Err f) w.heard w x;
     count = x.count;
-    ends = (refl, rose_from c.first.read_faults s.link.read_faults new.read_faults x.passed.later.read_faults w.cause.failed);
+    ends = (refl, x.are_open, rose_from c.first.read_faults s.link.read_faults new.read_faults x.passed.later.read_faults w.cause.failed);
   }
 
   pub begins : (reader : Reader) → Read [] [] reader.held → reader.stop ≡ None → c.first.shut ≡ false → Talks shows c (record { link = c.first; reader = reader; known = c.begun; requests = 0 }) []
@@ -325,6 +341,8 @@ module _ (shows : ℕ → Ask → Reply → List Mark → Type 0) (c : Connectio
     going = going;
     count = refl;
     unshut = unshut;
+    are_open = tt;
+    unended = refl;
   }
 
   -- what a call of the reader leaves to be done
@@ -342,6 +360,8 @@ module _ (shows : ℕ → Ask → Reply → List Mark → Type 0) (c : Connectio
       going = going;
       count = x.count;
       unshut = x.unshut;
+      are_open = x.are_open;
+      unended = x.unended;
       before = so_far s piece x;
     }
 
@@ -357,6 +377,8 @@ module _ (shows : ℕ → Ask → Reply → List Mark → Type 0) (c : Connectio
           going = stop;
           count = x.count;
           unshut = x.unshut;
+          are_open = x.are_open;
+          unended = x.unended;
         }
     comes gots.Continue told stop moves = owes go_on (subst (λ (o : Option Stop). Told (x.stream ++ take used piece) (items_of x.es ++ go_on ∷ []) after.held o) stop (told (λ e. cc e))) stop
     comes (gots.Message m) told stop moves = owes (whole (raw m)) (subst (λ (o : Option Stop). Told (x.stream ++ take used piece) (items_of x.es ++ whole (raw m) ∷ []) after.held o) stop (told (λ e. cc e))) stop
@@ -371,6 +393,7 @@ module _ (shows : ℕ → Ask → Reply → List Mark → Type 0) (c : Connectio
         rejection_is = refl;
       };
       count = x.count;
+      are_open = x.are_open;
     }
     comes gots.Memory told stop moves = so_far s piece x
 
@@ -406,7 +429,7 @@ module _ (shows : ℕ → Ask → Reply → List Mark → Type 0) (c : Connectio
   }
 
   cut_shut : (v : Knowledge Mark) (n : ℕ) → IsCut shows c link v n → IsCut shows c shut_link v n
-  cut_shut v n x = record { es = x.es; rejection = x.rejection; rest = x.rest; unwritten = x.unwritten; came = came_shut v x.es x.rejection x.rest x.unwritten x.came; least = x.least; most = x.most }
+  cut_shut v n x = record { es = x.es; rejection = x.rejection; rest = x.rest; unwritten = x.unwritten; came = came_shut v x.es x.rejection x.rest x.unwritten x.came; least = x.least; most = x.most; open_before = x.open_before }
 
   whole_shut : (Ends : List Exchange → List ℕ → Type 0) (rejection : Option Rejection) (v : Knowledge Mark) (n : ℕ) → IsWhole shows c Ends rejection link v n → IsWhole shows c Ends rejection shut_link v n
   whole_shut Ends rejection v n x = record { es = x.es; rest = x.rest; came = came_shut v x.es rejection x.rest [] x.came; count = x.count; ends = x.ends }

@@ -16,11 +16,38 @@ use Rattle.serve_loop.specs.declared.cluster.Collected.TheVariants as collected
 use Rattle.serve_loop.specs.declared.served.Turned.{Turned}
 use Rattle.serve_loop.specs.Marks.{AddsAsked, AddsCut, AddsQuiet, AreKept, answered_mark, answers, asked_mark, opens, takes}
 use Rattle.serve_loop.specs.Collects.{Collects}
-use Rattle.serve_loop.specs.Turns.{Turns}
+use Rattle.serve_loop.specs.Turns.{Exchanges, Makes, Readies, Turns}
 use Rattle.cluster_rules.specs.Sound.{IsAmong}
 use Rattle.cat_model.specs.declared.request.Asked.{Asked}
 use Rattle.serve_loop.specs.Waiting.{Grows, IsAnswered, IsBehind, Looks, Stands, Waits}
-use Rattle.serve_loop.proofs.MarkLists.{append_none, in_left, in_right, joined, none_append}
+use Rattle.serve_loop.proofs.MarkLists.{append_none, cut_cut, in_left, in_right, joined, makes_quiet, none_append, quiet_cut, quiet_makes, quiet_quiet}
+
+-- What a turn did, by its marks alone: the request was asked, if there is one, and then collected.
+pub record Exchanged (shows : ℕ → Ask → Reply → List Mark → Type 0) (ask : Option Ask) (number : ℕ) (t : Turned) (old new : List Mark) : Type 0 where
+  pub mid : List Mark
+  pub made : Makes ask number t.number old mid
+  pub got : Collects shows t.number t.got mid new
+
+module _ {C : Type 0} (marks : C → List Mark) (idle : C → Type 0) (servers : C → ℕ) (clock : C → ℕ → ℕ) (shows : ℕ → Ask → Reply → List Mark → Type 0) (last now : ℕ) (ask : Option Ask) (number : ℕ) where
+  exchanged : (t : Turned) (old new : C) → Turns marks idle servers clock shows last now ask number t old new → Exchanged shows ask number t (marks old) (marks new)
+  exchanged t old new x =
+      let r = x.readied in let e = x.exchanged in let a = e.asks in
+      let ready = quiet_quiet (marks old) (marks r.timed) (marks x.ready) r.quiet r.settled.quiet in record {
+        mid = marks e.settled;
+        made = quiet_makes ask number t.number (marks old) (marks x.ready) (marks e.settled) ready (makes_quiet ask number t.number (marks x.ready) (marks a.asked) (marks e.settled) a.made a.settled.quiet);
+        got = e.got;
+      }
+
+  pub exchanged_or : (r : Result Turned Memory) (old new : C) → MatchResult r (λ t. Turns marks idle servers clock shows last now ask number t old new) (λ _. AddsCut (marks old) (marks new))
+      → MatchResult r (λ t. Exchanged shows ask number t (marks old) (marks new)) (λ _. AddsCut (marks old) (marks new))
+  exchanged_or (Ok t) old new x = exchanged t old new x
+  exchanged_or (Err e) old new x = x
+
+  -- an exchange behind what makes ready for it
+  pub turns_or : (r : Result Turned Memory) (old mid new : C) → AddsQuiet (marks old) (marks mid) → Readies marks idle servers clock last now old mid → MatchResult r (λ t. Exchanges marks idle shows ask number t mid new) (λ _. AddsCut (marks mid) (marks new))
+      → MatchResult r (λ t. Turns marks idle servers clock shows last now ask number t old new) (λ _. AddsCut (marks old) (marks new))
+  turns_or (Ok t) old mid new quiet ready x = record { ready = mid; readied = ready; exchanged = x }
+  turns_or (Err e) old mid new quiet ready x = cut_cut (marks old) (marks mid) (marks new) (quiet_cut (marks old) (marks mid) quiet) x
 
 -- what a turn may leave: own numbers alone are taken
 pub record Rests (mine : List ℕ) (old new : List Mark) : Type 0 where
@@ -64,11 +91,11 @@ rests_by mine n old mid new rest are none own l = record {
       (subst (λ (z : List ℕ). Among n (mine ++ z)) (sym (append_none opens rest l.rest l.opens_none)) own);
 }
 
-pub rests_first : (shows : ℕ → Ask → Reply → List Mark → Type 0) (mine : List ℕ) (ask : Ask) (k : ℕ) (t : Turned) (old new : List Mark) → Turns shows (Some ask) k t old new → Rests mine old new
+pub rests_first : (shows : ℕ → Ask → Reply → List Mark → Type 0) (mine : List ℕ) (ask : Ask) (k : ℕ) (t : Turned) (old new : List Mark) → Exchanged shows (Some ask) k t old new → Rests mine old new
 rests_first shows mine ask k t old new x = let m = x.made in
     rests_by mine t.number old x.mid new m.rest m.are m.takes_none (among_right t.number mine (numbers opens m.rest) (subst (Among t.number) (sym m.opens_it) (one t.number))) (leaves shows t.number t.got x.mid new x.got)
 
-pub rests_next : (shows : ℕ → Ask → Reply → List Mark → Type 0) (mine : List ℕ) (k : ℕ) (t : Turned) (old new : List Mark) → Among k mine → Turns shows None k t old new → Rests mine old new
+pub rests_next : (shows : ℕ → Ask → Reply → List Mark → Type 0) (mine : List ℕ) (k : ℕ) (t : Turned) (old new : List Mark) → Among k mine → Exchanged shows None k t old new → Rests mine old new
 rests_next shows mine k t old new own x = let m = x.made.1 in
     rests_by mine t.number old x.mid new m.rest m.are m.takes_none (among_left t.number mine (numbers opens m.rest) (subst (λ (z : ℕ). Among z mine) (sym x.made.0) own)) (leaves shows t.number t.got x.mid new x.got)
 
@@ -76,12 +103,12 @@ pub rests_cut : (mine : List ℕ) (old new : List Mark) → AddsCut old new → 
 rests_cut mine old new x = record { rest = x.rest; are = x.are; own = λ k a. absurd (subst (Among k) x.takes_none a) }
 
 pub rests_first_or : (shows : ℕ → Ask → Reply → List Mark → Type 0) (mine : List ℕ) (ask : Ask) (k : ℕ) (r : Result Turned Memory) (old new : List Mark)
-    → MatchResult r (λ t. Turns shows (Some ask) k t old new) (λ _. AddsCut old new) → Rests mine old new
+    → MatchResult r (λ t. Exchanged shows (Some ask) k t old new) (λ _. AddsCut old new) → Rests mine old new
 rests_first_or shows mine ask k (Ok t) old new x = rests_first shows mine ask k t old new x
 rests_first_or shows mine ask k (Err e) old new x = rests_cut mine old new x
 
 pub rests_next_or : (shows : ℕ → Ask → Reply → List Mark → Type 0) (mine : List ℕ) (k : ℕ) (r : Result Turned Memory) (old new : List Mark) → Among k mine
-    → MatchResult r (λ t. Turns shows None k t old new) (λ _. AddsCut old new) → Rests mine old new
+    → MatchResult r (λ t. Exchanged shows None k t old new) (λ _. AddsCut old new) → Rests mine old new
 rests_next_or shows mine k (Ok t) old new own x = rests_next shows mine k t old new own x
 rests_next_or shows mine k (Err e) old new own x = rests_cut mine old new x
 
@@ -165,7 +192,7 @@ more_mine n ask seen mine mine' f w = record { own = f n w.own; asked = w.asked;
 
 -- The first turn of a request, and each later one.
 pub stands_first : (shows : ℕ → Ask → Reply → List Mark → Type 0) (ask : Ask) (k : ℕ) (t : Turned) (old new : List Mark) (mine : List ℕ) (w' : Knowledge Mark)
-    → Turns shows (Some ask) k t old new → AreKept old → AreKept new → w'.seen ≡ new → w'.mine ≡ mine ++ numbers opens (drop (length old) new)
+    → Exchanged shows (Some ask) k t old new → AreKept old → AreKept new → w'.seen ≡ new → w'.mine ≡ mine ++ numbers opens (drop (length old) new)
     → Stands shows t.number ask t.got w'
 stands_first shows ask k t old new mine w' x before after s m =
     let l = leaves shows t.number t.got x.mid new x.got in
@@ -178,7 +205,7 @@ stands_first shows ask k t old new mine w' x before after s m =
 
 pub stands_next : (shows : ℕ → Ask → Reply → List Mark → Type 0) (ask : Ask) (k : ℕ) (t : Turned) (seen old new : List Mark) (mine : List ℕ) (w' : Knowledge Mark)
     → Waits k ask seen mine → Extends opens takes mine seen old
-    → Turns shows None k t old new → AreKept new → w'.seen ≡ new → w'.mine ≡ mine ++ numbers opens (drop (length old) new)
+    → Exchanged shows None k t old new → AreKept new → w'.seen ≡ new → w'.mine ≡ mine ++ numbers opens (drop (length old) new)
     → Stands shows t.number ask t.got w'
 stands_next shows ask k t seen old new mine w' w e x after s m =
     let at : Waits t.number ask old mine = subst (λ (z : ℕ). Waits z ask old mine) (sym x.made.0) (waits_on k ask seen old mine w e) in
@@ -196,19 +223,19 @@ grows v w old new mine e r s m = record {
 }
 
 pub turned_first : (shows : ℕ → Ask → Reply → List Mark → Type 0) (ask : Ask) (k : ℕ) (r : Result Turned Memory) (old new : List Mark) (mine : List ℕ) (w : Knowledge Mark)
-    → MatchResult r (λ t. Turns shows (Some ask) k t old new) (λ _. AddsCut old new) → AreKept old → AreKept new → w.seen ≡ new
+    → MatchResult r (λ t. Exchanged shows (Some ask) k t old new) (λ _. AddsCut old new) → AreKept old → AreKept new → w.seen ≡ new
     → w.mine ≡ mine ++ numbers opens (drop (length old) new) → IfOk r (λ t. Stands shows t.number ask t.got w)
 turned_first shows ask k (Ok t) old new mine w x before after s m = stands_first shows ask k t old new mine w x before after s m
 turned_first shows ask k (Err e) old new mine w x before after s m = tt
 
 pub turned_next : (shows : ℕ → Ask → Reply → List Mark → Type 0) (k : ℕ) (r : Result Turned Memory) (seen old new : List Mark) (mine : List ℕ) (w : Knowledge Mark)
-    → Extends opens takes mine seen old → MatchResult r (λ t. Turns shows None k t old new) (λ _. AddsCut old new) → AreKept new → w.seen ≡ new
+    → Extends opens takes mine seen old → MatchResult r (λ t. Exchanged shows None k t old new) (λ _. AddsCut old new) → AreKept new → w.seen ≡ new
     → w.mine ≡ mine ++ numbers opens (drop (length old) new) → IfOk r (λ t. (ask : Ask) → Waits k ask seen mine → Stands shows t.number ask t.got w)
 turned_next shows k (Ok t) seen old new mine w e x after s m = λ ask waits. stands_next shows ask k t seen old new mine w waits e x after s m
 turned_next shows k (Err e) seen old new mine w ext x after s m = tt
 
 pub behind : (shows : ℕ → Ask → Reply → List Mark → Type 0) (ask : Ask) (k : ℕ) (r : Result Turned Memory) (seen old new seen' : List Mark) (mine : List ℕ)
-    → Extends opens takes mine seen old → MatchResult r (λ t. Turns shows (Some ask) k t old new) (λ _. AddsCut old new) → seen' ≡ new → IfOk r (λ t. IsBehind t.number ask seen seen')
+    → Extends opens takes mine seen old → MatchResult r (λ t. Exchanged shows (Some ask) k t old new) (λ _. AddsCut old new) → seen' ≡ new → IfOk r (λ t. IsBehind t.number ask seen seen')
 behind shows ask k (Ok t) seen old new seen' mine e x s =
     let m = x.made in let l = leaves shows t.number t.got x.mid new x.got in record {
       more = e.0 ++ (m.rest ++ l.rest);

@@ -11,17 +11,17 @@ use Rattle.turn_lock.specs.declared.knowledge.Knowledge.{Knowledge}
 use Rattle.serve_loop.specs.declared.cluster.Ask.{Ask}
 use Rattle.serve_loop.specs.Jobs.{agent_of}
 use Rattle.serve_loop.specs.Runs.{IsDrawn}
-use Rattle.serve_loop.specs.Serving.{AreTrue, Closes, Exchange, bytes_of, items_of, last_bytes}
+use Rattle.serve_loop.specs.Serving.{AreOpen, AreTrue, Closes, Exchange, bytes_of, items_of, last_bytes}
 
 -- no read and no write of the link failed since it came
 abbrev pub IsUnbroken : LinkState → Type 0
 IsUnbroken link = (link.read_faults ≡ 0) × (link.write_faults ≡ 0)
 
 -- A connection ended by a refusal, or by the end of the client's bytes, which its link counted, or behind a message that
--- asks to close, of whose stream then a rest may be left. There is no other way for a link that did not break.
+-- asks to close, the last and only such one, of whose stream then a rest may be left. There is no other way for a link that did not break.
 abbrev pub EndsWell : Option Rejection → List Exchange → List ℕ → ℕ → Type 0
-EndsWell (Some why) es rest ends = rest ≡ []
-EndsWell None es rest ends = ((rest ≡ []) × (0 < ends)) ⊎ Closes es
+EndsWell (Some why) es rest ends = (rest ≡ []) × AreOpen es
+EndsWell None es rest ends = ((rest ≡ []) × AreOpen es × (0 < ends)) ⊎ (Closes es × (ends ≡ 0))
 
 -- Everything that came over the link was answered. The bytes that it tells as read give these messages, and a refusal
 -- behind them if there is one; the bytes that it tells as written are, in the same order, one reply to each message, and

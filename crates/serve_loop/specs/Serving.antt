@@ -1,5 +1,5 @@
 -- What is exchanged over a connection: HTTP/1.1 requests and their replies, in order (RFC 9112, sections 9.3 and 9.3.2).
-use Rattle.std.specs.Prelude.{◌≡◌, ℕ, ◌+◌, ◌%◌, ◌^◌, ◌≤◌, ◌⊎◌, true, List, [], ◌∷◌, ◌++◌, Option, Some, None}
+use Rattle.std.specs.Prelude.{◌≡◌, ℕ, ◌+◌, ◌%◌, ◌^◌, ◌≤◌, ◌⊎◌, true, false, if◌then◌else◌, List, [], ◌∷◌, ◌++◌, Option, Some, None, MatchOption, bytes_eq, codes}
 use Rattle.std.specs.Io.KnownBytes.{append_known}
 use Rattle.cat_model.specs.declared.request.Asked.{Asked}
 use Rattle.cat_model.specs.declared.request.Asked.TheVariants.{Good, Bad}
@@ -20,7 +20,7 @@ use Rattle.turn_lock.specs.declared.knowledge.Knowledge.{Knowledge}
 use Rattle.serve_loop.specs.declared.cluster.Ask.{Ask}
 use Rattle.serve_loop.specs.declared.cause.Cause.{Cause}
 use Rattle.serve_loop.specs.declared.cause.Cause.TheVariants as cause
-use Rattle.serve_loop.specs.Replies.{refusing, text_of}
+use Rattle.serve_loop.specs.Replies.{refusing, text_of, head_of}
 use Rattle.serve_loop.specs.Waiting.{Grows, IsAnswered}
 
 -- A connection: the agent that is asked for it, the words that were drawn for it, and its link and the knowledge of its
@@ -48,22 +48,37 @@ count_of [] = 0
 count_of (continued ∷ es) = count_of es
 count_of (replied raw reply ∷ es) = count_of es + 1
 
+-- a reply as it is due to its request: behind a HEAD its head alone (RFC 9110, section 9.3.2)
+abbrev pub answer_bytes : Raw → Reply → List ℕ
+answer_bytes raw reply = if bytes_eq raw.method (codes "HEAD") then head_of reply raw.close else text_of reply raw.close
+
 -- what is due to be written for them
 abbrev pub bytes_of : List Exchange → List ℕ
 bytes_of [] = []
 bytes_of (continued ∷ es) = bytes_of es ++ continue_bytes
-bytes_of (replied raw reply ∷ es) = bytes_of es ++ text_of reply raw.close
+bytes_of (replied raw reply ∷ es) = bytes_of es ++ answer_bytes raw reply
 
 -- and behind them, where the stream is refused
 abbrev pub last_bytes : Option Rejection → List ℕ
 last_bytes None = []
 last_bytes (Some why) = text_of (refusing (answer_to why)) true
 
--- the last request asks to close
+-- no request asks to close
+abbrev pub AreOpen : List Exchange → Type 0
+AreOpen [] = Unit {0}
+AreOpen (continued ∷ es) = AreOpen es
+AreOpen (replied raw reply ∷ es) = (raw.close ≡ false) × AreOpen es
+
+-- none but the last request asks to close
+abbrev pub OpenBefore : List Exchange → Type 0
+OpenBefore [] = Unit {0}
+OpenBefore (e ∷ es) = AreOpen es
+
+-- the last request asks to close, and it alone
 abbrev pub Closes : List Exchange → Type 0
 Closes [] = ⊥
 Closes (continued ∷ es) = ⊥
-Closes (replied raw reply ∷ es) = raw.close ≡ true
+Closes (replied raw reply ∷ es) = (raw.close ≡ true) × AreOpen es
 
 -- what a request asks for
 abbrev pub asked_by : Raw → Asked
@@ -121,7 +136,8 @@ module _ (shows : ℕ → Ask → Reply → List Mark → Type 0) (c : Connectio
     pub gives : GivesAll stream (items_of es) rejection
     pub due : bytes_of es ++ last_bytes rejection ≡ written ++ unwritten
 
-  -- The connection was cut off: its last reply, or the refusal behind it, may be unwritten in part.
+  -- The connection was cut off: its last reply, or the refusal behind it, may be unwritten in part. Nothing stands behind
+  -- a request that asks to close.
   pub record IsCut (link : LinkState) (known : Knowledge Mark) (requests : ℕ) : Type 0 where
     pub es : List Exchange
     pub rejection : Option Rejection
@@ -130,6 +146,7 @@ module _ (shows : ℕ → Ask → Reply → List Mark → Type 0) (c : Connectio
     pub came : Came link known es rejection rest unwritten
     pub least : requests ≤ count_of es
     pub most : count_of es ≤ requests + 1
+    pub open_before : MatchOption rejection (OpenBefore es) (λ why. AreOpen es)
 
   -- all that came was answered
   pub record IsWhole (Ends : List Exchange → List ℕ → Type 0) (rejection : Option Rejection) (link : LinkState) (known : Knowledge Mark) (requests : ℕ) : Type 0 where
@@ -139,10 +156,11 @@ module _ (shows : ℕ → Ask → Reply → List Mark → Type 0) (c : Connectio
     pub count : requests ≡ count_of es
     pub ends : Ends es rest
 
-  -- How a connection ended, by its cause: `requests` replies were written whole.
+  -- How a connection ended, by its cause: `requests` replies were written whole. Nothing is served behind a request that
+  -- asks to close, nor is the link read to its end there (RFC 9112, section 9.6).
   abbrev pub EndsBy : Cause → LinkState → Knowledge Mark → ℕ → Type 0
-  EndsBy cause.Closed link known requests = IsWhole (λ es rest. ((rest ≡ []) × Rose c.first.ends link.ends) ⊎ Closes es) None link known requests
-  EndsBy (cause.Refused why) link known requests = IsWhole (λ es rest. rest ≡ []) (Some why) link known requests
-  EndsBy cause.ReadFault link known requests = IsWhole (λ es rest. (rest ≡ []) × Rose c.first.read_faults link.read_faults) None link known requests
+  EndsBy cause.Closed link known requests = IsWhole (λ es rest. ((rest ≡ []) × AreOpen es × Rose c.first.ends link.ends) ⊎ (Closes es × (link.ends ≡ c.first.ends))) None link known requests
+  EndsBy (cause.Refused why) link known requests = IsWhole (λ es rest. (rest ≡ []) × AreOpen es) (Some why) link known requests
+  EndsBy cause.ReadFault link known requests = IsWhole (λ es rest. (rest ≡ []) × AreOpen es × Rose c.first.read_faults link.read_faults) None link known requests
   EndsBy cause.WriteFault link known requests = IsCut link known requests × Rose c.first.write_faults link.write_faults
   EndsBy cause.Memory link known requests = IsCut link known requests

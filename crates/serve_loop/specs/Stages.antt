@@ -16,7 +16,7 @@ use Rattle.turn_lock.specs.declared.knowledge.Knowledge.{Knowledge}
 use Rattle.serve_loop.specs.declared.cluster.Ask.{Ask}
 use Rattle.serve_loop.specs.declared.cause.Cause.{Cause}
 use Rattle.serve_loop.specs.declared.cause.Cause.TheVariants as cause
-use Rattle.serve_loop.specs.Serving.{Connection, Exchange, items_of, count_of, bytes_of, Passed, IsCut, EndsBy}
+use Rattle.serve_loop.specs.Serving.{Connection, Exchange, items_of, count_of, bytes_of, AreOpen, Passed, IsCut, EndsBy}
 
 -- why a write stopped, by the link's count of failed writes before and after it
 abbrev pub StopsBy : Cause → ℕ → ℕ → Type 0
@@ -57,7 +57,8 @@ pub record Stage : Type 0 where
   pub requests : ℕ
 
 module _ (shows : ℕ → Ask → Reply → List Mark → Type 0) (c : Connection) where
-  -- The connection goes on: all that came was answered, but for `rest`, which was read and not taken yet.
+  -- The connection goes on: all that came was answered, but for `rest`, which was read and not taken yet, and nothing has
+  -- asked to close.
   pub record Talks (s : Stage) (rest : List ℕ) : Type 0 where
     pub es : List Exchange
     pub stream : List ℕ
@@ -66,6 +67,8 @@ module _ (shows : ℕ → Ask → Reply → List Mark → Type 0) (c : Connectio
     pub going : s.reader.stop ≡ None
     pub count : s.requests ≡ count_of es
     pub unshut : s.link.shut ≡ false
+    pub are_open : AreOpen es
+    pub unended : s.link.ends ≡ c.first.ends
 
   -- What was given is to be answered. `before` holds if it is not.
   pub record Owes (s : Stage) (rest : List ℕ) (given : Given) : Type 0 where
@@ -76,6 +79,8 @@ module _ (shows : ℕ → Ask → Reply → List Mark → Type 0) (c : Connectio
     pub going : s.reader.stop ≡ None
     pub count : s.requests ≡ count_of es
     pub unshut : s.link.shut ≡ false
+    pub are_open : AreOpen es
+    pub unended : s.link.ends ≡ c.first.ends
     pub before : IsCut shows c s.link s.known s.requests
 
   -- The rest of the stream is refused, and that is to be answered.
@@ -85,6 +90,7 @@ module _ (shows : ℕ → Ask → Reply → List Mark → Type 0) (c : Connectio
     pub passed : Passed shows c link known es stream (bytes_of es)
     pub gives : GivesAll stream (items_of es) (Some why)
     pub count : requests ≡ count_of es
+    pub are_open : AreOpen es
 
   -- what a call of the reader leaves to be done
   abbrev pub Comes : Stage → List ℕ → Got → Type 0

@@ -21,13 +21,6 @@ passed last now = min (now - last) 86400000
 abbrev pub GoesOn : ℕ → ℕ → ℕ → List Mark → List Mark → Type 0
 GoesOn last last' now old new = (last' ≡ last + passed last now) × TicksBy (passed last now) old new
 
--- The clocks did go on where time had passed, and messages were delivered. `servers` and `clock` tell of the clocks before
--- the turn, and `idle` that no message is under way behind it.
-pub record GetsOn (servers : ℕ) (clock : ℕ → ℕ) (last now : ℕ) (idle : Type 0) (old new : List Mark) : Type 0 where
-  pub all : 0 < passed last now → TicksAll servers clock (passed last now) old new
-  pub count : ℕ
-  pub delivered : Delivers 4096 idle count old new
-
 -- the clocks stood still
 abbrev pub StandsStill : ℕ → ℕ → List Mark → List Mark → Type 0
 StandsStill last last' old new = (last' ≡ last) × TicksNone old new
@@ -37,8 +30,41 @@ abbrev pub Makes : Option Ask → ℕ → ℕ → List Mark → List Mark → Ty
 Makes None number n old new = (n ≡ number) × AddsQuiet old new
 Makes (Some ask) number n old new = AddsAsked n ask old new
 
--- and then it was collected
-pub record Turns (shows : ℕ → Ask → Reply → List Mark → Type 0) (ask : Option Ask) (number : ℕ) (t : Turned) (old new : List Mark) : Type 0 where
-  pub mid : List Mark
-  pub made : Makes ask number t.number old mid
-  pub got : Collects shows t.number t.got mid new
+-- `marks` are a cluster's, and `idle` says that no message is under way in it.
+module _ {C : Type 0} (marks : C → List Mark) (idle : C → Type 0) where
+  -- messages were delivered, and nothing else was done
+  pub record Settles (old new : C) : Type 0 where
+    pub quiet : AddsQuiet (marks old) (marks new)
+    pub still : TicksNone (marks old) (marks new)
+    pub count : ℕ
+    pub delivered : Delivers 4096 (idle new) count (marks old) (marks new)
+
+  -- the request was asked, if there is one, and then messages were delivered
+  pub record Asks (ask : Option Ask) (number n : ℕ) (old new : C) : Type 0 where
+    pub asked : C
+    pub made : Makes ask number n (marks old) (marks asked)
+    pub still : TicksNone (marks old) (marks asked)
+    pub settled : Settles asked new
+
+  -- and then it was collected, which put no message under way
+  pub record Exchanges (shows : ℕ → Ask → Reply → List Mark → Type 0) (ask : Option Ask) (number : ℕ) (t : Turned) (old new : C) : Type 0 where
+    pub settled : C
+    pub asks : Asks ask number t.number old settled
+    pub got : Collects shows t.number t.got (marks settled) (marks new)
+    pub calm : idle settled → idle new
+
+  -- All clocks went on by the time that had passed, and then messages were delivered, so that what became due by then is
+  -- done. `servers` and `clock` tell of a cluster's clocks.
+  pub record Readies (servers : C → ℕ) (clock : C → ℕ → ℕ) (last now : ℕ) (old new : C) : Type 0 where
+    pub timed : C
+    pub quiet : AddsQuiet (marks old) (marks timed)
+    pub by : TicksBy (passed last now) (marks old) (marks timed)
+    pub all : 0 < passed last now → TicksAll (servers old) (clock old) (passed last now) (marks old) (marks timed)
+    pub settled : Settles timed new
+
+  -- A turn: first the clocks went on and what that brought was settled, and only then the request was asked, settled and
+  -- collected.
+  pub record Turns (servers : C → ℕ) (clock : C → ℕ → ℕ) (shows : ℕ → Ask → Reply → List Mark → Type 0) (last now : ℕ) (ask : Option Ask) (number : ℕ) (t : Turned) (old new : C) : Type 0 where
+    pub ready : C
+    pub readied : Readies servers clock last now old ready
+    pub exchanged : Exchanges shows ask number t ready new

@@ -80,6 +80,7 @@ where
     let started = start_tasks(
         server, &mut pass, listener, words, spawner, &mut tasks, count,
     );
+    listener.stop();
     let short = finish_tasks(server, &mut pass, listener, words, &mut tasks);
     let cluster = last_turn(server, pass);
     (cluster, outcome(started, short))

@@ -1,10 +1,10 @@
 //! What the turns lend: a cluster, and the time up to which its clocks have gone on.
 
-ghost use Rattle.std.specs.Prelude.{ℕ, ◌<◌, IfOk, MatchResult, OnOk};
+ghost use Rattle.std.specs.Prelude.{◌<◌, MatchResult, OnOk};
 ghost use Rattle.std.specs.Option.{ForSome};
 ghost use Rattle.serve_loop.specs.Collects.{Collects};
-ghost use Rattle.serve_loop.specs.Marks.{AddsCut, AddsQuiet, AreKept, Delivers, TicksAll, opens, takes};
-ghost use Rattle.serve_loop.specs.Turns.{GetsOn, GoesOn, Makes, MayAsk, StandsStill, Turns, passed};
+ghost use Rattle.serve_loop.specs.Marks.{AddsCut, AddsQuiet, AreKept, TicksAll, opens, takes};
+ghost use Rattle.serve_loop.specs.Turns.{Asks, Exchanges, GoesOn, Makes, MayAsk, Readies, Settles, StandsStill, Turns, passed};
 
 use crate::cluster::{Ask, Collected, SharedCluster};
 use cat_model::{Mark, Memory};
@@ -75,7 +75,7 @@ impl<C: SharedCluster> Served<C> {
     fn settle(&mut self, alloc: Global) -> Result<u32, Memory>
         ensures quiet { AddsQuiet (C.marks self.old.cluster) (C.marks self.new.cluster) }
         ensures still { StandsStill self.old.last_ms self.new.last_ms (C.marks self.old.cluster) (C.marks self.new.cluster) }
-        ensures delivered { IfOk result (λ count. Delivers 4096 (C.idle self.new.cluster) count (C.marks self.old.cluster) (C.marks self.new.cluster)) }
+        ensures settled { OnOk result (Settles C.marks C.idle self.old.cluster self.new.cluster) }
     {
         self.cluster.settle(alloc, MOST)
     }
@@ -88,14 +88,33 @@ impl<C: SharedCluster> Served<C> {
         self.cluster.collect(number)
     }
 
+    // Lets the clocks go on to this time, and settles what that brings.
+    fn ready(&mut self, alloc: Global, now: u64) -> Result<(), Memory>
+        ensures quiet { AddsQuiet (C.marks self.old.cluster) (C.marks self.new.cluster) }
+        ensures time { GoesOn self.old.last_ms self.new.last_ms now (C.marks self.old.cluster) (C.marks self.new.cluster) }
+        ensures readied { OnOk result (Readies C.marks C.idle C.servers C.clock self.old.last_ms now self.old.cluster self.new.cluster) }
+    {
+        match self.advance(alloc, now) {
+            Ok(()) => match self.settle(alloc) {
+                Ok(_) => Ok(()),
+                Err(Memory) => Err(Memory),
+            },
+            Err(Memory) => Err(Memory),
+        }
+    }
+
     // Makes the ask and settles the messages.
-    fn go_on(&mut self, alloc: Global, ask: Option<Ask>, number: u64) -> Result<u64, Memory>
+    fn ask_and_settle(
+        &mut self,
+        alloc: Global,
+        ask: Option<Ask>,
+        number: u64,
+    ) -> Result<u64, Memory>
         requires { ForSome ask (MayAsk C.agents) }
-        ensures made { MatchResult result
-            (λ n. Makes ask number n (C.marks self.old.cluster) (C.marks self.new.cluster))
+        ensures asks { MatchResult result
+            (λ n. Asks C.marks C.idle ask number n self.old.cluster self.new.cluster)
             (λ _. AddsCut (C.marks self.old.cluster) (C.marks self.new.cluster)) }
         ensures still { StandsStill self.old.last_ms self.new.last_ms (C.marks self.old.cluster) (C.marks self.new.cluster) }
-        ensures delivered { OnOk result ((count : ℕ) × Delivers 4096 (C.idle self.new.cluster) count (C.marks self.old.cluster) (C.marks self.new.cluster)) }
     {
         match self.make(alloc, ask, number) {
             Ok(number) => match self.settle(alloc) {
@@ -106,27 +125,20 @@ impl<C: SharedCluster> Served<C> {
         }
     }
 
-    // All that a turn does before it collects.
-    fn work(
-        &mut self,
-        alloc: Global,
-        now: u64,
-        ask: Option<Ask>,
-        number: u64,
-    ) -> Result<u64, Memory>
+    // Makes the ask and settles the messages, and then collects.
+    fn exchange(&mut self, alloc: Global, ask: Option<Ask>, number: u64) -> Result<Turned, Memory>
         requires { ForSome ask (MayAsk C.agents) }
-        ensures made { MatchResult result
-            (λ n. Makes ask number n (C.marks self.old.cluster) (C.marks self.new.cluster))
+        ensures exchanged { MatchResult result
+            (λ t. Exchanges C.marks C.idle C.shows ask number t self.old.cluster self.new.cluster)
             (λ _. AddsCut (C.marks self.old.cluster) (C.marks self.new.cluster)) }
-        ensures time { GoesOn self.old.last_ms self.new.last_ms now (C.marks self.old.cluster) (C.marks self.new.cluster) }
-        ensures gets_on { OnOk result (GetsOn (C.servers self.old.cluster) (C.clock self.old.cluster) self.old.last_ms now (C.idle self.new.cluster) (C.marks self.old.cluster) (C.marks self.new.cluster)) }
+        ensures still { StandsStill self.old.last_ms self.new.last_ms (C.marks self.old.cluster) (C.marks self.new.cluster) }
     {
-        match self.advance(alloc, now) {
-            Ok(()) => self.go_on(alloc, ask, number),
-            Err(Memory) => {
-                drop(ask);
-                Err(Memory)
+        match self.ask_and_settle(alloc, ask, number) {
+            Ok(number) => {
+                let got = self.collect(number);
+                Ok(Turned { number, got })
             }
+            Err(Memory) => Err(Memory),
         }
     }
 
@@ -140,22 +152,21 @@ impl<C: SharedCluster> Served<C> {
     ) -> Result<Turned, Memory>
         requires { ForSome ask (MayAsk C.agents) }
         ensures turned { MatchResult result
-            (λ t. Turns C.shows ask number t (C.marks self.old.cluster) (C.marks self.new.cluster))
+            (λ t. Turns C.marks C.idle C.servers C.clock C.shows self.old.last_ms now ask number t self.old.cluster self.new.cluster)
             (λ _. AddsCut (C.marks self.old.cluster) (C.marks self.new.cluster)) }
         ensures time { GoesOn self.old.last_ms self.new.last_ms now (C.marks self.old.cluster) (C.marks self.new.cluster) }
-        ensures gets_on { OnOk result (GetsOn (C.servers self.old.cluster) (C.clock self.old.cluster) self.old.last_ms now (C.idle self.new.cluster) (C.marks self.old.cluster) (C.marks self.new.cluster)) }
     {
-        match self.work(alloc, now, ask, number) {
-            Ok(number) => {
-                let got = self.collect(number);
-                Ok(Turned { number, got })
+        match self.ready(alloc, now) {
+            Ok(()) => self.exchange(alloc, ask, number),
+            Err(Memory) => {
+                drop(ask);
+                Err(Memory)
             }
-            Err(Memory) => Err(Memory),
         }
     }
 
-    /// The clocks go on by the time since the last turn, the request is asked, if there is one, and messages are
-    /// settled. Then that request is collected, else the one with this number.
+    /// The clocks go on by the time since the last turn, and what that brings is settled. Then the request is asked, if
+    /// there is one, and settled, and that request is collected, else the one with this number.
     pub fn turn(
         &mut self,
         alloc: Global,
@@ -165,10 +176,9 @@ impl<C: SharedCluster> Served<C> {
     ) -> Result<Turned, Memory>
         requires { ForSome ask (MayAsk C.agents) }
         ensures turned { MatchResult result
-            (λ t. Turns C.shows ask number t (C.marks self.old.cluster) (C.marks self.new.cluster))
+            (λ t. Turns C.marks C.idle C.servers C.clock C.shows self.old.last_ms now ask number t self.old.cluster self.new.cluster)
             (λ _. AddsCut (C.marks self.old.cluster) (C.marks self.new.cluster)) }
         ensures time { GoesOn self.old.last_ms self.new.last_ms now (C.marks self.old.cluster) (C.marks self.new.cluster) }
-        ensures gets_on { OnOk result (GetsOn (C.servers self.old.cluster) (C.clock self.old.cluster) self.old.last_ms now (C.idle self.new.cluster) (C.marks self.old.cluster) (C.marks self.new.cluster)) }
         ensures before { AreKept (C.marks self.old.cluster) }
         ensures after { AreKept (C.marks self.new.cluster) }
     {

@@ -8,6 +8,7 @@ ghost use Rattle.cat_model.specs.declared.request.Asked.TheVariants.{Good};
 ghost use Rattle.cat_model.specs.Taken.{IsTakenAsked};
 ghost use Rattle.http_wire.specs.Reader.{raw};
 ghost use Rattle.http_wire.specs.Stream.{go_on, whole};
+ghost use Rattle.serve_outside.specs.Links.{Reads};
 ghost use Rattle.serve_loop.specs.Boards.{IsOurs, known};
 ghost use Rattle.serve_loop.specs.Services.{connection, stage};
 ghost use Rattle.serve_loop.specs.Serving.{EndsBy, IsReply, IsReplyTo, IsResponse, asked_by, draw_of};
@@ -20,7 +21,7 @@ use crate::cluster::{Ask, SharedCluster};
 use crate::replies::refusing;
 use crate::served::Served;
 use crate::turning::ask_and_wait;
-use crate::writing::{send, send_continue, send_refusal};
+use crate::writing::{send_answer, send_continue, send_refusal};
 use cat_model::{Asked, Draw, Memory, Request, Shared};
 use cat_outside::Failed;
 use crossbeam_utils::CachePadded;
@@ -28,7 +29,7 @@ use http_routes::Routes;
 use http_routes::laws::routes_are_taken;
 use http_wire::{Fed, Got, RawRequest, Rejection, RequestReader};
 use open_requests::Reply;
-use serve_outside::{Clock, Gate, Link};
+use serve_outside::{Awaited, Clock, Gate, Link};
 use std::alloc::Global;
 use std::snapshot::Snapshot;
 use std::sync::{Arc, Wait};
@@ -72,6 +73,24 @@ fn nth_draw(draw: Draw, n: u64) -> Draw
         hi: draw.hi,
         lo: draw.lo.wrapping_add(n),
     }
+}
+
+// What the next read waits for.
+fn awaited(reader: &RequestReader) -> Awaited {
+    if reader.held() > 0 {
+        Awaited::Rest
+    } else {
+        Awaited::Message
+    }
+}
+
+// Takes the next bytes of a link.
+fn read_next<L: Link>(link: &mut L, what: Awaited, buffer: &mut [u8]) -> Result<usize, Failed>
+    requires unshut { (L.state link.old).shut ≡ false }
+    ensures { Reads (L.state link.old) buffer.new result (L.state link.new) }
+{
+    link.expect(what);
+    link.read(buffer)
 }
 
 // Whether a connection ends behind a reply.
@@ -191,7 +210,7 @@ impl<L: Link, C: SharedCluster> Serving<L, Served<C>> {
             → IsReply C.shows (connection L.state service.now) (raw message.now) n reply.now (known self.old.pass)
             → GoesOn C.shows (connection L.state service.now) result (stage L.state self.new) rest }
     {
-        match send(&mut self.link, service.alloc, reply, message.close) {
+        match send_answer(&mut self.link, service.alloc, message, reply) {
             Ok(()) => {
                 self.requests = n;
                 ends_here(message.close)
@@ -332,7 +351,7 @@ impl<L: Link, C: SharedCluster> Serving<L, Served<C>> {
             (λ n. Talks C.shows (connection L.state service.now) (stage L.state self.new) (take n buffer.new))
             (λ why. EndsBy C.shows (connection L.state service.now) why (L.state self.new.link) (known self.new.pass) self.new.requests) }
     {
-        match self.link.read(buffer) {
+        match read_next(&mut self.link, awaited(&self.reader), buffer) {
             Ok(0) => Err(Cause::Closed),
             Ok(count) => Ok(count),
             Err(Failed) => Err(Cause::ReadFault),

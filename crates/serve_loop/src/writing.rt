@@ -3,15 +3,17 @@
 ghost use Rattle.std.specs.Prelude.{◌≡◌, ◌<◌, ◌≤◌, false, true, IfErr, IfOk, MatchResult, OnErr, length, take};
 ghost use Rattle.std.specs.Io.KnownBytes.{append_known};
 ghost use Rattle.http_wire.specs.Replies.{continue_bytes};
-ghost use Rattle.http_wire.specs.Rejections.{answer_to};
+ghost use Rattle.http_wire.specs.Reader.{raw};
+ghost use Rattle.http_wire.specs.Rejections as rejections;
 ghost use Rattle.serve_loop.specs.Replies as spec;
+ghost use Rattle.serve_loop.specs.Serving.{answer_bytes as answer_to};
 ghost use Rattle.serve_loop.specs.Stages.{IsAfterWrite, StopsBy, Wrote};
 
 use crate::cause::Cause;
-use crate::replies::{refusing, text_of};
+use crate::replies::{answer_bytes, refusing, text_of};
 use cat_model::{Bytes, Memory, Refusal};
 use cat_outside::KeepFail;
-use http_wire::{Rejection, write_continue};
+use http_wire::{RawRequest, Rejection, write_continue};
 use open_requests::Reply;
 use serve_outside::Link;
 use std::alloc::Global;
@@ -52,18 +54,30 @@ pub(crate) fn write_whole<L: Link>(link: &mut L, piece: &[u8]) -> Result<(), Cau
     Ok(())
 }
 
-/// Writes a reply, its bytes in one piece.
+// Writes a reply that is no answer to a request, its bytes in one piece.
 #[tactic(auto, using(crate::proofs::Written::wrote_none))]
-pub(crate) fn send<L: Link>(
-    link: &mut L,
-    alloc: Global,
-    reply: &Reply,
-    close: bool,
-) -> Result<(), Cause>
+fn send<L: Link>(link: &mut L, alloc: Global, reply: &Reply, close: bool) -> Result<(), Cause>
     requires unshut { (L.state link.old).shut ≡ false }
     ensures { Wrote (L.state link.old) (spec.text_of reply.now close) result (L.state link.new) }
 {
     match text_of(alloc, reply, close) {
+        Ok(text) => write_whole(link, text.as_slice()),
+        Err(Memory) => Err(Cause::Memory),
+    }
+}
+
+/// Writes the reply to a request, its bytes in one piece.
+#[tactic(auto, using(crate::proofs::Written::wrote_none))]
+pub(crate) fn send_answer<L: Link>(
+    link: &mut L,
+    alloc: Global,
+    message: &RawRequest,
+    reply: &Reply,
+) -> Result<(), Cause>
+    requires unshut { (L.state link.old).shut ≡ false }
+    ensures { Wrote (L.state link.old) (answer_to (raw message.now) reply.now) result (L.state link.new) }
+{
+    match answer_bytes(alloc, message, reply) {
         Ok(text) => write_whole(link, text.as_slice()),
         Err(Memory) => Err(Cause::Memory),
     }
@@ -113,7 +127,7 @@ pub(crate) fn send_refusal<L: Link>(
     why: Rejection,
 ) -> Result<(), Cause>
     requires unshut { (L.state link.old).shut ≡ false }
-    ensures { Wrote (L.state link.old) (spec.text_of (spec.refusing (answer_to why)) true) result (L.state link.new) }
+    ensures { Wrote (L.state link.old) (spec.text_of (spec.refusing (rejections.answer_to why)) true) result (L.state link.new) }
 {
     match why.refusal(alloc) {
         Ok(refusal) => send_refusing(link, alloc, refusal),

@@ -20,10 +20,22 @@ use Rattle.script_runs.specs.declared.misfit.Misfit.TheVariants.{NoServer, Clock
 use Rattle.script_runs.specs.Lines.{clock_misfit, misfit, server_misfit}
 use Rattle.turn_lock.specs.Lists.{Among, numbers}
 use Rattle.turn_lock.proofs.Lists.{among_left, among_right, numbers_append}
-use Rattle.serve_loop.specs.Marks.{TicksAll, ticks}
-use Rattle.serve_loop.proofs.MarkLists.{joined}
+use Rattle.serve_loop.specs.Marks.{TicksAll, TicksNone, ticks}
+use Rattle.serve_loop.proofs.MarkLists.{append_none, joined}
 use Rattle.serving_cluster.specs.Ticks.{Leaves, TicksEach, TicksWholly}
 use Rattle.serving_cluster.proofs.Steps.{ticked_mark}
+
+-- clocks that went on, and marks by which none does
+pub all_still : (servers : ℕ) (clock : ℕ → ℕ) (ms : ℕ) (a b c : List Mark) → TicksAll servers clock ms a b → TicksNone b c → TicksAll servers clock ms a c
+all_still servers clock ms a b c x y = record {
+  rest = x.rest ++ y.rest;
+  are = joined a b c x.rest y.rest x.are y.are;
+  each = λ s p l. more s (x.each s p l);
+}
+  where
+    more : (s : ℕ) → Among s (numbers ticks x.rest) ⊎ (2 ^ 53 < clock s + ms) → Among s (numbers ticks (x.rest ++ y.rest)) ⊎ (2 ^ 53 < clock s + ms)
+    more s (inl a) = inl (subst (Among s) (sym (append_none ticks x.rest y.rest y.none)) a)
+    more s (inr l) = inr l
 
 -- of server i's ticks
 leaves_all : (i : ℕ) (c : Cluster) → Leaves i c c

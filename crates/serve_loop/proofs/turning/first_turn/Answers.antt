@@ -1,33 +1,36 @@
-use Rattle.std.proofs.Common.{◌≡◌, List, ◌++◌, length, drop, sym, ap, ◌∙◌, subst}
+use Rattle.std.proofs.Common.{Some, ◌≡◌, List, ◌++◌, length, drop, sym, ap, ◌∙◌, subst}
 use Rattle.cat_model.specs.declared.reply.Mark.{Mark}
 use Rattle.turn_lock.specs.Lists.{Extends, numbers}
 use Rattle.turn_lock.specs.Passes.{MayEnd}
 use Rattle.serve_loop.specs.Marks.{opens, takes}
-use Rattle.serve_loop.proofs.OwnTurns.{may_end, behind, rests_first_or, turned_first}
+use Rattle.serve_loop.proofs.OwnTurns.{exchanged_or, may_end, behind, rests_first_or, turned_first}
 use Rattle.serve_loop.proofs.turning.first_turn.Goals as goal
 
 pub give-requires-clause-may : goal.give-requires-clause-may
 give-requires-clause-may g c =
+    let turned = exchanged_or g.C.SharedCluster.marks g.C.SharedCluster.idle g.C.SharedCluster.servers g.C.SharedCluster.clock g.C.SharedCluster.shows c.state.result.now.last_ms c.args.now (Some c.args.ask) 0 c.turn-turned.result c.state.result.now.cluster c.turn-turned.new.self.cluster c.turn-turned.ensures.turned in
     let old = g.C.SharedCluster.marks c.state.result.now.cluster in
     let new = g.C.SharedCluster.marks c.turn-turned.new.self.cluster in
     let mine = c.take-turn.new.pass.seat.me.0.mine in
     let same : c.take-turn.new.pass.seat.me.0.seen ≡ old = c.take-turn.ensures.seen ∙ ap (λ (s : _). g.C.SharedCluster.marks s.cluster) (sym c.state.ensures.value) in
-    let rests = rests_first_or g.C.SharedCluster.shows mine c.args.ask 0 c.turn-turned.result old new c.turn-turned.ensures.turned in
+    let rests = rests_first_or g.C.SharedCluster.shows mine c.args.ask 0 c.turn-turned.result old new turned in
     subst (λ (l : List Mark). MayEnd opens takes l mine new) (sym same) (may_end mine old new rests c.turn-turned.ensures.after)
 
 pub returns-clause-stands : goal.returns-clause-stands
 returns-clause-stands g c =
+    let turned = exchanged_or g.C.SharedCluster.marks g.C.SharedCluster.idle g.C.SharedCluster.servers g.C.SharedCluster.clock g.C.SharedCluster.shows c.state.result.now.last_ms c.args.now (Some c.args.ask) 0 c.turn-turned.result c.state.result.now.cluster c.turn-turned.new.self.cluster c.turn-turned.ensures.turned in
     let old = g.C.SharedCluster.marks c.state.result.now.cluster in
     let new = g.C.SharedCluster.marks c.turn-turned.new.self.cluster in
     let mine = c.take-turn.new.pass.seat.me.0.mine in
     let same : c.take-turn.new.pass.seat.me.0.seen ≡ old = c.take-turn.ensures.seen ∙ ap (λ (s : _). g.C.SharedCluster.marks s.cluster) (sym c.state.ensures.value) in
     let now_mine = subst (λ (l : List Mark). c.give.new.pass.seat.me.0.mine ≡ mine ++ numbers opens (drop (length l) new)) same c.give.ensures.mine in
-    turned_first g.C.SharedCluster.shows c.args.ask 0 c.turn-turned.result old new mine c.give.new.pass.seat.me.0 c.turn-turned.ensures.turned c.turn-turned.ensures.before c.turn-turned.ensures.after c.give.ensures.seen now_mine
+    turned_first g.C.SharedCluster.shows c.args.ask 0 c.turn-turned.result old new mine c.give.new.pass.seat.me.0 turned c.turn-turned.ensures.before c.turn-turned.ensures.after c.give.ensures.seen now_mine
 
 pub returns-clause-behind : goal.returns-clause-behind
 returns-clause-behind g c =
+    let turned = exchanged_or g.C.SharedCluster.marks g.C.SharedCluster.idle g.C.SharedCluster.servers g.C.SharedCluster.clock g.C.SharedCluster.shows c.state.result.now.last_ms c.args.now (Some c.args.ask) 0 c.turn-turned.result c.state.result.now.cluster c.turn-turned.new.self.cluster c.turn-turned.ensures.turned in
     let old = g.C.SharedCluster.marks c.state.result.now.cluster in
     let seen = c.args.pass.now.seat.me.0.seen in
     let mine = c.args.pass.now.seat.me.0.mine in
     let extends : Extends opens takes mine seen old = subst (λ (s : _). Extends opens takes mine seen (g.C.SharedCluster.marks s.cluster)) (sym c.state.ensures.value) c.take-turn.ensures.grown in
-    behind g.C.SharedCluster.shows c.args.ask 0 c.turn-turned.result seen old (g.C.SharedCluster.marks c.turn-turned.new.self.cluster) c.give.new.pass.seat.me.0.seen mine extends c.turn-turned.ensures.turned c.give.ensures.seen
+    behind g.C.SharedCluster.shows c.args.ask 0 c.turn-turned.result seen old (g.C.SharedCluster.marks c.turn-turned.new.self.cluster) c.give.new.pass.seat.me.0.seen mine extends turned c.give.ensures.seen

@@ -1,8 +1,12 @@
-use Rattle.serve_loop.proofs.Clocks.{gets_past, goes_still}
+use Rattle.serve_loop.proofs.Clocks.{goes_still}
+use Rattle.serve_loop.proofs.OwnTurns.{turns_or}
 use Rattle.serve_loop.proofs.served.Served.try_turn.Goals as goal
 
-pub returns-in-Ok-clause-time : goal.returns-in-Ok-clause-time
-returns-in-Ok-clause-time g c = goes_still _ _ _ c.args.now _ _ _ c.in-Ok.ensures.time c.collect-got.ensures.still
+pub returns-in-Ok-clause-turned : goal.returns-in-Ok-clause-turned
+returns-in-Ok-clause-turned g c =
+    let C = g.C.SharedCluster in
+    turns_or C.marks C.idle C.servers C.clock C.shows c.args.self.now.last_ms c.args.now c.args.ask c.args.number c.exchange.result c.args.self.now.cluster c.ready.new.self.cluster c.exchange.new.self.cluster
+    c.in-Ok.ensures.quiet c.in-Ok.ensures.readied c.exchange.ensures.exchanged
 
-pub returns-in-Ok-clause-gets_on : goal.returns-in-Ok-clause-gets_on
-returns-in-Ok-clause-gets_on g c = gets_past _ _ _ c.args.now _ _ _ _ _ c.in-Ok.ensures.gets_on c.collect-got.ensures.idle c.collect-got.ensures.still.1
+pub returns-in-Ok-clause-time : goal.returns-in-Ok-clause-time
+returns-in-Ok-clause-time g c = goes_still _ _ _ c.args.now _ _ _ c.in-Ok.ensures.time c.exchange.ensures.still

@@ -1,6 +1,5 @@
-use Rattle.serve_loop.proofs.Clocks.{all_still}
 use Rattle.serve_loop.proofs.MarkLists.{quiet_quiet}
-use Rattle.serving_cluster.proofs.Clocks.{on_ok}
+use Rattle.serving_cluster.proofs.Clocks.{all_still, on_ok}
 use Rattle.serving_cluster.proofs.Steps.{by_still}
 use Rattle.serving_cluster.proofs.serving.ServingCluster.go_on.Goals as goal
 
