@@ -1,0 +1,9 @@
+mod Forms
+mod Listing
+mod Parting
+mod Reading
+mod Solid
+mod Spelled
+mod Table
+mod TestTable
+mod Values

@@ -1,0 +1,10 @@
+pub mod Answers
+pub mod Selectors
+pub mod Tokens
+pub mod Expressions
+pub mod Tests
+pub mod Grammar
+pub mod Members
+pub mod Keeping
+pub mod Spelling
+pub mod Phrases
