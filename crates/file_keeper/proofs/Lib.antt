@@ -1,0 +1,6 @@
+pub mod Counting
+pub mod Extending
+pub mod Replaying
+pub mod Putting
+pub mod Finding
+pub mod Limits
