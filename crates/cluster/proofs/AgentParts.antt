@@ -36,6 +36,7 @@ use Rattle.cluster_parts.specs.Standing.{Stands}
 use Rattle.cluster_parts.specs.Newest.{answered_newest}
 use Rattle.cluster.specs.Syncing.{PlansInPart, PlansWhole, cut_first, noted_alone, own_done}
 use Rattle.cluster.proofs.Handled.{Comes, numbered_cluster, numbered_stands}
+use Rattle.cluster.proofs.Results.{stands_alike}
 use Rattle.cluster_parts.proofs.Kept.{answer_stands}
 
 -- a call that was no error did what it does then
@@ -115,8 +116,7 @@ module _ (gs gs' : List Agent) (wt : Watching) (w : World) (servers : List Serve
 
   pub answered_stands : Stands wt w servers r'
   answered_stands =
-      let a = answer_stands wt w servers r₁ (r.asked + 1) kind false 0 (content_told kind) (numbered_stands gs wt w servers r own agent asked draw here) in
-      subst (Stands wt w servers) (sym given_is) (record { reached = a.reached; some = a.some; count = a.count; watching = a.watching; sound = a.sound; joined = a.joined; proposed = a.proposed; ascends = a.ascends; held = a.held })
+      stands_alike (answer_stands wt w servers r₁ (r.asked + 1) kind false 0 (content_told kind) (numbered_stands gs wt w servers r own agent asked draw here)) given_is refl refl
 
 -- A reply stands before a sync's out.
 swapped : (b : Bool) (out s o : Out) (outs back : List Out) → put_out s (cond b (out ∷ o ∷ outs) (o ∷ back)) ≡ cond b (put_out s (out ∷ o ∷ outs)) (put_out s (o ∷ back))

@@ -38,7 +38,6 @@ begun_stands watch stores count w servers may begins some size idle is =
       count = ap length idle ∙ replicated count no_server ∙ sym size ∙ sym (as_many_start (length stores) 1 stores w.nodes begins.nodes);
       watching = (ap (λ (x : Watching). length x.watch.servers) is ∙ replicated count no_sleeper ∙ sym (ap length idle ∙ replicated count no_server), omega (arith, ap (λ (x : Watching). x.seen) is));
       sound = λ i. subst (λ (x : Server). ServerIsSound w.agreed (node_of w i).commit x) (sym (ap (λ (ss : List Server). server_of ss i) idle ∙ idle_server count i)) (record { front = refl; within = omega arith; clocks = refl });
-      joined = sym (ap length begins.agreed);
       proposed = omega (arith, begins.greatest);
       ascends = tt;
       held = tt;

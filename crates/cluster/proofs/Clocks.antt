@@ -43,7 +43,7 @@ module _ (gs : List Agent) (wt : Watching) where
       → Stands w' servers' r × Ticks i ms c (cluster_of w' servers' r)
   tick_goes_on i ms w w' servers servers' r c s view k same step =
       let e = step.2 in
-      let stands = world_stands gs wt w w' servers r s (k s.reached).0 (ticking_goes w i ms w' s.reached step) (ap (λ (v : World). v.greatest) e) (ap (λ (v : World). v.agreed) e) in
+      let stands = world_stands gs wt w w' servers r s (k s.reached).0 (ticking_goes w i ms w' s.reached step) (ap (λ (v : World). v.greatest) e) in
       let moves : cluster_of w' servers r ≡ moved i w' (cluster_of w servers r) = subst (λ (v : World). cluster_of v servers r ≡ moved i v (cluster_of w servers r)) (sym e) (on_clocks i w _ servers r) in (
         subst (λ (l : List Server). Stands w' l r) (sym same) stands,
         (w', subst (λ (d : Cluster). WorldStep d.world (world.Ticks i ms) w') view step, ap (λ (l : List Server). cluster_of w' l r) same ∙ moves ∙ ap (moved i w') view),
@@ -53,4 +53,4 @@ module _ (gs : List Agent) (wt : Watching) where
   pub lose_stands : (k : ℕ) (w w' : World) (servers servers' : List Server) (r : Requests) → Stands w servers r → KeepsAgreement w w' → servers' ≡ servers → WorldStep w (world.Drops k) w' → Stands w' servers' r
   lose_stands k w w' servers servers' r s keeps same step =
       let up = drops_rise w k w' step in
-      subst (λ (l : List Server). Stands w' l r) (sym same) (world_stands gs wt w w' servers r s (keeps s.reached).0 (losing_goes w k w' s.reached step) up.1 up.2)
+      subst (λ (l : List Server). Stands w' l r) (sym same) (world_stands gs wt w w' servers r s (keeps s.reached).0 (losing_goes w k w' s.reached step) up.1)

@@ -14,7 +14,6 @@ use Rattle.cat_model.specs.Log.{commands_of}
 use Rattle.cat_model.specs.Machine.{catalog_at}
 use Rattle.cat_model.specs.declared.reply.Kind.{Kind}
 use Rattle.cat_model.specs.declared.reply.Kind.TheVariants.{Delayed, Refused, Seen}
-use Rattle.cat_model.specs.declared.reply.Mark.TheVariants as mark
 use Rattle.cat_model.specs.declared.reply.Refusal.{Refusal}
 use Rattle.cat_model.specs.declared.reply.Refusal.TheVariants as refusal
 use Rattle.raft_model.specs.Log.{Log, last_term}
@@ -28,16 +27,16 @@ use Rattle.cluster_rules.specs.Requests.{delayed_at, delays, holding, is_ready, 
 use Rattle.cluster_rules.specs.Sound.{Ascends}
 use Rattle.cluster_rules.proofs.Tools.{each_append, each_map, neither, one_of}
 use Rattle.cluster_turns.specs.Turns.{HandlesNewest, IsCome, newest, numbered}
-use Rattle.open_requests.specs.Notes.{IsMadeLast, past_of}
+use Rattle.open_requests.specs.Past.{IsMadeLast}
 use Rattle.open_requests.specs.Requests.{Requests, answered_with, cluster_of as whole_of, holding_with, numbered_with, used}
 use Rattle.cluster_parts.specs.Standing as standing
 use Rattle.cluster_parts.specs.Standing.{IsAwaited}
 use Rattle.office_rules.specs.Offices.{Office, renew_in}
 use Rattle.cluster_servers.specs.Servers.{Servers, officed}
 use Rattle.cluster_parts.proofs.Acts.{stands_officed}
-use Rattle.cluster_parts.proofs.Carried.{all_more}
 use Rattle.cluster_parts.proofs.Kept.{answer_stands}
-use Rattle.cluster.proofs.Notes.{come_made, joined_placed, numbers_by}
+use Rattle.cluster.proofs.Notes.{come_made, numbers_by}
+use Rattle.cluster.proofs.Results.{stands_alike, stands_more}
 use Rattle.cluster.proofs.Taken.{delayed_as_asked}
 use Rattle.agent_rules.specs.Agents.{Agent}
 use Rattle.cluster_parts.specs.Watching.{Watching}
@@ -60,31 +59,14 @@ module _ (gs : List Agent) (wt : Watching) where
     pub come : IsCome agent asked draw c.past
 
   module _ (w : World) (servers : List Server) (r : Requests) (c : Cluster) (agent : ℕ) (asked : Asked) (draw : Draw) (at : Comes w servers r c agent asked draw) where
-    come_here : IsCome agent asked draw (past_of w.agreed r.notes)
-    come_here = subst (λ (d : Cluster). IsCome agent asked draw d.past) (sym at.view) at.come
-
-    pub made_last : (p : Requests) → p ≡ record r { room = 4 } → IsMadeLast p.notes
-    made_last p e = subst (λ (q : Requests). IsMadeLast q.notes) (sym e) (come_made gs wt agent asked draw w.agreed r.notes come_here)
-
-    -- the requests once it has its number
-    numbered_now : Requests
-    numbered_now = used (numbered_with agent asked draw (record r { room = 4 }))
+    pub made_last : (p : Requests) → p ≡ record r { room = 4 } → IsMadeLast p.past
+    made_last p e = subst (λ (q : Requests). IsMadeLast q.past) (sym e) (come_made agent asked draw r.past (subst (λ (d : Cluster). IsCome agent asked draw d.past) (sym at.view) at.come))
 
     pub numbered_cluster : cluster_of w servers (used (numbered_with agent asked draw (record r { room = 4 }))) ≡ numbered agent asked draw c
-    numbered_cluster = numbers_by gs wt w servers r agent asked draw come_here ∙ ap (numbered agent asked draw) at.view
+    numbered_cluster = numbers_by w servers gs r agent asked draw ∙ ap (numbered agent asked draw) at.view
 
     pub numbered_stands : Stands w servers (used (numbered_with agent asked draw (record r { room = 4 })))
-    numbered_stands = record {
-      reached = at.stands.reached;
-      some = at.stands.some;
-      count = at.stands.count;
-      watching = (at.stands.watching.0, omega (arith, at.stands.watching.1));
-      sound = at.stands.sound;
-      joined = joined_placed gs wt (mark.Asked (r.asked + 1) agent asked draw) r.notes ∙ at.stands.joined;
-      proposed = omega (arith, at.stands.proposed);
-      ascends = at.stands.ascends;
-      held = all_more wt w servers r.asked (r.asked + 1) r.held (omega arith) at.stands.held;
-    }
+    numbered_stands = let more : r.asked ≤ r.asked + 1 = omega arith in stands_more at.stands refl more refl
 
     -- its number in the rules
     pub number_is : (newest agent asked draw (numbered agent asked draw c)).number ≡ r.asked + 1
@@ -100,10 +82,12 @@ module _ (gs : List Agent) (wt : Watching) where
   refuses_as w servers r new q why c number n view e =
       ap (cluster_of w servers) e ∙ ap (λ k. cluster_of w servers (used (answered_with k (Refused why) false 0 (Says why) r))) (sym n) ∙ refuses w servers r q why ∙ ap (refused q why) view
 
+  -- a request that is answered
+  answer_leaves : (w : World) (servers : List Server) (r new : Requests) (number : ℕ) (kind : Kind) (content : Content) → Stands w servers r → new ≡ used (answered_with number kind false 0 content r) → Stands w servers new
+  answer_leaves w servers r new number kind content s e = stands_alike (answer_stands wt w servers r number kind false 0 content s) e refl refl
+
   pub refusal_stands : (w : World) (servers : List Server) (r new : Requests) (number : ℕ) (why : Refusal) → Stands w servers r → new ≡ used (answered_with number (Refused why) false 0 (Says why) r) → Stands w servers new
-  refusal_stands w servers r new number why s e =
-      let a = answer_stands wt w servers r number (Refused why) false 0 (Says why) s in
-      subst (Stands w servers) (sym e) (record { reached = a.reached; some = a.some; count = a.count; watching = a.watching; sound = a.sound; joined = a.joined; proposed = a.proposed; ascends = a.ascends; held = a.held })
+  refusal_stands w servers r new number why s e = answer_leaves w servers r new number (Refused why) (Says why) s e
 
   pub unready_handles : (w : World) (servers : List Server) (r r' : Requests) (c : Cluster) (i agent : ℕ) (asked : Asked) (draw : Draw) (number term applied : ℕ) → Comes w servers r c agent asked draw → (is_stale_read asked || is_ready c i) ≡ false
       → number ≡ r.asked + 1 → term ≡ (node_of c.world i).term → applied ≡ last_term (applied_of c i)
@@ -135,7 +119,6 @@ module _ (gs : List Agent) (wt : Watching) where
         count = s.count;
         watching = s.watching;
         sound = s.sound;
-        joined = s.joined;
         proposed = s.proposed;
         ascends = ascends_last r.held h s.ascends below;
         held = each_append (IsHeld w servers r.asked) r.held (h ∷ []) s.held (record { numbered = given; taken = taken; awaited = awaited; watched = inl (inl fresh) }, tt);
@@ -172,11 +155,6 @@ module _ (gs : List Agent) (wt : Watching) where
   answers_as w servers r new q kind content log c number n is view e =
       ap (cluster_of w servers) e ∙ ap (λ k. cluster_of w servers (used (answered_with k kind false 0 content r))) (sym n)
       ∙ ap (λ (x : Content). cluster_of w servers (used (answered_with q.number kind false 0 x r))) is ∙ ap (answered q kind false 0 log) view
-
-  answer_leaves : (w : World) (servers : List Server) (r new : Requests) (number : ℕ) (kind : Kind) (content : Content) → Stands w servers r → new ≡ used (answered_with number kind false 0 content r) → Stands w servers new
-  answer_leaves w servers r new number kind content s e =
-      let a = answer_stands wt w servers r number kind false 0 content s in
-      subst (Stands w servers) (sym e) (record { reached = a.reached; some = a.some; count = a.count; watching = a.watching; sound = a.sound; joined = a.joined; proposed = a.proposed; ascends = a.ascends; held = a.held })
 
   -- what a write shows that a lock delay refuses
   delay_shown : (q : Question) (c : Cluster) (i : ℕ) (command : Command) (key : List ℕ) (until now : ℕ) (log : Log) → q.asked ≡ Good (Write command) → delayed_at c i command ≡ Some key → Defers command key ≡ shown q (Delayed key until now) log
@@ -217,7 +195,7 @@ module _ (gs : List Agent) (wt : Watching) where
   pub renew_handles : (s s' : Servers) (r r' : Requests) (c : Cluster) (i agent : ℕ) (asked : Asked) (draw : Draw) (id number applied : ℕ) (row : Option SessionRow) →
       Comes s.world s.servers r c agent asked draw → s' ≡ officed i (renew_in (session_at id (catalog_at (commands_of (server_of s.servers i).applied)).sessions) (clock_of s.world i) (server_of s.servers i).office) s
       → asked ≡ Good (Renew id) → is_ready c i ≡ true → number ≡ r.asked + 1 → applied ≡ length (server_of s.servers i).applied → row ≡ session_at id (catalog_at (commands_of (server_of s.servers i).applied)).sessions
-      → (let r₂ = used (numbered_with agent asked draw (record r { room = 4 })) in r' ≡ used (answered_with number (Seen Default applied) false 0 (Renews row) (used (record r₂ { starts = Looked number i applied ∷ r₂.starts }))))
+      → (let r₂ = used (numbered_with agent asked draw (record r { room = 4 })) in r' ≡ used (answered_with number (Seen Default applied) false 0 (Renews row) (record r₂ { starts = Looked number i applied ∷ r₂.starts })))
       → HandlesNewest i agent asked draw c (cluster_of s'.world s'.servers r') × Stands s'.world s'.servers r'
   renew_handles s s' r r' c i agent asked draw id number applied row at moved_to is ready n l known e =
       subst (λ (z : Servers). HandlesNewest i agent asked draw c (cluster_of z.world z.servers r') × Stands z.world z.servers r') (sym moved_to)
@@ -245,7 +223,7 @@ module _ (gs : List Agent) (wt : Watching) where
       r₂ = used (numbered_with agent asked draw (record r { room = 4 }))
 
       r₃ : Requests
-      r₃ = used (record r₂ { starts = Looked number i applied ∷ r₂.starts })
+      r₃ = record r₂ { starts = Looked number i applied ∷ r₂.starts }
 
       log : Log
       log = (server_of s.servers i).applied
@@ -270,10 +248,7 @@ module _ (gs : List Agent) (wt : Watching) where
           (answers_as s.world new r₃ r' q (Seen Default applied) (Renews row) log begun number same_number shown_is before e ∙ ap (λ k. answered q (Seen Default k) false 0 log begun) l)
 
       stands : Stands s.world new r'
-      stands = answer_leaves s.world new r₃ r' number (Seen Default applied) (Renews row) started e
+      stands = answer_leaves s.world new r₃ r' number (Seen Default applied) (Renews row) (stands_alike officed_stands refl refl refl) e
         where
           officed_stands : Stands s.world new r₂
           officed_stands = stands_officed gs wt i office s.world s.servers r₂ (numbered_stands s.world s.servers r own agent asked draw here)
-
-          started : Stands s.world new r₃
-          started = record { reached = officed_stands.reached; some = officed_stands.some; count = officed_stands.count; watching = officed_stands.watching; sound = officed_stands.sound; joined = officed_stands.joined; proposed = officed_stands.proposed; ascends = officed_stands.ascends; held = officed_stands.held }

@@ -1,13 +1,12 @@
 -- The taking of outs.
-use Rattle.std.proofs.Common.{◌≡◌, ℕ, List, [], ◌++◌, Option, None, Some, refl, sym, ap, ◌∙◌, subst}
+use Rattle.std.proofs.Common.{◌≡◌, ℕ, List, [], ◌++◌, Option, None, Some, refl, ap, ◌∙◌, subst}
+use Rattle.cat_model.specs.declared.reply.Mark.{Mark}
 use Rattle.std.specs.Prelude.{IfNone, IfSome}
 use Rattle.raft_model.specs.World.{World}
 use Rattle.cluster_rules.specs.Replies.{Out, Replied, Closed, number_of}
 use Rattle.cluster_rules.specs.Cluster.{Cluster, Server}
-use Rattle.raft_model.specs.Log.{Log}
 use Rattle.script_runs.specs.Plays.{taken}
-use Rattle.open_requests.specs.declared.note.Note.{Note}
-use Rattle.open_requests.specs.Notes.{joined_in, past_of, taken_note}
+use Rattle.open_requests.specs.Past.{taken_past}
 use Rattle.open_requests.specs.Requests.{Requests, cluster_of as whole_of}
 use Rattle.open_requests.specs.Taking as own
 use Rattle.open_requests.specs.declared.collected.Collected.{Collected}
@@ -17,6 +16,7 @@ use Rattle.cluster_interface.specs.Interface.{TakesFirst}
 use Rattle.cluster_interface.specs.Taking.{Collects, Takes}
 use Rattle.agent_rules.specs.Agents.{Agent}
 use Rattle.cluster_parts.specs.Watching.{Watching}
+use Rattle.cluster.proofs.Results.{stands_alike}
 
 module _ (gs : List Agent) (wt : Watching) where
   -- the cluster of these parts, with these agents
@@ -26,14 +26,14 @@ module _ (gs : List Agent) (wt : Watching) where
   abbrev Stands : World → List Server → Requests → Type 0
   Stands w servers r = standing.Stands wt w servers r
 
-  noted_taken : (log : Log) (number : Option ℕ) (notes : List Note) → past_of log (taken_note number notes) ≡ taken number (past_of log notes)
-  noted_taken log None notes = refl
-  noted_taken log (Some number) notes = refl
+  noted_taken : (number : Option ℕ) (past : List Mark) → taken_past number past ≡ taken number past
+  noted_taken None past = refl
+  noted_taken (Some number) past = refl
 
   taken_first : (w : World) (servers : List Server) (old new : Requests) (c : Cluster) (out : Out) → cluster_of w servers old ≡ c → own.TakesFirst out old new → TakesFirst c (cluster_of w servers new) (Some out)
   taken_first w servers old new c out view takes =
       subst (λ (d : Cluster). TakesFirst d (cluster_of w servers new) (Some out)) view
-      (new.tray, takes.0, ap (λ (r : Requests). cluster_of w servers r) takes.1 ∙ ap (λ past. record (cluster_of w servers old) { tray = new.tray; past = past }) (noted_taken w.agreed (number_of out) old.notes))
+      (new.tray, takes.0, ap (λ (r : Requests). cluster_of w servers r) takes.1 ∙ ap (λ past. record (cluster_of w servers old) { tray = new.tray; past = past }) (noted_taken (number_of out) old.past))
 
   none_taken : (w : World) (servers : List Server) (old new : Requests) (c : Cluster) → cluster_of w servers old ≡ c → old.tray ≡ [] → new ≡ old → TakesFirst c (cluster_of w servers new) None
   none_taken w servers old new c view none same =
@@ -51,7 +51,7 @@ module _ (gs : List Agent) (wt : Watching) where
         before = t.before;
         after = t.after;
         there = t.there;
-        is = ap (λ (r : Requests). cluster_of w servers r) t.is ∙ ap (λ past. record (cluster_of w servers old) { tray = t.before ++ t.after; past = past }) (noted_taken w.agreed (number_of out) old.notes);
+        is = ap (λ (r : Requests). cluster_of w servers r) t.is ∙ ap (λ past. record (cluster_of w servers old) { tray = t.before ++ t.after; past = past }) (noted_taken (number_of out) old.past);
       }
 
   -- nothing was taken
@@ -67,20 +67,8 @@ module _ (gs : List Agent) (wt : Watching) where
       (same_cluster w servers old new c view is.0, rw (ap (λ (d : Cluster). d.tray) view) at is.1, rw (ap (λ (d : Cluster). d.held) view) at is.2)
 
   -- what stands of a cluster, stands once an out was taken
-  joined_taken : (number : Option ℕ) (notes : List Note) → joined_in (taken_note number notes) ≡ joined_in notes
-  joined_taken None notes = refl
-  joined_taken (Some number) notes = refl
-
-  taken_stands : (w : World) (servers : List Server) (old new : Requests) (out : Out) → own.Takes out old new → Stands w servers old → Stands w servers new
-  taken_stands w servers old new out t s =
-      subst (λ (r : Requests). Stands w servers r) (sym t.is)
-      record { reached = s.reached; some = s.some; count = s.count; watching = s.watching; sound = s.sound; joined = joined_taken (number_of out) old.notes ∙ s.joined; proposed = s.proposed; ascends = s.ascends; held = s.held }
-
-  same_stands : (w : World) (servers : List Server) (old new : Requests) → new ≡ old → Stands w servers old → Stands w servers new
-  same_stands w servers old new same s = subst (λ (r : Requests). Stands w servers r) (sym same) s
-
   pub collect_stands : (w : World) (servers : List Server) (old new : Requests) (number : ℕ) (got : Collected) → own.IsCollected number got old new → Stands w servers old → Stands w servers new
-  collect_stands w servers old new number (collected.Ready reply) is s = taken_stands w servers old new (Replied reply) is.0 s
-  collect_stands w servers old new number (collected.Closed event) is s = taken_stands w servers old new (Closed number event) is s
-  collect_stands w servers old new number (collected.NotYet wanted) is s = same_stands w servers old new is.0 s
-  collect_stands w servers old new number collected.Gone is s = same_stands w servers old new is.0 s
+  collect_stands w servers old new number (collected.Ready reply) is s = stands_alike s is.0.is refl refl
+  collect_stands w servers old new number (collected.Closed event) is s = stands_alike s is.is refl refl
+  collect_stands w servers old new number (collected.NotYet wanted) is s = stands_alike s is.0 refl refl
+  collect_stands w servers old new number collected.Gone is s = stands_alike s is.0 refl refl

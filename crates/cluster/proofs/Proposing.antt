@@ -1,6 +1,6 @@
 -- A write that was just noted is proposed: it is held at its place, or refused by what the proposal answered.
-use Rattle.std.proofs.Common.{◌≡◌, inl, inr, ℕ, suc, ◌+◌, ◌-◌, ◌≤◌, Bool, true, false, cond, not, length, List, [], ◌∷◌, ◌++◌, None, Result, Ok, Err, refl, sym, ap, ◌∙◌, subst, arith}
-use Rattle.std.specs.Prelude.{OnOk, OnErr, ◌&&◌, ◌<◌}
+use Rattle.std.proofs.Common.{◌≡◌, inl, inr, ℕ, suc, ◌+◌, ◌≤◌, Bool, true, false, cond, length, List, [], ◌∷◌, ◌++◌, None, Result, Ok, Err, refl, sym, ap, ◌∙◌, subst, arith}
+use Rattle.std.specs.Prelude.{OnOk, OnErr, ◌<◌}
 use Rattle.std.specs.List.{AllByRecursion as Each}
 use Rattle.std.proofs.lemmas.List.{length-append}
 use Rattle.cat_model.specs.declared.command.Command.{Command}
@@ -27,7 +27,7 @@ use Rattle.cat_model.specs.Taken.{IsTakenAsked, is_command_taken}
 use Rattle.cluster_rules.specs.Cluster.{AtPlace, Cluster, Pending, Proposed, Server, node_of, runs_leading, server_of}
 use Rattle.cluster_rules.specs.Lasting.{IsWrite}
 use Rattle.cluster_rules.specs.Replies.{Question, Says, entered}
-use Rattle.cluster_rules.specs.Requests.{delayed_at, full, holding, is_ready, log_with, moved, proposes, refused, stops}
+use Rattle.cluster_rules.specs.Requests.{delayed_at, full, halted_now, holding, is_ready, log_with, moved, proposes, refused, stops}
 use Rattle.cluster_rules.proofs.Boundary.{acts_greatest, acts_server, commit_within, leader_there, leading_tells, proposed as placed_by}
 use Rattle.cluster_rules.proofs.Tools.{is_node}
 use Rattle.cluster_turns.specs.Turns.{HandlesNewest, IsCome, newest, numbered}
@@ -36,12 +36,13 @@ use Rattle.open_requests.specs.Requests.{Requests, answered_with, cluster_of as 
 use Rattle.cluster_parts.specs.declared.writing.Write.{Write}
 use Rattle.cluster_parts.specs.declared.moving.Seen.{Seen}
 use Rattle.cluster_parts.specs.Asking.{EndsWrite, IsCopied, IsTakenWrite}
-use Rattle.cluster_parts.specs.Moving.{IsMarked, MarksStep, seen_of}
+use Rattle.cluster_parts.specs.Moving.{MarksStep, seen_of}
 use Rattle.cluster_parts.specs.Standing as standing
 use Rattle.cluster_parts.specs.Standing.{HasPlace, IsAwaited}
 use Rattle.cluster_parts.proofs.Carried.{carries, proposing_goes}
 use Rattle.cluster.proofs.Handled.{Comes, below_next, hold_stands, holds_as, numbered_cluster, numbered_stands, refusal_stands, refuses_as}
-use Rattle.cluster_parts.proofs.Marking.{cluster_marked, stands_proposed, with_room}
+use Rattle.cluster_parts.proofs.Marking.{cluster_marked, stands_proposed}
+use Rattle.cluster.proofs.Results.{all_as, stands_alike}
 use Rattle.cluster.proofs.Taken.{is_counted}
 use Rattle.agent_rules.specs.Agents.{Agent}
 use Rattle.cluster_parts.specs.Watching.{Watching}
@@ -69,21 +70,12 @@ module _ (gs : List Agent) (wt : Watching) where
   bytes_more [] e n = let one = entry_bytes (is_noop e.command) (command_bytes e.command) n in omega (arith, one)
   bytes_more (x ∷ log) e n = let more = bytes_more log e n in omega (arith, more)
 
-  -- marks change nothing else
-  pub marked_held : (b : Bool) (i count : ℕ) (old new : Requests) → IsMarked b i count old new → new.held ≡ old.held
-  marked_held true i count old new m = ap (λ (r : Requests). r.held) m
-  marked_held false i count old new m = ap (λ (r : Requests). r.held) m
-
-  pub marked_asked : (b : Bool) (i count : ℕ) (old new : Requests) → IsMarked b i count old new → new.asked ≡ old.asked
-  marked_asked true i count old new m = ap (λ (r : Requests). r.asked) m
-  marked_asked false i count old new m = ap (λ (r : Requests). r.asked) m
-
   -- what is known of a write that is proposed
   pub record IsProposing (w : World) (servers : List Server) (r : Requests) (i : ℕ) (write : Write) (command : Command) : Type 0 where
-    pub at : Comes gs wt w servers r (cluster_of w servers r) write.question.agent write.asked write.question.draw
-    pub copied : IsCopied (cluster_of w servers r) i write.question.agent write.asked write.question.draw command write
-    pub asked : write.asked ≡ Good (Writes command)
-    pub taken : IsTakenAsked write.asked
+    pub at : Comes gs wt w servers r (cluster_of w servers r) write.question.agent write.question.asked write.question.draw
+    pub copied : IsCopied (cluster_of w servers r) i write.question.agent write.question.asked write.question.draw command write
+    pub asked : write.question.asked ≡ Good (Writes command)
+    pub taken : IsTakenAsked write.question.asked
     pub leads : runs_leading w i ≡ true
     pub ready : is_ready (cluster_of w servers r) i ≡ true
     pub free : delayed_at (cluster_of w servers r) i command ≡ None
@@ -93,19 +85,19 @@ module _ (gs : List Agent) (wt : Watching) where
     agent = write.question.agent
 
     abbrev r₁ : Requests
-    r₁ = used (numbered_with write.question.agent write.asked write.question.draw (record r { room = 4 }))
+    r₁ = used (numbered_with write.question.agent write.question.asked write.question.draw (record r { room = 4 }))
 
     abbrev c₁ : Cluster
-    c₁ = numbered write.question.agent write.asked write.question.draw (cluster_of w servers r)
+    c₁ = numbered write.question.agent write.question.asked write.question.draw (cluster_of w servers r)
 
     abbrev q : Question
-    q = newest write.question.agent write.asked write.question.draw c₁
+    q = newest write.question.agent write.question.asked write.question.draw c₁
 
     next : r.asked + 1 ≡ suc r.asked
     next = omega arith
 
     question_is : write.question ≡ q
-    question_is = is.copied.question ∙ ap (λ k. record { number = k; agent = write.question.agent; asked = write.asked; draw = write.question.draw }) next
+    question_is = is.copied.question ∙ ap (λ k. record { number = k; agent = write.question.agent; asked = write.question.asked; draw = write.question.draw }) next
 
     number_is : write.question.number ≡ q.number
     number_is = ap (λ (x : Question). x.number) question_is
@@ -121,23 +113,18 @@ module _ (gs : List Agent) (wt : Watching) where
     entry_is = is.copied.entry ∙ ap (λ (z : Question). record { term = (node_of w i).term; number = z.number; command = entered z command }) question_is
 
     -- the step is marked
-    module _ (a : NodeActs w i (Propose write.question.number enters) w') (before now : Seen) (mid : Requests) (was : before ≡ seen_of w i) (seen : now ≡ seen_of w' i) (marked : MarksStep before now i r₁ mid) where
-      marks : MarksStep (seen_of w i) (seen_of w' i) i r₁ mid
-      marks = subst (λ (s : Seen). MarksStep s (seen_of w' i) i r₁ mid) was (subst (λ (s : Seen). MarksStep before s i r₁ mid) seen marked)
-
+    module _ (a : NodeActs w i (Propose write.question.number enters) w') (mid : Requests) (marks : MarksStep (seen_of w i) (seen_of w' i) i w'.agreed r₁ mid) where
       stands₁ : Stands w servers r₁
-      stands₁ = numbered_stands gs wt w servers r (cluster_of w servers r) write.question.agent write.asked write.question.draw is.at
+      stands₁ = numbered_stands gs wt w servers r (cluster_of w servers r) write.question.agent write.question.asked write.question.draw is.at
 
       moved_cluster : cluster_of w' servers mid ≡ moved i w' c₁
-      moved_cluster =
-          cluster_marked gs wt (not (node_of w i).halted && (node_of w' i).halted) i w w' servers r₁ mid stands₁ keeps marks
-          ∙ ap (moved i w') (numbered_cluster gs wt w servers r (cluster_of w servers r) write.question.agent write.asked write.question.draw is.at)
+      moved_cluster = cluster_marked gs wt (halted_now w w' i) i w w' servers r₁ mid marks ∙ ap (moved i w') (numbered_cluster gs wt w servers r (cluster_of w servers r) write.question.agent write.question.asked write.question.draw is.at)
 
       low : w'.greatest ≤ r₁.asked
       low = omega (arith, acts_greatest w i (Propose write.question.number enters) w' a, is.at.stands.proposed, ap (λ (x : Question). x.number) is.copied.question)
 
       moved_stands : Stands w' servers mid
-      moved_stands = stands_proposed gs wt (not (node_of w i).halted && (node_of w' i).halted) i w w' servers r₁ mid stands₁ keeps (carries w w' servers (proposing_goes w i write.question.number enters w' is.at.stands.reached a) is.at.stands.sound) low marks
+      moved_stands = stands_proposed gs wt (halted_now w w' i) i w w' servers r₁ mid stands₁ keeps (carries w w' servers (proposing_goes w i write.question.number enters w' is.at.stands.reached a) is.at.stands.sound) low marks
 
       acts_now : NodeActs w i (Propose q.number (entered q command)) w'
       acts_now = subst (λ (z : Question). NodeActs w i (Propose z.number (entered z command)) w') question_is a
@@ -153,7 +140,7 @@ module _ (gs : List Agent) (wt : Watching) where
       -- it is held
       held_so : (place : Place) → place ≡ record { index = suc (last a.old); term = a.old.term } → has_room a.old write.question.number enters ≡ true → a.new.halted ≡ false
           → r' ≡ used (holding_with write.question i (AtPlace place.index place.term) (Proposed place.index write.entry) mid)
-          → HandlesNewest i write.question.agent write.asked write.question.draw (cluster_of w servers r) (cluster_of w' servers r') × Stands w' servers r'
+          → HandlesNewest i write.question.agent write.question.asked write.question.draw (cluster_of w servers r) (cluster_of w' servers r') × Stands w' servers r'
       held_so place here room up e =
           let at : place ≡ record { index = suc (length (node_of w i).log); term = (node_of w i).term } = here ∙ ap (λ (n : Node). record { index = suc (length n.log); term = n.term }) (sym same_node) in
           let done = holds_as gs wt w' servers mid r' write.question i (AtPlace place.index place.term) (Proposed place.index write.entry) (moved i w' c₁) moved_cluster e in (
@@ -161,26 +148,17 @@ module _ (gs : List Agent) (wt : Watching) where
                 (done ∙ ap (λ (x : Question). holding x i (AtPlace place.index place.term) (Proposed place.index write.entry) (moved i w' c₁)) question_is
                 ∙ ap (λ (x : Entry). holding q i (AtPlace place.index place.term) (Proposed place.index x) (moved i w' c₁)) entry_is
                 ∙ ap (λ (p : Place). holding q i (AtPlace p.index p.term) (Proposed p.index (proposal (node_of w i) q.number (entered q command))) (moved i w' c₁)) at),
-            hold_stands gs wt w' servers mid r' write.question i (AtPlace place.index place.term) (Proposed place.index write.entry) moved_stands below given asked_taken (waits_at place at room up) fresh e,
+            hold_stands gs wt w' servers mid r' write.question i (AtPlace place.index place.term) (Proposed place.index write.entry) moved_stands below given is.taken (waits_at place at room up) fresh e,
           )
         where
-          held_same : mid.held ≡ r.held
-          held_same = marked_held (not (node_of w i).halted && (node_of w' i).halted) i (length w'.agreed - length w.agreed) r₁ mid marks
-
           below : Each (λ (h : Pending). h.question.number < write.question.number) mid.held
-          below = subst (Each (λ (h : Pending). h.question.number < write.question.number)) (sym held_same) (below_next gs wt w servers r write.question.number is.at.stands (ap (λ (x : Question). x.number) is.copied.question))
+          below = subst (Each (λ (h : Pending). h.question.number < write.question.number)) (sym (ap (λ (x : Requests). x.held) marks)) (below_next gs wt w servers r write.question.number is.at.stands (ap (λ (x : Question). x.number) is.copied.question))
 
           given : write.question.number ≤ mid.asked
-          given = omega (arith, ap (λ (x : Question). x.number) is.copied.question, marked_asked (not (node_of w i).halted && (node_of w' i).halted) i (length w'.agreed - length w.agreed) r₁ mid marks)
+          given = omega (arith, ap (λ (x : Question). x.number) is.copied.question, ap (λ (x : Requests). x.asked) marks)
 
           fresh : wt.seen < write.question.number
           fresh = omega (arith, ap (λ (x : Question). x.number) is.copied.question, is.at.stands.watching.1)
-
-          same_asked : write.question.asked ≡ write.asked
-          same_asked = ap (λ (x : Question). x.asked) is.copied.question
-
-          asked_taken : IsTakenAsked write.question.asked
-          asked_taken = subst IsTakenAsked (sym same_asked) is.taken
 
           applied_within : length (server_of servers i).applied ≤ length (node_of w i).log
           applied_within =
@@ -203,7 +181,7 @@ module _ (gs : List Agent) (wt : Watching) where
       refused_so why e = (refuses_as gs wt w' servers mid r' q why (moved i w' c₁) write.question.number (sym number_is) moved_cluster e, refusal_stands gs wt w' servers mid r' write.question.number why moved_stands e)
 
       full_so : has_room a.old write.question.number enters ≡ false → r' ≡ used (answered_with write.question.number (Refused (refusal.LogFull write.entries write.bytes)) false 0 (Says (refusal.LogFull write.entries write.bytes)) mid)
-          → HandlesNewest i write.question.agent write.asked write.question.draw (cluster_of w servers r) (cluster_of w' servers r') × Stands w' servers r'
+          → HandlesNewest i write.question.agent write.question.asked write.question.draw (cluster_of w servers r) (cluster_of w' servers r') × Stands w' servers r'
       full_so room e =
           let log = (node_of w i).log in
           let entries : write.entries ≡ length (log_with (node_of w i) q command) = is.copied.entries ∙ sym (length-append log (proposal (node_of w i) q.number (entered q command) ∷ [])) in
@@ -217,7 +195,7 @@ module _ (gs : List Agent) (wt : Watching) where
           )
 
       stops_so : has_room a.old write.question.number enters ≡ true → a.outcome ≡ LogFails → r' ≡ used (answered_with write.question.number (Refused (refusal.Halted i)) false 0 (Says (refusal.Halted i)) mid)
-          → HandlesNewest i write.question.agent write.asked write.question.draw (cluster_of w servers r) (cluster_of w' servers r') × Stands w' servers r'
+          → HandlesNewest i write.question.agent write.question.asked write.question.draw (cluster_of w servers r) (cluster_of w' servers r') × Stands w' servers r'
       stops_so room fails e =
           let step : NodeStep LogFails a.old (Propose write.question.number enters) a.new a.sent = subst (λ (o : Outcome). NodeStep o a.old (Propose write.question.number enters) a.new a.sent) fails a.step in
           let down : (node_of w' i).halted ≡ true = ap (λ (n : Node). n.halted) (acts_server w i (Propose write.question.number enters) w' a ∙ step.4) in
@@ -227,47 +205,46 @@ module _ (gs : List Agent) (wt : Watching) where
     -- what comes of it
     abbrev Ended : Result Unit memory.Memory → Type 0
     Ended result =
-        OnOk result (HandlesNewest i write.question.agent write.asked write.question.draw (cluster_of w servers r) (cluster_of w' servers r'))
+        OnOk result (HandlesNewest i write.question.agent write.question.asked write.question.draw (cluster_of w servers r) (cluster_of w' servers r'))
         × OnErr result (cluster_of w' servers r' ≡ cluster_of w servers r) × Stands w' servers r'
 
-    ended : (before now : Seen) (proposed : Result Place ProposeFault) (result : Result Unit memory.Memory) (p : Requests) → p ≡ record r { room = 4 } → before ≡ seen_of w i → now ≡ seen_of w' i
-        → Proposes w i write.question.number enters w' proposed → EndsWrite write before now i proposed result (record r { room = 4 }) r' → Ended result
-    ended before now (Ok place) (Ok u) p e was seen made ends =
-        let done = held_so made.acts before now ends.0 was seen ends.1 place made.is made.may.2 made.runs ends.2 in (done.0, tt, done.1)
-    ended before now (Ok place) (Err u) p e was seen made ends = absurd ends
-    ended before now (Err fault.Full) (Ok u) p e was seen made ends =
+    ended : (proposed : Result Place ProposeFault) (result : Result Unit memory.Memory) → Proposes w i write.question.number enters w' proposed
+        → EndsWrite write (seen_of w i) (seen_of w' i) i w'.agreed proposed result (record r { room = 4 }) r' → Ended result
+    ended (Ok place) (Ok u) made ends =
+        let done = held_so made.acts ends.0 ends.1 place made.is made.may.2 made.runs ends.2 in (done.0, tt, done.1)
+    ended (Ok place) (Err u) made ends = absurd ends
+    ended (Err fault.Full) (Ok u) made ends =
         let a = made.0.0.0 in
-        let done = full_so a before now ends.0 was seen ends.1 (made.1 a.old a.server).2 ends.2 in (done.0, tt, done.1)
-    ended before now (Err fault.Full) (Err u) p e was seen made ends = absurd ends
-    ended before now (Err fault.Halted) (Ok u) p e was seen (inl made) ends = absurd (let down = made.1 (node_of w i) (leader_there w i is.leads) in let up = (leading_tells w i is.leads).0 in cc (down, up))
-    ended before now (Err fault.Halted) (Ok u) p e was seen (inr made) ends =
-        let done = stops_so made.0 before now ends.0 was seen ends.1 made.2.2 made.1 ends.2 in (done.0, tt, done.1)
-    ended before now (Err fault.Halted) (Err u) p e was seen made ends = absurd ends
-    ended before now (Err fault.NotLeader) (Ok u) p e was seen made ends = absurd ends
-    ended before now (Err fault.NotLeader) (Err u) p e was seen made ends = absurd ((made.1 (node_of w i) (leader_there w i is.leads)).1 (leading_tells w i is.leads).1)
-    ended before now (Err fault.Memory) (Ok u) p e was seen made ends = absurd ends
-    ended before now (Err fault.Memory) (Err u) p e was seen made ends =
-        let here = with_room gs wt w servers r (record r { room = 4 }) 4 is.at.stands refl in (
-          tt,
-          subst (λ (v : World). cluster_of v servers r' ≡ cluster_of w servers r) (sym made.0) (ap (cluster_of w servers) ends ∙ here.1),
-          subst (λ (v : World). Stands v servers r') (sym made.0) (subst (Stands w servers) (sym ends) here.0),
-        )
+        let done = full_so a ends.0 ends.1 (made.1 a.old a.server).2 ends.2 in (done.0, tt, done.1)
+    ended (Err fault.Full) (Err u) made ends = absurd ends
+    ended (Err fault.Halted) (Ok u) (inl made) ends = absurd (let down = made.1 (node_of w i) (leader_there w i is.leads) in let up = (leading_tells w i is.leads).0 in cc (down, up))
+    ended (Err fault.Halted) (Ok u) (inr made) ends =
+        let done = stops_so made.0 ends.0 ends.1 made.2.2 made.1 ends.2 in (done.0, tt, done.1)
+    ended (Err fault.Halted) (Err u) made ends = absurd ends
+    ended (Err fault.NotLeader) (Ok u) made ends = absurd ends
+    ended (Err fault.NotLeader) (Err u) made ends = absurd ((made.1 (node_of w i) (leader_there w i is.leads)).1 (leading_tells w i is.leads).1)
+    ended (Err fault.Memory) (Ok u) made ends = absurd ends
+    ended (Err fault.Memory) (Err u) made ends = (
+      tt,
+      subst (λ (v : World). cluster_of v servers r' ≡ cluster_of w servers r) (sym made.0) (ap (cluster_of w servers) ends),
+      subst (λ (v : World). Stands v servers r') (sym made.0) (stands_alike is.at.stands ends refl refl),
+    )
 
   -- the same for a cluster that is seen so
-  pub done_write : (s s' : Servers) (r p r' : Requests) (i : ℕ) (write : Write) (enters : Command) (c : Cluster) (before now : Seen) (number : ℕ) (proposed : Result Place ProposeFault) (result : Result Unit memory.Memory) →
-      Stands s.world s.servers r → cluster_of s.world s.servers r ≡ c → IsCome write.question.agent write.asked write.question.draw c.past → IsTakenWrite c i write → enters ≡ write.entry.command
-      → runs_leading c.world i ≡ true → is_ready c i ≡ true → ((asks : Command) → write.asked ≡ Good (Writes asks) → delayed_at c i asks ≡ None)
-      → p ≡ record r { room = 4 } → number ≡ write.question.number → before ≡ seen_of s.world i → now ≡ seen_of s'.world i
-      → Proposes s.world i number enters s'.world proposed → KeepsAgreement s.world s'.world → s'.servers ≡ s.servers → EndsWrite write before now i proposed result p r'
-      → OnOk result (HandlesNewest i write.question.agent write.asked write.question.draw c (cluster_of s'.world s'.servers r'))
+  pub done_write : (s s' : Servers) (r p r' : Requests) (i : ℕ) (write : Write) (enters : Command) (c : Cluster) (before now : Seen) (agreed : Log) (number : ℕ) (proposed : Result Place ProposeFault) (result : Result Unit memory.Memory) →
+      Stands s.world s.servers r → cluster_of s.world s.servers r ≡ c → IsCome write.question.agent write.question.asked write.question.draw c.past → IsTakenWrite c i write → enters ≡ write.entry.command
+      → runs_leading c.world i ≡ true → is_ready c i ≡ true → ((asks : Command) → write.question.asked ≡ Good (Writes asks) → delayed_at c i asks ≡ None)
+      → p ≡ record r { room = 4 } → number ≡ write.question.number → before ≡ seen_of s.world i → now ≡ seen_of s'.world i → agreed ≡ s'.world.agreed
+      → Proposes s.world i number enters s'.world proposed → KeepsAgreement s.world s'.world → s'.servers ≡ s.servers → EndsWrite write before now i agreed proposed result p r'
+      → OnOk result (HandlesNewest i write.question.agent write.question.asked write.question.draw c (cluster_of s'.world s'.servers r'))
       × OnErr result (cluster_of s'.world s'.servers r' ≡ c) × Stands s'.world s'.servers r'
-  done_write s s' r p r' i write enters c before now number proposed result stands view come taken own leads ready free prepared n was seen made keeps same ends =
+  done_write s s' r p r' i write enters c before now agreed number proposed result stands view come taken own leads ready free prepared n was seen known made keeps same ends =
       let command = taken.command in
       let Goal : Cluster → List Server → Type 0 = λ d ss.
-      OnOk result (HandlesNewest i write.question.agent write.asked write.question.draw d (cluster_of s'.world ss r')) × OnErr result (cluster_of s'.world ss r' ≡ d) × Stands s'.world ss r' in
+      OnOk result (HandlesNewest i write.question.agent write.question.asked write.question.draw d (cluster_of s'.world ss r')) × OnErr result (cluster_of s'.world ss r' ≡ d) × Stands s'.world ss r' in
       let is : IsProposing s.world s.servers r i write command = record {
-        at = record { stands = stands; view = refl; come = subst (λ (d : Cluster). IsCome write.question.agent write.asked write.question.draw d.past) (sym view) come };
-        copied = subst (λ (d : Cluster). IsCopied d i write.question.agent write.asked write.question.draw command write) (sym view) taken.copied;
+        at = record { stands = stands; view = refl; come = subst (λ (d : Cluster). IsCome write.question.agent write.question.asked write.question.draw d.past) (sym view) come };
+        copied = subst (λ (d : Cluster). IsCopied d i write.question.agent write.question.asked write.question.draw command write) (sym view) taken.copied;
         asked = taken.asked;
         taken = taken.taken;
         leads = subst (λ (d : Cluster). runs_leading d.world i ≡ true) (sym view) leads;
@@ -276,17 +253,18 @@ module _ (gs : List Agent) (wt : Watching) where
       } in
       let enters_is : enters ≡ entered write.question command = own ∙ ap (λ (e : Entry). e.command) taken.copied.entry in
       subst (λ (ss : List Server). Goal c ss) (sym same) (subst (λ (d : Cluster). Goal d s.servers) view
-      (ended s.world s'.world s.servers r r' i write command is keeps before now proposed result p prepared was seen
+      (ended s.world s'.world s.servers r r' i write command is keeps proposed result
       (subst (λ (x : Command). Proposes s.world i write.question.number x s'.world proposed) enters_is (subst (λ k. Proposes s.world i k enters s'.world proposed) n made))
-      (subst (λ (o : Requests). EndsWrite write before now i proposed result o r') prepared ends)))
+      (subst (λ (o : Requests). EndsWrite write (seen_of s.world i) (seen_of s'.world i) i s'.world.agreed proposed result o r') prepared
+      (all_as (λ (b a : Seen) (l : Log). EndsWrite write b a i l proposed result p r') was seen known ends))))
 
   -- Each part of it, for a cluster that is seen so afterwards.
-  pub write_handled : (s s' : Servers) (r p r' : Requests) (i : ℕ) (write : Write) (enters : Command) (c c' : Cluster) (before now : Seen) (number : ℕ) (proposed : Result Place ProposeFault) (result : Result Unit memory.Memory) →
-      Stands s.world s.servers r → cluster_of s.world s.servers r ≡ c → IsCome write.question.agent write.asked write.question.draw c.past → IsTakenWrite c i write → enters ≡ write.entry.command
-      → runs_leading c.world i ≡ true → is_ready c i ≡ true → ((asks : Command) → write.asked ≡ Good (Writes asks) → delayed_at c i asks ≡ None)
-      → p ≡ record r { room = 4 } → number ≡ write.question.number → before ≡ seen_of s.world i → now ≡ seen_of s'.world i
-      → Proposes s.world i number enters s'.world proposed → KeepsAgreement s.world s'.world → s'.servers ≡ s.servers → EndsWrite write before now i proposed result p r' → cluster_of s'.world s'.servers r' ≡ c'
-      → OnOk result (HandlesNewest i write.question.agent write.asked write.question.draw c c') × OnErr result (c' ≡ c)
-  write_handled s s' r p r' i write enters c c' before now number proposed result stands view come taken own leads ready free prepared n was seen made keeps same ends shown =
-      let t = done_write s s' r p r' i write enters c before now number proposed result stands view come taken own leads ready free prepared n was seen made keeps same ends in
-      subst (λ (d : Cluster). OnOk result (HandlesNewest i write.question.agent write.asked write.question.draw c d) × OnErr result (d ≡ c)) shown (t.0, t.1)
+  pub write_handled : (s s' : Servers) (r p r' : Requests) (i : ℕ) (write : Write) (enters : Command) (c c' : Cluster) (before now : Seen) (agreed : Log) (number : ℕ) (proposed : Result Place ProposeFault) (result : Result Unit memory.Memory) →
+      Stands s.world s.servers r → cluster_of s.world s.servers r ≡ c → IsCome write.question.agent write.question.asked write.question.draw c.past → IsTakenWrite c i write → enters ≡ write.entry.command
+      → runs_leading c.world i ≡ true → is_ready c i ≡ true → ((asks : Command) → write.question.asked ≡ Good (Writes asks) → delayed_at c i asks ≡ None)
+      → p ≡ record r { room = 4 } → number ≡ write.question.number → before ≡ seen_of s.world i → now ≡ seen_of s'.world i → agreed ≡ s'.world.agreed
+      → Proposes s.world i number enters s'.world proposed → KeepsAgreement s.world s'.world → s'.servers ≡ s.servers → EndsWrite write before now i agreed proposed result p r' → cluster_of s'.world s'.servers r' ≡ c'
+      → OnOk result (HandlesNewest i write.question.agent write.question.asked write.question.draw c c') × OnErr result (c' ≡ c)
+  write_handled s s' r p r' i write enters c c' before now agreed number proposed result stands view come taken own leads ready free prepared n was seen known made keeps same ends shown =
+      let t = done_write s s' r p r' i write enters c before now agreed number proposed result stands view come taken own leads ready free prepared n was seen known made keeps same ends in
+      subst (λ (d : Cluster). OnOk result (HandlesNewest i write.question.agent write.question.asked write.question.draw c d) × OnErr result (d ≡ c)) shown (t.0, t.1)

@@ -1,5 +1,5 @@
 -- A request comes and is refused at once.
-use Rattle.std.proofs.Common.{◌≡◌, ℕ, suc, ◌+◌, false, List, ◌∷◌, Result, Ok, Err, ap, ◌∙◌, arith}
+use Rattle.std.proofs.Common.{◌≡◌, ℕ, suc, ◌+◌, ◌≤◌, false, List, ◌∷◌, Result, Ok, Err, refl, ap, ◌∙◌, arith}
 use Rattle.std.specs.Prelude.{OnOk, OnErr}
 use Rattle.cat_model.specs.declared.request.Asked.{Asked}
 use Rattle.cat_model.specs.declared.request.Draw.{Draw}
@@ -13,13 +13,12 @@ use Rattle.cluster_rules.specs.Replies.{Says, shown}
 use Rattle.cluster_rules.specs.Requests.{refused}
 use Rattle.cluster_rules.specs.Step.{marked}
 use Rattle.cluster_turns.specs.Turns.{newest}
-use Rattle.open_requests.specs.declared.note.Note.TheVariants.{Marked}
 use Rattle.open_requests.specs.Requests.{Requests, answered_with, came_with, cluster_of as whole_of}
 use Rattle.cluster_parts.specs.Standing as standing
-use Rattle.cluster_parts.proofs.Carried.{all_more}
 use Rattle.cluster_parts.proofs.Kept.{answer_stands, call_stands}
 use Rattle.agent_rules.specs.Agents.{Agent}
 use Rattle.cluster_parts.specs.Watching.{Watching}
+use Rattle.cluster.proofs.Results.{stands_more}
 
 module _ (gs : List Agent) (wt : Watching) where
   -- the cluster of these parts, with these agents
@@ -41,20 +40,10 @@ module _ (gs : List Agent) (wt : Watching) where
   unfolding shown
   refused_is w servers r agent asked draw why =
       let next : r.asked + 1 ≡ suc r.asked = omega arith in
-      ap (λ k. cluster_of w servers (answered_with k (Refused why) false 0 (Says why) (record r { asked = k; notes = Marked (mark.Asked k agent asked draw) ∷ r.notes }))) next
+      ap (λ k. cluster_of w servers (answered_with k (Refused why) false 0 (Says why) (record r { asked = k; past = mark.Asked k agent asked draw ∷ r.past }))) next
 
   came_stands : (w : World) (servers : List Server) (r : Requests) (agent : ℕ) (asked : Asked) (draw : Draw) → Stands w servers r → Stands w servers (came_with agent asked draw r)
-  came_stands w servers r agent asked draw s = record {
-    reached = s.reached;
-    some = s.some;
-    count = s.count;
-    watching = (s.watching.0, omega (arith, s.watching.1));
-    sound = s.sound;
-    joined = s.joined;
-    proposed = omega (arith, s.proposed);
-    ascends = s.ascends;
-    held = all_more wt w servers r.asked (r.asked + 1) r.held (omega arith) s.held;
-  }
+  came_stands w servers r agent asked draw s = let more : r.asked ≤ r.asked + 1 = omega arith in stands_more s refl more refl
 
   pub refused_stands : {A B : Type 0} (w : World) (servers : List Server) (r new : Requests) (agent : ℕ) (asked : Asked) (draw : Draw) (why : Refusal) (result : Result A B) → Stands w servers r
       → OnOk result (new ≡ with_refused agent asked draw why r) → OnErr result (new ≡ r) → Stands w servers new

@@ -1,10 +1,11 @@
 -- A consistent read that was just noted is held until the round is confirmed that was begun for it.
-use Rattle.std.proofs.Common.{◌≡◌, ℕ, suc, ◌+◌, ◌-◌, ◌≤◌, true, not, length, List, Result, Ok, Err, refl, sym, ap, ◌∙◌, subst, arith}
-use Rattle.std.specs.Prelude.{IfOk, OnOk, OnErr, ◌&&◌, ◌||◌, ◌<◌, ◌^◌}
+use Rattle.std.proofs.Common.{◌≡◌, ℕ, suc, ◌+◌, ◌-◌, ◌≤◌, true, List, Result, Ok, Err, refl, sym, ap, ◌∙◌, subst, arith}
+use Rattle.std.specs.Prelude.{IfOk, OnOk, OnErr, ◌||◌, ◌<◌, ◌^◌}
 use Rattle.std.specs.List.{AllByRecursion as Each}
 use Rattle.cat_model.specs.declared.memory.Memory as memory
 use Rattle.raft_model.specs.declared.message.Round.{Round}
 use Rattle.raft_model.specs.Facts.{next_round}
+use Rattle.raft_model.specs.Log.{Log}
 use Rattle.raft_model.specs.Node.{Node}
 use Rattle.raft_model.specs.Rules.{Probe}
 use Rattle.raft_model.specs.World.{World, Acts as NodeActs, IsServer}
@@ -13,21 +14,20 @@ use Rattle.raft_world.specs.Steps.{Begun, KeepsAgreement}
 use Rattle.cat_model.specs.Taken.{IsTakenAsked}
 use Rattle.cluster_rules.specs.Cluster.{Cluster, InRound, Pending, Probed, Server, node_of}
 use Rattle.cluster_rules.specs.Replies.{Question}
-use Rattle.cluster_rules.specs.Requests.{holding, is_ready, is_stale_read, moved, probes}
+use Rattle.cluster_rules.specs.Requests.{halted_now, holding, is_ready, is_stale_read, moved, probes}
 use Rattle.cluster_rules.proofs.Boundary.{acts_greatest}
 use Rattle.cluster_rules.proofs.Tools.{is_node, one_of}
 use Rattle.cluster_turns.specs.Turns.{HandlesNewest, IsCome, newest, numbered}
 use Rattle.cluster_servers.specs.Servers.{Servers}
 use Rattle.open_requests.specs.Requests.{Requests, cluster_of as whole_of, holding_with, numbered_with, used}
 use Rattle.cluster_parts.specs.declared.moving.Seen.{Seen}
-use Rattle.cluster_parts.specs.declared.probing.NewRead.{NewRead}
 use Rattle.cluster_parts.specs.Asking.{EndsProbe, IsNewRead}
 use Rattle.cluster_parts.specs.Moving.{MarksStep, seen_of}
 use Rattle.cluster_parts.specs.Standing as standing
 use Rattle.cluster_parts.proofs.Carried.{carries, probing_goes}
 use Rattle.cluster.proofs.Handled.{Comes, below_next, hold_stands, holds_as, numbered_cluster, numbered_stands}
-use Rattle.cluster_parts.proofs.Marking.{cluster_marked, stands_proposed, with_room}
-use Rattle.cluster.proofs.Proposing.{marked_asked, marked_held}
+use Rattle.cluster_parts.proofs.Marking.{cluster_marked, stands_proposed}
+use Rattle.cluster.proofs.Results.{all_as, stands_alike}
 use Rattle.agent_rules.specs.Agents.{Agent}
 use Rattle.cluster_parts.specs.Watching.{Watching}
 
@@ -44,119 +44,107 @@ module _ (gs : List Agent) (wt : Watching) where
   rounds_fit w i l n at = subst (λ (m : Node). m.round < 2 ^ 64 - 1) (is_node w i n at) l
 
   -- what is known of a read for which a round is begun
-  pub record IsProbing (w : World) (servers : List Server) (r : Requests) (i : ℕ) (read : NewRead) (deadline : ℕ) : Type 0 where
-    pub at : Comes gs wt w servers r (cluster_of w servers r) read.question.agent read.asked read.question.draw
+  pub record IsProbing (w : World) (servers : List Server) (r : Requests) (i : ℕ) (read : Question) (deadline : ℕ) : Type 0 where
+    pub at : Comes gs wt w servers r (cluster_of w servers r) read.agent read.asked read.draw
     pub new : IsNewRead (cluster_of w servers r) i read deadline
     pub taken : IsTakenAsked read.asked
     pub go : (is_stale_read read.asked || is_ready (cluster_of w servers r) i) ≡ true
 
-  module _ (w w' : World) (servers : List Server) (r r' : Requests) (i : ℕ) (read : NewRead) (deadline : ℕ) (is : IsProbing w servers r i read deadline) (keeps : KeepsAgreement w w') where
+  module _ (w w' : World) (servers : List Server) (r r' : Requests) (i : ℕ) (read : Question) (deadline : ℕ) (is : IsProbing w servers r i read deadline) (keeps : KeepsAgreement w w') where
     abbrev r₁ : Requests
-    r₁ = used (numbered_with read.question.agent read.asked read.question.draw (record r { room = 4 }))
+    r₁ = used (numbered_with read.agent read.asked read.draw (record r { room = 4 }))
 
     abbrev c₁ : Cluster
-    c₁ = numbered read.question.agent read.asked read.question.draw (cluster_of w servers r)
+    c₁ = numbered read.agent read.asked read.draw (cluster_of w servers r)
 
     abbrev q : Question
-    q = newest read.question.agent read.asked read.question.draw c₁
+    q = newest read.agent read.asked read.draw c₁
 
     next : r.asked + 1 ≡ suc r.asked
     next = omega arith
 
-    question_is : read.question ≡ q
-    question_is = is.new.question ∙ ap (λ k. record { number = k; agent = read.question.agent; asked = read.asked; draw = read.question.draw }) next
+    question_is : read ≡ q
+    question_is = ap (λ k. record { number = k; agent = read.agent; asked = read.asked; draw = read.draw }) (is.new.number ∙ next)
 
     -- the step is marked
-    module _ (a : NodeActs w i Probe w') (before now : Seen) (mid : Requests) (was : before ≡ seen_of w i) (seen : now ≡ seen_of w' i) (marked : MarksStep before now i r₁ mid) where
-      marks : MarksStep (seen_of w i) (seen_of w' i) i r₁ mid
-      marks = subst (λ (s : Seen). MarksStep s (seen_of w' i) i r₁ mid) was (subst (λ (s : Seen). MarksStep before s i r₁ mid) seen marked)
-
+    module _ (a : NodeActs w i Probe w') (mid : Requests) (marks : MarksStep (seen_of w i) (seen_of w' i) i w'.agreed r₁ mid) where
       stands₁ : Stands w servers r₁
-      stands₁ = numbered_stands gs wt w servers r (cluster_of w servers r) read.question.agent read.asked read.question.draw is.at
+      stands₁ = numbered_stands gs wt w servers r (cluster_of w servers r) read.agent read.asked read.draw is.at
 
       moved_cluster : cluster_of w' servers mid ≡ moved i w' c₁
-      moved_cluster =
-          cluster_marked gs wt (not (node_of w i).halted && (node_of w' i).halted) i w w' servers r₁ mid stands₁ keeps marks
-          ∙ ap (moved i w') (numbered_cluster gs wt w servers r (cluster_of w servers r) read.question.agent read.asked read.question.draw is.at)
+      moved_cluster = cluster_marked gs wt (halted_now w w' i) i w w' servers r₁ mid marks ∙ ap (moved i w') (numbered_cluster gs wt w servers r (cluster_of w servers r) read.agent read.asked read.draw is.at)
 
       low : w'.greatest ≤ r₁.asked
       low = omega (arith, acts_greatest w i Probe w' a, is.at.stands.proposed)
 
       moved_stands : Stands w' servers mid
-      moved_stands = stands_proposed gs wt (not (node_of w i).halted && (node_of w' i).halted) i w w' servers r₁ mid stands₁ keeps (carries w w' servers (probing_goes w i w' is.at.stands.reached a) is.at.stands.sound) low marks
+      moved_stands = stands_proposed gs wt (halted_now w w' i) i w w' servers r₁ mid stands₁ keeps (carries w w' servers (probing_goes w i w' is.at.stands.reached a) is.at.stands.sound) low marks
 
-      held_so : (round : Round) → round ≡ next_round a.old → r' ≡ used (holding_with read.question i (InRound round deadline) (Probed read.question.number i round) mid)
-          → HandlesNewest i read.question.agent read.asked read.question.draw (cluster_of w servers r) (cluster_of w' servers r') × Stands w' servers r'
+      held_so : (round : Round) → round ≡ next_round a.old → r' ≡ used (holding_with read i (InRound round deadline) (Probed read.number i round) mid)
+          → HandlesNewest i read.agent read.asked read.draw (cluster_of w servers r) (cluster_of w' servers r') × Stands w' servers r'
       held_so round begun e =
           let same : round ≡ next_round (node_of w i) = begun ∙ ap next_round (sym (is_node w i a.old a.server)) in
-          let done = holds_as gs wt w' servers mid r' read.question i (InRound round deadline) (Probed read.question.number i round) (moved i w' c₁) moved_cluster e in (
+          let done = holds_as gs wt w' servers mid r' read i (InRound round deadline) (Probed read.number i round) (moved i w' c₁) moved_cluster e in (
             probes is.new.wait w' is.new.look (one_of (is_stale_read read.asked) (is_ready (cluster_of w servers r) i) is.go) a
                 (done ∙ ap (λ (x : Question). holding x i (InRound round deadline) (Probed x.number i round) (moved i w' c₁)) question_is
                 ∙ ap (λ (x : Round). holding q i (InRound x deadline) (Probed q.number i x) (moved i w' c₁)) same
                 ∙ ap (λ d. holding q i (InRound (next_round (node_of w i)) d) (Probed q.number i (next_round (node_of w i))) (moved i w' c₁)) is.new.deadline_is),
-            hold_stands gs wt w' servers mid r' read.question i (InRound round deadline) (Probed read.question.number i round) moved_stands below given asked_taken tt fresh e,
+            hold_stands gs wt w' servers mid r' read i (InRound round deadline) (Probed read.number i round) moved_stands below given is.taken tt fresh e,
           )
         where
-          held_same : mid.held ≡ r.held
-          held_same = marked_held gs wt (not (node_of w i).halted && (node_of w' i).halted) i (length w'.agreed - length w.agreed) r₁ mid marks
+          below : Each (λ (h : Pending). h.question.number < read.number) mid.held
+          below = subst (Each (λ (h : Pending). h.question.number < read.number)) (sym (ap (λ (x : Requests). x.held) marks)) (below_next gs wt w servers r read.number is.at.stands is.new.number)
 
-          below : Each (λ (h : Pending). h.question.number < read.question.number) mid.held
-          below = subst (Each (λ (h : Pending). h.question.number < read.question.number)) (sym held_same) (below_next gs wt w servers r read.question.number is.at.stands (ap (λ (x : Question). x.number) is.new.question))
+          given : read.number ≤ mid.asked
+          given = omega (arith, is.new.number, ap (λ (x : Requests). x.asked) marks)
 
-          given : read.question.number ≤ mid.asked
-          given = omega (arith, ap (λ (x : Question). x.number) is.new.question, marked_asked gs wt (not (node_of w i).halted && (node_of w' i).halted) i (length w'.agreed - length w.agreed) r₁ mid marks)
-
-          fresh : wt.seen < read.question.number
-          fresh = omega (arith, ap (λ (x : Question). x.number) is.new.question, is.at.stands.watching.1)
-
-          asked_taken : IsTakenAsked read.question.asked
-          asked_taken = subst IsTakenAsked (sym (ap (λ (x : Question). x.asked) is.new.question)) is.taken
+          fresh : wt.seen < read.number
+          fresh = omega (arith, is.new.number, is.at.stands.watching.1)
 
     -- what comes of it
     abbrev Ended : Result Unit memory.Memory → Type 0
     Ended result =
-        OnOk result (HandlesNewest i read.question.agent read.asked read.question.draw (cluster_of w servers r) (cluster_of w' servers r'))
+        OnOk result (HandlesNewest i read.agent read.asked read.draw (cluster_of w servers r) (cluster_of w' servers r'))
         × OnErr result (cluster_of w' servers r' ≡ cluster_of w servers r) × Stands w' servers r'
 
-    ended : (before now : Seen) (probed : Result Round ProbeFault) (result : Result Unit memory.Memory) → before ≡ seen_of w i → now ≡ seen_of w' i
-        → IfOk probed (Begun w i w') → OnErr probed (w' ≡ w) → EndsProbe read before now i deadline probed result (record r { room = 4 }) r' → Ended result
-    ended before now (Ok round) (Ok u) was seen begun same ends =
-        let done = held_so begun.0 before now ends.0 was seen ends.1 round begun.3 ends.2 in (done.0, tt, done.1)
-    ended before now (Ok round) (Err u) was seen begun same ends = absurd ends
-    ended before now (Err why) (Ok u) was seen begun same ends = absurd ends
-    ended before now (Err why) (Err u) was seen begun same ends =
-        let here = with_room gs wt w servers r (record r { room = 4 }) 4 is.at.stands refl in (
-          tt,
-          subst (λ (v : World). cluster_of v servers r' ≡ cluster_of w servers r) (sym same) (ap (cluster_of w servers) ends ∙ here.1),
-          subst (λ (v : World). Stands v servers r') (sym same) (subst (Stands w servers) (sym ends) here.0),
-        )
+    ended : (probed : Result Round ProbeFault) (result : Result Unit memory.Memory) → IfOk probed (Begun w i w') → OnErr probed (w' ≡ w)
+        → EndsProbe read (seen_of w i) (seen_of w' i) i w'.agreed deadline probed result (record r { room = 4 }) r' → Ended result
+    ended (Ok round) (Ok u) begun same ends = let done = held_so begun.0 ends.0 ends.1 round begun.3 ends.2 in (done.0, tt, done.1)
+    ended (Ok round) (Err u) begun same ends = absurd ends
+    ended (Err why) (Ok u) begun same ends = absurd ends
+    ended (Err why) (Err u) begun same ends = (
+      tt,
+      subst (λ (v : World). cluster_of v servers r' ≡ cluster_of w servers r) (sym same) (ap (cluster_of w servers) ends),
+      subst (λ (v : World). Stands v servers r') (sym same) (stands_alike is.at.stands ends refl refl),
+    )
 
   -- the same for a cluster that is seen so
-  pub done_probe : (s s' : Servers) (r p r' : Requests) (i : ℕ) (read : NewRead) (deadline : ℕ) (c : Cluster) (before now : Seen) (probed : Result Round ProbeFault) (result : Result Unit memory.Memory) →
-      Stands s.world s.servers r → cluster_of s.world s.servers r ≡ c → IsCome read.question.agent read.asked read.question.draw c.past → IsNewRead c i read deadline → IsTakenAsked read.asked
-      → (is_stale_read read.asked || is_ready c i) ≡ true → p ≡ record r { room = 4 } → before ≡ seen_of s.world i → now ≡ seen_of s'.world i
-      → IfOk probed (Begun s.world i s'.world) → OnErr probed (s'.world ≡ s.world) → KeepsAgreement s.world s'.world → s'.servers ≡ s.servers → EndsProbe read before now i deadline probed result p r'
-      → OnOk result (HandlesNewest i read.question.agent read.asked read.question.draw c (cluster_of s'.world s'.servers r'))
+  pub done_probe : (s s' : Servers) (r p r' : Requests) (i : ℕ) (read : Question) (deadline : ℕ) (c : Cluster) (before now : Seen) (agreed : Log) (probed : Result Round ProbeFault) (result : Result Unit memory.Memory) →
+      Stands s.world s.servers r → cluster_of s.world s.servers r ≡ c → IsCome read.agent read.asked read.draw c.past → IsNewRead c i read deadline → IsTakenAsked read.asked
+      → (is_stale_read read.asked || is_ready c i) ≡ true → p ≡ record r { room = 4 } → before ≡ seen_of s.world i → now ≡ seen_of s'.world i → agreed ≡ s'.world.agreed
+      → IfOk probed (Begun s.world i s'.world) → OnErr probed (s'.world ≡ s.world) → KeepsAgreement s.world s'.world → s'.servers ≡ s.servers → EndsProbe read before now i agreed deadline probed result p r'
+      → OnOk result (HandlesNewest i read.agent read.asked read.draw c (cluster_of s'.world s'.servers r'))
       × OnErr result (cluster_of s'.world s'.servers r' ≡ c) × Stands s'.world s'.servers r'
-  done_probe s s' r p r' i read deadline c before now probed result stands view come new taken go prepared was seen begun same keeps kept ends =
+  done_probe s s' r p r' i read deadline c before now agreed probed result stands view come new taken go prepared was seen known begun same keeps kept ends =
       let Goal : Cluster → List Server → Type 0 = λ d ss.
-      OnOk result (HandlesNewest i read.question.agent read.asked read.question.draw d (cluster_of s'.world ss r')) × OnErr result (cluster_of s'.world ss r' ≡ d) × Stands s'.world ss r' in
+      OnOk result (HandlesNewest i read.agent read.asked read.draw d (cluster_of s'.world ss r')) × OnErr result (cluster_of s'.world ss r' ≡ d) × Stands s'.world ss r' in
       let is : IsProbing s.world s.servers r i read deadline = record {
-        at = record { stands = stands; view = refl; come = subst (λ (d : Cluster). IsCome read.question.agent read.asked read.question.draw d.past) (sym view) come };
+        at = record { stands = stands; view = refl; come = subst (λ (d : Cluster). IsCome read.agent read.asked read.draw d.past) (sym view) come };
         new = subst (λ (d : Cluster). IsNewRead d i read deadline) (sym view) new;
         taken = taken;
         go = subst (λ (d : Cluster). (is_stale_read read.asked || is_ready d i) ≡ true) (sym view) go;
       } in
       subst (λ (ss : List Server). Goal c ss) (sym kept) (subst (λ (d : Cluster). Goal d s.servers) view
-      (ended s.world s'.world s.servers r r' i read deadline is keeps before now probed result was seen begun same
-      (subst (λ (o : Requests). EndsProbe read before now i deadline probed result o r') prepared ends)))
+      (ended s.world s'.world s.servers r r' i read deadline is keeps probed result begun same
+      (subst (λ (o : Requests). EndsProbe read (seen_of s.world i) (seen_of s'.world i) i s'.world.agreed deadline probed result o r') prepared
+      (all_as (λ (b a : Seen) (l : Log). EndsProbe read b a i l deadline probed result p r') was seen known ends))))
 
   -- Each part of it, for a cluster that is seen so afterwards.
-  pub read_probed : (s s' : Servers) (r p r' : Requests) (i : ℕ) (read : NewRead) (deadline : ℕ) (c c' : Cluster) (before now : Seen) (probed : Result Round ProbeFault) (result : Result Unit memory.Memory) →
-      Stands s.world s.servers r → cluster_of s.world s.servers r ≡ c → IsCome read.question.agent read.asked read.question.draw c.past → IsNewRead c i read deadline → IsTakenAsked read.asked
-      → (is_stale_read read.asked || is_ready c i) ≡ true → p ≡ record r { room = 4 } → before ≡ seen_of s.world i → now ≡ seen_of s'.world i
-      → IfOk probed (Begun s.world i s'.world) → OnErr probed (s'.world ≡ s.world) → KeepsAgreement s.world s'.world → s'.servers ≡ s.servers → EndsProbe read before now i deadline probed result p r' → cluster_of s'.world s'.servers r' ≡ c'
-      → OnOk result (HandlesNewest i read.question.agent read.asked read.question.draw c c') × OnErr result (c' ≡ c)
-  read_probed s s' r p r' i read deadline c c' before now probed result stands view come new taken go prepared was seen begun same keeps kept ends shown =
-      let t = done_probe s s' r p r' i read deadline c before now probed result stands view come new taken go prepared was seen begun same keeps kept ends in
-      subst (λ (d : Cluster). OnOk result (HandlesNewest i read.question.agent read.asked read.question.draw c d) × OnErr result (d ≡ c)) shown (t.0, t.1)
+  pub read_probed : (s s' : Servers) (r p r' : Requests) (i : ℕ) (read : Question) (deadline : ℕ) (c c' : Cluster) (before now : Seen) (agreed : Log) (probed : Result Round ProbeFault) (result : Result Unit memory.Memory) →
+      Stands s.world s.servers r → cluster_of s.world s.servers r ≡ c → IsCome read.agent read.asked read.draw c.past → IsNewRead c i read deadline → IsTakenAsked read.asked
+      → (is_stale_read read.asked || is_ready c i) ≡ true → p ≡ record r { room = 4 } → before ≡ seen_of s.world i → now ≡ seen_of s'.world i → agreed ≡ s'.world.agreed
+      → IfOk probed (Begun s.world i s'.world) → OnErr probed (s'.world ≡ s.world) → KeepsAgreement s.world s'.world → s'.servers ≡ s.servers → EndsProbe read before now i agreed deadline probed result p r' → cluster_of s'.world s'.servers r' ≡ c'
+      → OnOk result (HandlesNewest i read.agent read.asked read.draw c c') × OnErr result (c' ≡ c)
+  read_probed s s' r p r' i read deadline c c' before now agreed probed result stands view come new taken go prepared was seen known begun same keeps kept ends shown =
+      let t = done_probe s s' r p r' i read deadline c before now agreed probed result stands view come new taken go prepared was seen known begun same keeps kept ends in
+      subst (λ (d : Cluster). OnOk result (HandlesNewest i read.agent read.asked read.draw c d) × OnErr result (d ≡ c)) shown (t.0, t.1)

@@ -18,6 +18,7 @@ use Rattle.cluster_parts.specs.Watching.{Watching}
 use Rattle.cluster_parts.specs.Agents.{agent_at}
 use Rattle.cluster_parts.specs.Standing.{Stands}
 use Rattle.cluster.specs.Syncing.{IsPlan, PlansWhole}
+use Rattle.cluster.proofs.Results.{stands_alike}
 
 -- An out that was told last.
 pub told_there : (gs : List Agent) (w : World) (servers : List Server) (r : Requests) (agent : ℕ) (c : Cluster) → whole_of w servers gs r ≡ synced agent None c → r ≡ told_sync agent None (record r { fresh = c.fresh })
@@ -32,7 +33,7 @@ counted gs w servers r new agent n c e is = ap (whole_of w servers gs) is ∙ ap
 
 pub fresh_stands : (wt : Watching) (w : World) (servers : List Server) (r new : Requests) (outs : List Out) → Stands wt w servers r → new ≡ record r { fresh = outs } → Stands wt w servers new
 fresh_stands wt w servers r new outs s e =
-    subst (Stands wt w servers) (sym e) (record { reached = s.reached; some = s.some; count = s.count; watching = s.watching; sound = s.sound; joined = s.joined; proposed = s.proposed; ascends = s.ascends; held = s.held })
+    stands_alike s e refl refl
 
 -- Proposals neither read nor change agents and outs.
 abbrev beside : List Agent → List Out → Cluster → Cluster

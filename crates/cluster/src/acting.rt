@@ -1,6 +1,6 @@
 //! What the events do at their servers that are no requests.
 
-ghost use Rattle.std.specs.Prelude.{◌≡◌, IfErr, OnErr, OnOk, Some};
+ghost use Rattle.std.specs.Prelude.{◌≡◌, IfErr, OnOk, Some};
 ghost use Rattle.cat_model.specs.declared.request.Event.TheVariants as event;
 ghost use Rattle.raft_model.specs.World.{numbered};
 ghost use Rattle.cluster_rules.specs.Reached.{IsServerNumber};
@@ -43,12 +43,11 @@ impl<K: Keeper + Drop> Cluster<K> {
     }
 
     /// A call of a server's durable store is to fail.
-    pub(crate) fn fail_keep(&mut self, server: u32, nth: u32) -> Result<(), Cut>
+    pub(crate) fn fail_keep(&mut self, server: u32, nth: u32)
         requires { IsServerNumber self.old server }
-        ensures whole { OnOk result (ActsWhole server (event.FailKeep server nth) self.old self.new) }
-        ensures cut { IfErr result (λ cut. ActsCut server (event.FailKeep server nth) cut self.old self.new) }
+        ensures { ActsWhole server (event.FailKeep server nth) self.old self.new }
     {
-        fail_keep(&mut self.servers, &mut self.requests, server, nth)
+        fail_keep(&mut self.servers, &mut self.requests, server, nth);
     }
 
     /// A server stops and begins again. Its store failed exactly where it is halted then, also where it was before.

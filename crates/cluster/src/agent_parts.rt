@@ -13,7 +13,7 @@ ghost use Rattle.cluster_turns.specs.Turns.{IsCome, numbered};
 ghost use Rattle.cluster.specs.Syncing.{own_done};
 
 use crate::cluster::Cluster;
-use cat_model::{AgentOp, Asked, Draw, Memory, Request, Shared};
+use cat_model::{AgentOp, Asked, Draw, Memory, Request};
 use cat_outside::Keeper;
 use cluster_parts::{answer_own, changes};
 use cluster_turns::AgentEvent;
@@ -39,7 +39,7 @@ impl<K: Keeper> Cluster<K> {
         &mut self,
         alloc: Global,
         agent: u32,
-        asked: &Shared<Asked>,
+        asked: &Asked,
         op: &AgentOp,
         draw: Draw,
     ) -> Result<(), Memory>
@@ -80,12 +80,15 @@ impl<K: Keeper> Cluster<K> {
         match event {
             AgentEvent::Sync { .. } => Ok(()),
             AgentEvent::Tick { agent, ms } => self.tick_agent(alloc, *agent, *ms),
-            AgentEvent::Ask { agent, asked, draw } => match (*asked).deref() {
-                Asked::Good(Request::Agent(op)) => {
-                    self.answer_asked(alloc, *agent, asked, op, *draw)
+            AgentEvent::Ask { agent, asked, draw } => {
+                let request = (*asked).deref();
+                match request {
+                    Asked::Good(Request::Agent(op)) => {
+                        self.answer_asked(alloc, *agent, request, op, *draw)
+                    }
+                    _ => unreachable!(),
                 }
-                _ => unreachable!(),
-            },
+            }
         }
     }
 

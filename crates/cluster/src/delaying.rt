@@ -45,7 +45,7 @@ impl<K: Keeper + Drop> Cluster<K> {
         alloc: Global,
         server: u32,
         agent: u32,
-        asked: &Shared<Asked>,
+        asked: &Asked,
         draw: Draw,
         command: &Shared<Command>,
         key: &str,

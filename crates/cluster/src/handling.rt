@@ -62,7 +62,7 @@ impl<K: Keeper + Drop> Cluster<K> {
         let before = node.log_bytes();
         let entries = node.last().checked_add(1).ok_or(Memory)?;
         let question = copied_question(number, agent, asked, draw)?;
-        with_question(alloc, question, term, asked, command, entries, before)
+        with_question(alloc, question, term, command, entries, before)
     }
 
     /// Refuses a request at a server that is not ready.
@@ -71,7 +71,7 @@ impl<K: Keeper + Drop> Cluster<K> {
         &mut self,
         server: u32,
         agent: u32,
-        asked: &Shared<Asked>,
+        asked: &Asked,
         draw: Draw,
     ) -> Result<(), Memory>
         requires server { IsServerNumber self.old server }
@@ -157,11 +157,11 @@ impl<K: Keeper + Drop> Cluster<K> {
         requires server { IsServerNumber self.old server }
         requires write { IsTakenWrite self.old server write }
         requires command { command ≡ write.entry.command }
-        requires come { IsCome write.question.agent write.asked write.question.draw self.old.past }
+        requires come { IsCome write.question.agent write.question.asked write.question.draw self.old.past }
         requires leads { runs_leading self.old.world server ≡ true }
         requires ready { is_ready self.old server ≡ true }
-        requires free { (asks : SpecCommand) → write.asked ≡ Good (Writes asks) → delayed_at self.old server asks ≡ None }
-        ensures ok { OnOk result (HandlesNewest server write.question.agent write.asked write.question.draw self.old self.new) }
+        requires free { (asks : SpecCommand) → write.question.asked ≡ Good (Writes asks) → delayed_at self.old server asks ≡ None }
+        ensures ok { OnOk result (HandlesNewest server write.question.agent write.question.asked write.question.draw self.old self.new) }
         ensures err { OnErr result (self.new ≡ self.old) }
     {
         if self.requests.prepare().is_err() {
@@ -173,7 +173,15 @@ impl<K: Keeper + Drop> Cluster<K> {
         let before = see(&self.servers, server);
         let proposed = self.servers.propose(alloc, server, number, command);
         let now = see(&self.servers, server);
-        end_write(&mut self.requests, server, before, now, write, proposed)
+        end_write(
+            &mut self.requests,
+            server,
+            before,
+            now,
+            self.servers.agreed(),
+            write,
+            proposed,
+        )
     }
 
     // Enters a write at a server that leads and is ready.

@@ -25,18 +25,12 @@ impl<K: Keeper + Drop> Parts for Cluster<K> {
         self.turn(alloc, server, steps)
     }
 
-    fn note(&mut self, _alloc: Global, made: Event) -> Result<(), Memory> {
-        self.mark_event(made)
+    fn note(&mut self, made: &Event) {
+        self.requests.note(made);
     }
 
-    fn note_request(
-        &mut self,
-        _alloc: Global,
-        agent: u32,
-        asked: &Shared<Asked>,
-        draw: Draw,
-    ) -> Result<(), Memory> {
-        self.mark_request(agent, asked, draw)
+    fn note_request(&mut self, agent: u32, asked: &Asked, draw: Draw) {
+        self.requests.note_request(agent, asked, draw);
     }
 
     fn forget(&mut self) {
@@ -49,7 +43,10 @@ impl<K: Keeper + Drop> Parts for Cluster<K> {
             Impulse::Beat(_) => self.beat(alloc, server),
             Impulse::Deliver(number) => self.deliver(alloc, server, number),
             Impulse::Restart(_) => self.restart(alloc, server),
-            Impulse::FailKeep(_, nth) => self.fail_keep(server, nth),
+            Impulse::FailKeep(_, nth) => {
+                self.fail_keep(server, nth);
+                Ok(())
+            }
         }
     }
 
@@ -88,8 +85,8 @@ impl<K: Keeper + Drop> Parts for Cluster<K> {
         self.servers.lowest()
     }
 
-    fn settled(&mut self, _alloc: Global, pairs: u32) -> Result<(), Memory> {
-        self.requests.settle(pairs)
+    fn settled(&mut self, pairs: u32) {
+        self.requests.settle(pairs);
     }
 
     #[tactic(auto, using(crate::proofs::Going::way_is, crate::proofs::Numbers::is_number, crate::proofs::Numbers::number_is))]
@@ -125,10 +122,11 @@ impl<K: Keeper + Drop> Parts for Cluster<K> {
         asked: &Shared<Asked>,
         draw: Draw,
     ) -> Result<(), Memory> {
-        if !self.may_go(server, asked) {
-            return self.refuse_unready(server, agent, asked, draw);
+        let request = asked.deref();
+        if !self.may_go(server, request) {
+            return self.refuse_unready(server, agent, request, draw);
         }
-        match asked.deref() {
+        match request {
             Asked::Good(Request::Write { command }) => {
                 self.write(alloc, server, agent, asked, draw, command)
             }
@@ -138,7 +136,7 @@ impl<K: Keeper + Drop> Parts for Cluster<K> {
             Asked::Good(Request::Execute { mode, .. }) => {
                 self.begin_read(alloc, server, agent, asked, draw, *mode, 0)
             }
-            Asked::Good(Request::Renew { id }) => self.renew(server, agent, asked, draw, *id),
+            Asked::Good(Request::Renew { id }) => self.renew(server, agent, request, draw, *id),
             _ => unreachable!(),
         }
     }
@@ -168,7 +166,7 @@ impl<K: Keeper + Drop> Parts for Cluster<K> {
         event: &AgentEvent,
         leaderless: bool,
     ) -> Result<(), Memory> {
-        self.mark_agents(event)?;
+        self.mark_agents(event);
         if self.do_noted(alloc, event, leaderless).is_err() {
             self.forget_event();
             return Err(Memory);

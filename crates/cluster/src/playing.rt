@@ -4,7 +4,7 @@ use crate::cluster::Cluster;
 use crate::uncounted;
 use cat_model::{Asked, Draw, Entry, Event, List, Memory, Shared};
 use cat_outside::MemKeeper;
-use cluster_interface::{ClusterInterface, History};
+use cluster_interface::ClusterInterface;
 use open_requests::{Collected, Out};
 use script_runs::Misfit;
 use std::alloc::Global;
@@ -58,6 +58,14 @@ impl ClusterInterface for Cluster<MemKeeper> {
         self.drop_syncs();
     }
 
+    fn outs(&self) -> usize {
+        self.outs()
+    }
+
+    fn out_number(&self, at: usize) -> Option<u64> {
+        self.out_number(at)
+    }
+
     fn asked(&self) -> u64 {
         self.asked()
     }
@@ -82,7 +90,11 @@ impl ClusterInterface for Cluster<MemKeeper> {
         self.unanswered(alloc)
     }
 
-    fn into_history(self, alloc: Global) -> Result<History, Memory> {
-        self.into_history(alloc)
+    fn events(&self) -> Option<u64> {
+        self.events()
+    }
+
+    fn into_agreed(self, alloc: Global) -> Result<List<Entry>, Memory> {
+        self.into_agreed(alloc)
     }
 }

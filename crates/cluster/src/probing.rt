@@ -12,26 +12,27 @@ ghost use Rattle.cluster_parts.specs.Asking.{IsNewRead};
 use crate::cluster::Cluster;
 use cat_model::{Asked, Draw, Memory, Shared};
 use cat_outside::Keeper;
-use cluster_parts::{NewRead, end_probe, read_copies, see, wait_of};
+use cluster_parts::{copied_question, end_probe, see, wait_of};
+use open_requests::Question;
 use std::alloc::Global;
 
 impl<K: Keeper + Drop> Cluster<K> {
-    // Begins a round for a read that has its copies.
+    // Begins a round for a read that has its number.
     #[tactic(auto, using(crate::proofs::Numbers::is_number))]
     fn probe(
         &mut self,
         alloc: Global,
         server: u32,
-        read: NewRead,
+        read: Question,
         deadline: u64,
     ) -> Result<(), Memory>
         requires server { IsServerNumber self.old server }
         requires read { IsNewRead self.old server read deadline }
         requires taken { IsTakenAsked read.asked }
-        requires come { IsCome read.question.agent read.asked read.question.draw self.old.past }
+        requires come { IsCome read.agent read.asked read.draw self.old.past }
         requires go { (is_stale_read read.asked || is_ready self.old server) ≡ true }
         requires rounds { (node_of self.old.world server).round < 2 ^ 64 - 1 }
-        ensures ok { OnOk result (HandlesNewest server read.question.agent read.asked read.question.draw self.old self.new) }
+        ensures ok { OnOk result (HandlesNewest server read.agent read.asked read.draw self.old self.new) }
         ensures err { OnErr result (self.new ≡ self.old) }
     {
         if self.requests.prepare().is_err() {
@@ -46,6 +47,7 @@ impl<K: Keeper + Drop> Cluster<K> {
             server,
             before,
             now,
+            self.servers.agreed(),
             read,
             deadline,
             probed,
@@ -77,7 +79,7 @@ impl<K: Keeper + Drop> Cluster<K> {
         if self.servers.node(server).round() == u64::MAX {
             return Err(Memory);
         }
-        let read = read_copies(number, agent, asked, draw)?;
+        let read = copied_question(number, agent, asked, draw)?;
         self.probe(alloc, server, read, deadline)
     }
 }

@@ -8,7 +8,7 @@ ghost use Rattle.cluster_rules.specs.Requests.{is_ready};
 ghost use Rattle.cluster_turns.specs.Turns.{HandlesNewest, IsCome};
 
 use crate::cluster::Cluster;
-use cat_model::{Asked, Draw, Memory, Shared};
+use cat_model::{Asked, Draw, Memory};
 use cat_outside::Keeper;
 use cluster_parts::renew_newest;
 
@@ -19,7 +19,7 @@ impl<K: Keeper + Drop> Cluster<K> {
         &mut self,
         server: u32,
         agent: u32,
-        asked: &Shared<Asked>,
+        asked: &Asked,
         draw: Draw,
         id: u128,
     ) -> Result<(), Memory>

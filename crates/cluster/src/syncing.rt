@@ -1,16 +1,13 @@
 //! Agents' events: those that go to no server, and the sync of an agent at the leader.
 
 ghost use Rattle.std.specs.Prelude.{◌≡◌, ◌<◌, ◌^◌, IfErr, IfOk, None, OnErr, OnOk, Some, length, true};
-ghost use Rattle.cat_model.specs.declared.row.ServiceRow.{ServiceRow as SpecServiceRow};
 ghost use Rattle.cat_model.specs.Syncs.{merged, plan};
-ghost use Rattle.cat_model.specs.Taken.{IsTakenAsked};
 ghost use Rattle.cluster_rules.specs.Cluster.{Cluster as SpecCluster, agent_of, runs_leading};
 ghost use Rattle.cluster_rules.specs.Proposals.{is_agents, remote_at, synced, with_agent};
 ghost use Rattle.cluster_rules.specs.Reached.{Fits, IsAgentNumber, IsServerNumber};
 ghost use Rattle.cluster_rules.specs.Requests.{is_ready};
 ghost use Rattle.cluster_rules.specs.Step.{noted};
 ghost use Rattle.cluster_turns.specs.AgentEvents.{IsNoted, SyncsAt, SyncsInPart, SyncsThere, agent_in, event_of_agent};
-ghost use Rattle.cluster_turns.specs.Turns.{IsTaken};
 ghost use Rattle.cluster.specs.Syncing.{IsPlan, PlansInPart, PlansWhole, cut_first, noted_alone, own_done};
 
 use crate::cluster::Cluster;
@@ -63,15 +60,15 @@ fn plan_between(alloc: Global, local: Local, remote: Remote) -> Result<SyncPlan,
 
 impl<K: Keeper + Drop> Cluster<K> {
     /// Marks an agent's event. A request gets its number later.
-    pub(crate) fn mark_agents(&mut self, event: &AgentEvent) -> Result<(), Memory>
-        requires { IsTaken IsTakenAsked (event_of_agent event.now) }
-        ensures ok { OnOk result (self.new ≡ noted (event_of_agent event.now) self.old) }
-        ensures err { OnErr result (self.new ≡ self.old) }
+    pub(crate) fn mark_agents(&mut self, event: &AgentEvent)
+        ensures { self.new ≡ noted (event_of_agent event.now) self.old }
     {
         match event {
-            AgentEvent::Sync { agent } => self.mark_event(Event::Sync(*agent)),
-            AgentEvent::Tick { agent, ms } => self.mark_event(Event::AgentTick(*agent, *ms)),
-            AgentEvent::Ask { agent, asked, draw } => self.mark_request(*agent, asked, *draw),
+            AgentEvent::Sync { agent } => self.requests.note(&Event::Sync(*agent)),
+            AgentEvent::Tick { agent, ms } => self.requests.note(&Event::AgentTick(*agent, *ms)),
+            AgentEvent::Ask { agent, asked, draw } => {
+                self.requests.note_request(*agent, asked, *draw);
+            }
         }
     }
 

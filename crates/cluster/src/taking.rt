@@ -1,32 +1,19 @@
-//! What is taken from a cluster: its outs, and at last all that has happened.
+//! What is taken from a cluster: its outs, and at last its agreed log.
 
-ghost use Rattle.std.specs.Prelude.{◌≡◌, ◌≤◌, ◌<◌, IfOk, length, map, reverse};
+ghost use Rattle.std.specs.Prelude.{◌≡◌, ◌<◌, IfOk, IfSome, length, map};
 ghost use Rattle.cluster_rules.specs.Cluster.{applied_of};
 ghost use Rattle.cluster_rules.specs.Reached.{IsServerNumber};
+ghost use Rattle.cluster_rules.specs.Step.{events_in};
 ghost use Rattle.cluster_interface.specs.Interface.{TakesFirst};
 ghost use Rattle.cluster_interface.specs.Taking.{Collects, DropsSyncs};
-ghost use Rattle.open_requests.specs.Notes.{past_of};
+ghost use Rattle.open_requests.specs.Taking.{IsNumberAt};
 
 use crate::cluster::Cluster;
 use cat_model::{Entry, List, Memory};
 use cat_outside::Keeper;
-use cluster_interface::History;
 use cluster_parts::copy_entries;
-use open_requests::{Collected, Out, Requests};
+use open_requests::{Collected, Out};
 use std::alloc::Global;
-
-// The history of an agreed log and of what these requests have noted.
-fn history_of(alloc: Global, agreed: List<Entry>, requests: Requests) -> Result<History, Memory>
-    ensures { IfOk result (λ h. (h.agreed ≡ agreed) × (h.marks ≡ reverse (past_of agreed requests.notes))) }
-{
-    match requests.into_marks(alloc, agreed.as_slice()) {
-        Ok(marks) => Ok(History { agreed, marks }),
-        Err(Memory) => {
-            drop(agreed);
-            Err(Memory)
-        }
-    }
-}
 
 impl<K: Keeper> Cluster<K> {
     /// Takes the first out that waits, and marks that a request's was taken.
@@ -51,6 +38,21 @@ impl<K: Keeper> Cluster<K> {
         self.requests.drop_syncs();
     }
 
+    /// How many outs wait to be taken.
+    pub fn outs(&self) -> usize
+        ensures { result ≡ length self.now.tray }
+    {
+        self.requests.outs()
+    }
+
+    /// The number of the request whose out stands at this place of those that wait, where it is a request's.
+    pub fn out_number(&self, at: usize) -> Option<u64>
+        requires { at < length self.now.tray }
+        ensures { IsNumberAt at self.now.tray result }
+    {
+        self.requests.out_number(at)
+    }
+
     /// How many entries of the agreed log a server has applied.
     #[tactic(auto, using(crate::proofs::Numbers::is_number))]
     pub fn applied(&self, server: u32) -> u64
@@ -58,6 +60,13 @@ impl<K: Keeper> Cluster<K> {
         ensures { result ≡ length (applied_of self.now server) }
     {
         self.servers.applied(server)
+    }
+
+    /// How many events there were, as long as that fits.
+    pub fn events(&self) -> Option<u64>
+        ensures { IfSome result (λ events. events ≡ events_in self.now.past) }
+    {
+        self.requests.events()
     }
 
     /// The numbers of the requests that are held, in ascending order.
@@ -69,27 +78,12 @@ impl<K: Keeper> Cluster<K> {
 }
 
 impl<K: Keeper + Drop> Cluster<K> {
-    /// The agreed log, and what has happened, of a cluster that is done with.
-    pub fn into_history(self, alloc: Global) -> Result<History, Memory>
-        ensures agreed { IfOk result (λ h. h.agreed ≡ self.world.agreed) }
-        ensures marks { IfOk result (λ h. h.marks ≡ reverse self.past) }
+    /// The agreed log of a cluster that is done with.
+    pub fn into_agreed(self, alloc: Global) -> Result<List<Entry>, Memory>
+        ensures { IfOk result (λ agreed. agreed ≡ self.world.agreed) }
     {
-        let Cluster {
-            servers,
-            agents,
-            requests,
-            watch,
-        } = self;
-        let agreed = copy_entries(alloc, servers.agreed());
-        drop(servers);
-        drop(agents);
-        drop(watch);
-        match agreed {
-            Ok(agreed) => history_of(alloc, agreed, requests),
-            Err(Memory) => {
-                drop(requests);
-                Err(Memory)
-            }
-        }
+        let agreed = copy_entries(alloc, self.agreed());
+        drop(self);
+        agreed
     }
 }

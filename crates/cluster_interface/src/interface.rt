@@ -1,8 +1,8 @@
-ghost use Rattle.std.specs.Prelude.{◌≡◌, ◌<◌, ◌≤◌, All, IfOk, OnErr, OnOk, MatchResult, None, Some, length, reverse, true};
+ghost use Rattle.std.specs.Prelude.{◌≡◌, ◌<◌, ◌≤◌, All, IfOk, IfSome, OnErr, OnOk, MatchResult, None, Some, length, true};
 ghost use Rattle.cat_model.specs.declared.request.Event.TheVariants as event;
 ghost use Rattle.cluster_rules.specs.Cluster.{Cluster, applied_of};
 ghost use Rattle.cluster_rules.specs.Reached.{IsAgentNumber};
-ghost use Rattle.cluster_rules.specs.Step.{ClusterStep};
+ghost use Rattle.cluster_rules.specs.Step.{ClusterStep, events_in};
 ghost use Rattle.cluster_turns.specs.Pairs.{IsPartlySettled};
 ghost use Rattle.cluster_turns.specs.Turns.{FindsNoMemory};
 ghost use Rattle.script_runs.specs.Lines.{misfit};
@@ -11,24 +11,16 @@ ghost use Rattle.cat_model.specs.Taken.{IsTakenAsked};
 ghost use Rattle.cluster_interface.specs.Interface.{IsPlayed, SettlesTo, TakesFirst, held_numbers};
 ghost use Rattle.cat_outside.specs.KeepersInMemory.{empty_store};
 ghost use Rattle.cluster_interface.specs.Taking.{Collects, DropsSyncs};
+ghost use Rattle.open_requests.specs.Taking.{IsNumberAt};
 
-use cat_model::{Asked, Draw, Entry, Event, List, Mark, Memory, Shared};
+use cat_model::{Asked, Draw, Entry, Event, List, Memory, Shared};
 use cat_outside::MemKeeper;
 use open_requests::{Collected, Out};
 use script_runs::Misfit;
 use std::alloc::Global;
 
-/// What a cluster leaves once it is done with.
-#[derive(Debug, Drop)]
-pub struct History {
-    /// The agreed log.
-    pub agreed: List<Entry>,
-    /// What has happened, the first one first.
-    pub marks: List<Mark>,
-}
-
-/// A cluster of servers and agents, numbered from 1, with the outs that wait to be taken and the marks of what has
-/// happened.
+/// A cluster of servers and agents, numbered from 1, with the outs that wait to be taken. The marks of what has happened
+/// are for proofs alone.
 pub trait ClusterInterface: Drop {
     /// The cluster of the rules.
     ghost state: { Self → Cluster };
@@ -88,6 +80,15 @@ pub trait ClusterInterface: Drop {
     fn drop_syncs(&mut self)
         ensures { DropsSyncs (state self.old) (state self.new) };
 
+    /// How many outs wait to be taken.
+    fn outs(&self) -> usize
+        ensures { result ≡ length (state self.now).tray };
+
+    /// The number of the request whose out stands at this place of those that wait, where it is a request's.
+    fn out_number(&self, at: usize) -> Option<u64>
+        requires { at < length (state self.now).tray }
+        ensures { IsNumberAt at (state self.now).tray result };
+
     /// How many requests were asked.
     fn asked(&self) -> u64
         ensures { result ≡ (state self.now).asked };
@@ -114,8 +115,11 @@ pub trait ClusterInterface: Drop {
     fn unanswered(&self, alloc: Global) -> Result<List<u64>, Memory>
         ensures { IfOk result (λ numbers. numbers ≡ held_numbers (state self.now)) };
 
-    /// The agreed log, and what has happened, of a cluster that is done with.
-    fn into_history(self, alloc: Global) -> Result<History, Memory>
-        ensures agreed { IfOk result (λ h. h.agreed ≡ (state self).world.agreed) }
-        ensures marks { IfOk result (λ h. h.marks ≡ reverse (state self).past) };
+    /// How many events there were, as long as that fits.
+    fn events(&self) -> Option<u64>
+        ensures { IfSome result (λ events. events ≡ events_in (state self.now).past) };
+
+    /// The agreed log of a cluster that is done with.
+    fn into_agreed(self, alloc: Global) -> Result<List<Entry>, Memory>
+        ensures { IfOk result (λ agreed. agreed ≡ (state self).world.agreed) };
 }

@@ -5,5 +5,5 @@
 mod interface;
 mod stores;
 
-pub use interface::{ClusterInterface, History};
+pub use interface::ClusterInterface;
 pub use stores::empty_stores;

@@ -1,9 +1,10 @@
 -- An act: a step of a server's node with its marks, or a part of one where memory ran out.
-use Rattle.std.proofs.Common.{◌≡◌, ◌≢◌, ℕ, inl, inr, Bool, true, false, cond, not, List, Option, Some, None, Result, Ok, Err, OnOk, OnErr, IfErr, refl, sym, ◌∙◌, ap, subst, arith}
+use Rattle.std.proofs.Common.{◌≡◌, ◌≢◌, ℕ, inl, inr, Bool, true, false, cond, not, List, Option, Some, None, Result, Ok, Err, OnOk, OnErr, refl, sym, ◌∙◌, ap, subst, arith}
 use Rattle.std.specs.Prelude.{◌==◌, ◌&&◌}
 use Rattle.cat_model.specs.declared.memory.Memory.{Memory}
 use Rattle.cat_model.specs.declared.request.Event.{Event}
 use Rattle.cat_model.specs.declared.request.Event.TheVariants as event
+use Rattle.raft_model.specs.Log.{Log}
 use Rattle.raft_model.specs.Node.{Node}
 use Rattle.raft_model.specs.Rules.{Input, Timeout, Beat, Receive, Propose, Probe, done}
 use Rattle.raft_model.specs.Step.{Outcome, Forgets, NodeStep}
@@ -22,7 +23,6 @@ use Rattle.cluster_rules.proofs.Grows.{goes_by}
 use Rattle.cluster_rules.proofs.Tools.{eq_self, is_node, is_place, item_same, length_set_server}
 use Rattle.cluster_turns.specs.declared.cut.Cut.{Cut}
 use Rattle.cluster_turns.specs.declared.cut.Cut.TheVariants.{Before, Within}
-use Rattle.cluster_turns.specs.Turns.{ActsWhole}
 use Rattle.open_requests.specs.Requests.{Requests, cluster_of as whole_of}
 use Rattle.cluster_parts.specs.declared.moving.Seen.{Seen}
 use Rattle.cluster_parts.specs.Moving.{Ends, MarksStep, Seats, seen_of}
@@ -30,7 +30,7 @@ use Rattle.cluster_parts.specs.Acting as acting
 use Rattle.cluster_parts.specs.Standing as standing
 use Rattle.cluster_parts.proofs.Carried.{Goes, all_officed, arming_goes, carries, sound_officed}
 use Rattle.cluster_parts.proofs.Forgetting.{forgot}
-use Rattle.cluster_parts.proofs.Marking.{cluster_marked, stands_marked, with_room}
+use Rattle.cluster_parts.proofs.Marking.{cluster_marked, stands_marked}
 use Rattle.agent_rules.specs.Agents.{Agent}
 use Rattle.cluster_parts.specs.Watching.{Watching}
 
@@ -102,7 +102,6 @@ module _ (gs : List Agent) (wt : Watching) where
     count = length_set_server servers i (record (server_of servers i) { office = o }) ∙ s.count;
     watching = (s.watching.0 ∙ sym (length_set_server servers i (record (server_of servers i) { office = o })), s.watching.1);
     sound = sound_officed w servers i o s.sound;
-    joined = s.joined;
     proposed = s.proposed;
     ascends = s.ascends;
     held = all_officed wt w servers i o r.asked r.held s.held;
@@ -134,15 +133,15 @@ module _ (gs : List Agent) (wt : Watching) where
       )
 
   module _ (i : ℕ) (made : Event) (input : Input) (w w' : World) (servers : List Server) (r r' : Requests) (s : Stands w servers r) (k : KeepsAgreement w w') (plain : IsPlain input) (is : input_of w i made ≡ Some input) where
-    step_acted : (a : NodeActs w i input w') → MarksStep (seen_of w i) (seen_of w' i) i r r'
+    step_acted : (a : NodeActs w i input w') → MarksStep (seen_of w i) (seen_of w' i) i w'.agreed r r'
         → Stands w' (seated_servers w w' i servers) r' × ((act : Acts 0 (cluster_of w servers r) i made (cluster_of w' (seated_servers w w' i servers) r')) × ((a.outcome ≢ Forgets → Remembers act) × (a.outcome ≡ Forgets → ¬ Remembers act)))
     step_acted a m =
-        let moves : cluster_of w' servers r' ≡ moved i w' (cluster_of w servers r) = cluster_marked gs wt (halted_now w w' i) i w w' servers r r' s k m in (
+        let moves : cluster_of w' servers r' ≡ moved i w' (cluster_of w servers r) = cluster_marked gs wt (halted_now w w' i) i w w' servers r r' m in (
           stands_seated w w' i servers r' (stands_marked gs wt (halted_now w w' i) i w w' servers r r' s k (carries w w' servers (acts_go w i made input w' s.reached is a) s.sound) (greatest_kept w i input w' plain a) m),
           (takes input w' refl is a (cluster_seated w w' i servers r' ∙ ap (seated w i) moves), ((λ n. n), (λ f n. n f))),
         )
 
-    ended : (done : Result Unit Memory) (result : Result Unit Cut) → OnOk done (StepsWhole w i input w') → OnErr done (FindsNoMemory w i input w') → Ends (seen_of w i) (seen_of w' i) i done result r r'
+    ended : (done : Result Unit Memory) (result : Result Unit Cut) → OnOk done (StepsWhole w i input w') → OnErr done (FindsNoMemory w i input w') → Ends (seen_of w i) (seen_of w' i) i w'.agreed done result r r'
         → Acted i made (cluster_of w servers r) w' (seated_servers w w' i servers) r' result
     ended (Ok x) (Ok y) (a, n) err m = let t = step_acted a m in record { stands = t.0; whole = (t.1.0, t.1.1.0 n); cut = tt }
     ended (Ok x) (Err y) ok err m = absurd m
@@ -158,19 +157,23 @@ module _ (gs : List Agent) (wt : Watching) where
         let f = other_term w i input w' err differs in
         let t = step_acted f.0 m in record { stands = t.0; whole = tt; cut = (t.1.0, t.1.1.1 f.1) }
 
-  -- A call that is given an input, between its preparation and its end, is an act.
-  pub acts_by : (i : ℕ) (made : Event) (input : Input) (w : World) (servers : List Server) (s₁ s₂ : Servers) (r r₁ r' : Requests) (c : Cluster) (before now : Seen) (done : Result Unit Memory) (result : Result Unit Cut) (room : ℕ)
-      → Stands w servers r → cluster_of w servers r ≡ c → r₁ ≡ record r { room = room } → KeepsAgreement w s₁.world → s₁.servers ≡ servers → IsPlain input → input_of w i made ≡ Some input
-      → OnOk done (StepsWhole w i input s₁.world) → OnErr done (FindsNoMemory w i input s₁.world) → before ≡ seen_of w i → now ≡ seen_of s₁.world i → Seats before now i s₁ s₂ → Ends before now i done result r₁ r'
-      → Acted i made c s₂.world s₂.servers r' result
-  acts_by i made input w servers s₁ s₂ r r₁ r' c before now done result room s view ready k same plain is ok err was seen seats m =
-      let p = with_room gs wt w servers r r₁ room s ready in
-      let ends : Ends (seen_of w i) (seen_of s₁.world i) i done result r₁ r' = subst (λ (z : Seen). Ends z (seen_of s₁.world i) i done result r₁ r') was (subst (λ (z : Seen). Ends before z i done result r₁ r') seen m) in
-      let t = ended i made input w s₁.world servers r₁ r' p.0 k plain is done result ok err ends in
+  -- what was seen in these worlds, beside the agreed log
+  pub ends_seen : (i : ℕ) (w w' : World) (before now : Seen) (agreed : Log) (done : Result Unit Memory) (result : Result Unit Cut) (r r' : Requests) → before ≡ seen_of w i → now ≡ seen_of w' i → agreed ≡ w'.agreed
+      → Ends before now i agreed done result r r' → Ends (seen_of w i) (seen_of w' i) i w'.agreed done result r r'
+  ends_seen i w w' before now agreed done result r r' was seen all m =
+      subst (λ (z : Seen). Ends z (seen_of w' i) i w'.agreed done result r r') was (subst (λ (z : Seen). Ends before z i w'.agreed done result r r') seen (subst (λ (l : Log). Ends before now i l done result r r') all m))
+
+  -- A call that is given an input is an act.
+  pub acts_by : (i : ℕ) (made : Event) (input : Input) (w : World) (servers : List Server) (s₁ s₂ : Servers) (r r' : Requests) (before now : Seen) (agreed : Log) (done : Result Unit Memory) (result : Result Unit Cut)
+      → Stands w servers r → KeepsAgreement w s₁.world → s₁.servers ≡ servers → IsPlain input → input_of w i made ≡ Some input
+      → OnOk done (StepsWhole w i input s₁.world) → OnErr done (FindsNoMemory w i input s₁.world) → before ≡ seen_of w i → now ≡ seen_of s₁.world i → Seats before now i s₁ s₂ → agreed ≡ s₂.world.agreed
+      → Ends before now i agreed done result r r' → Acted i made (cluster_of w servers r) s₂.world s₂.servers r' result
+  acts_by i made input w servers s₁ s₂ r r' before now agreed done result s k same plain is ok err was seen seats all m =
       let on = are_seated i w s₁ s₂ before now was seen seats in
+      let ends = ends_seen i w s₁.world before now agreed done result r r' was seen (all ∙ ap (λ (v : World). v.agreed) on.0) m in
+      let t = ended i made input w s₁.world servers r r' s k plain is done result ok err ends in
       let same₂ : s₂.servers ≡ seated_servers w s₁.world i servers = on.1 ∙ ap (seated_servers w s₁.world i) same in
-      subst (λ (v : World). Acted i made c v s₂.servers r' result) (sym on.0)
-      (subst (λ (l : List Server). Acted i made c s₁.world l r' result) (sym same₂) (subst (λ (d : Cluster). Acted i made d s₁.world (seated_servers w s₁.world i servers) r' result) (p.1 ∙ view) t))
+      subst (λ (v : World). Acted i made (cluster_of w servers r) v s₂.servers r' result) (sym on.0) (subst (λ (l : List Server). Acted i made (cluster_of w servers r) s₁.world l r' result) (sym same₂) t)
 
   pub input_here : (w : World) (i : ℕ) (input : Input) → cond (i == i) (Some input) None ≡ Some input
   input_here w i input = ap (λ b. cond b (Some input) None) (eq_self i)
@@ -198,48 +201,18 @@ module _ (gs : List Agent) (wt : Watching) where
   pub receives : (w : World) (k : ℕ) (p : Packet) (i : ℕ) → numbered k w.bag.packets ≡ Some p → p.to ≡ i → input_of w i (event.Deliver k) ≡ Some (Receive p.from p.message)
   receives w k p i e to = ap (received i) e ∙ ap (λ b. cond b (Some (Receive p.from p.message)) None) (ap (λ n. n == i) to ∙ eq_self i)
 
-  -- A call that is no input, between its preparation and its marks, moves the cluster.
-  pub record Moves (i : ℕ) (c : Cluster) (w' : World) (servers : List Server) (r' : Requests) : Type 0 where
-    pub stands : Stands w' servers r'
-    pub is : cluster_of w' servers r' ≡ moved i w' c
+  -- a call of a durable store that is to fail
+  pub arming_acts : (i nth : ℕ) (w w' : World) (servers servers' : List Server) (r r' : Requests) (before now : Seen) (agreed : Log) → Stands w servers r → KeepsAgreement w w' → servers' ≡ servers → WorldStep w (world.Arms i nth) w'
+      → before ≡ seen_of w i → now ≡ seen_of w' i → agreed ≡ w'.agreed → MarksStep before now i agreed r r' → Acted i (event.FailKeep i nth) (cluster_of w servers r) w' servers' r' (Ok tt)
+  arming_acts i nth w w' servers servers' r r' before now agreed s k same step was seen all m =
+      let marks = ends_seen i w w' before now agreed (Ok tt) (Ok tt) r r' was seen all m in
+      subst (λ (l : List Server). Acted i (event.FailKeep i nth) (cluster_of w servers r) w' l r' (Ok tt)) (sym same) (record {
+        stands = stands_marked gs wt (halted_now w w' i) i w w' servers r r' s k (carries w w' servers (arming_goes w i nth w' s.reached step) s.sound) (ap (λ (v : World). v.greatest) step.2) marks;
+        whole = (arms nth w' refl refl step (cluster_marked gs wt (halted_now w w' i) i w w' servers r r' marks), tt);
+        cut = tt;
+      })
 
-  pub moves_by : (i : ℕ) (w w' : World) (servers : List Server) (r r₁ r' : Requests) (before now : Seen) (room : ℕ) → Stands w servers r → r₁ ≡ record r { room = room } → KeepsAgreement w w'
-      → Goes w w' → w'.greatest ≡ w.greatest → before ≡ seen_of w i → now ≡ seen_of w' i → MarksStep before now i r₁ r' → Moves i (cluster_of w servers r) w' servers r'
-  moves_by i w w' servers r r₁ r' before now room s ready k n g was seen m =
-      let p = with_room gs wt w servers r r₁ room s ready in
-      let marks : MarksStep (seen_of w i) (seen_of w' i) i r₁ r' = subst (λ (z : Seen). MarksStep z (seen_of w' i) i r₁ r') was (subst (λ (z : Seen). MarksStep before z i r₁ r') seen m) in
-      record {
-        stands = stands_marked gs wt (halted_now w w' i) i w w' servers r₁ r' p.0 k (carries w w' servers n s.sound) g marks;
-        is = cluster_marked gs wt (halted_now w w' i) i w w' servers r₁ r' p.0 k marks ∙ ap (moved i w') p.1;
-      }
-
-  -- what a call did that found its memory
-  pub record ActedWhole (i : ℕ) (made : Event) (c : Cluster) (w' : World) (servers' : List Server) (r' : Requests) : Type 0 where
-    pub stands : Stands w' servers' r'
-    pub whole : ActsWhole i made c (cluster_of w' servers' r')
-
-  pub whole_with : (i : ℕ) (made : Event) (c c' : Cluster) (w' : World) (servers servers' : List Server) (r' : Requests) → c ≡ c' → servers' ≡ servers → ActedWhole i made c w' servers r' → ActedWhole i made c' w' servers' r'
-  whole_with i made c c' w' servers servers' r' view same t = subst (λ (l : List Server). ActedWhole i made c' w' l r') (sym same) (subst (λ (d : Cluster). ActedWhole i made d w' servers r') view t)
-
-  pub arming_acts : (i nth : ℕ) (w w' : World) (servers servers' : List Server) (r r₁ r' : Requests) (c : Cluster) (before now : Seen) (room : ℕ) → Stands w servers r → cluster_of w servers r ≡ c → r₁ ≡ record r { room = room } → KeepsAgreement w w'
-      → servers' ≡ servers → WorldStep w (world.Arms i nth) w' → before ≡ seen_of w i → now ≡ seen_of w' i → MarksStep before now i r₁ r' → ActedWhole i (event.FailKeep i nth) c w' servers' r'
-  arming_acts i nth w w' servers servers' r r₁ r' c before now room s view ready k same step was seen m =
-      let e = step.2 in
-      let moves = moves_by i w w' servers r r₁ r' before now room s ready k (arming_goes w i nth w' s.reached step) (ap (λ (v : World). v.greatest) e) was seen m in
-      whole_with i (event.FailKeep i nth) (cluster_of w servers r) c w' servers servers' r' view same (record { stands = moves.stands; whole = (arms nth w' refl refl step moves.is, tt) })
-
-  -- an act for which there is no room
-  pub not_begun : (i : ℕ) (made : Event) (w : World) (servers : List Server) (r r' : Requests) (result : Result Unit Cut) (cut : Cut) → result ≡ Err cut → (cut ≡ Before) × (r' ≡ r) → Stands w servers r → Acted i made (cluster_of w servers r) w servers r' result
-  not_begun i made w servers r r' result cut is (first, same) s =
-      subst (λ (z : Result Unit Cut). Acted i made (cluster_of w servers r) w servers r' z) (sym (is ∙ ap (λ (x : Cut). Err x) first))
-      (record { stands = subst (Stands w servers) (sym same) s; whole = tt; cut = ap (cluster_of w servers) same })
-
-  pub whole_acted : (i : ℕ) (made : Event) (c : Cluster) (w' : World) (servers' : List Server) (r' : Requests) (result : Result Unit Cut) → IfErr result (λ _. ⊥) → ActedWhole i made c w' servers' r' → Acted i made c w' servers' r' result
-  whole_acted i made c w' servers' r' (Ok x) ok t = record { stands = t.stands; whole = t.whole; cut = tt }
-  whole_acted i made c w' servers' r' (Err x) ok t = absurd ok
-
-  -- a call that changed no more than the room
-  pub same_but_room : (i : ℕ) (made : Event) (s s' : Servers) (r r' : Requests) (room : ℕ) → s' ≡ s → r' ≡ record r { room = room } → Stands s.world s.servers r → Acted i made (cluster_of s.world s.servers r) s'.world s'.servers r' (Err Before)
-  same_but_room i made s s' r r' room same ready stands =
-      let p = with_room gs wt s.world s.servers r r' room stands ready in
-      subst (λ (z : Servers). Acted i made (cluster_of s.world s.servers r) z.world z.servers r' (Err Before)) (sym same) (record { stands = p.0; whole = tt; cut = p.1 })
+  -- a call that changed nothing
+  pub nothing_acted : (i : ℕ) (made : Event) (s s' : Servers) (r : Requests) → s' ≡ s → Stands s.world s.servers r → Acted i made (cluster_of s.world s.servers r) s'.world s'.servers r (Err Before)
+  nothing_acted i made s s' r same stands =
+      subst (λ (z : Servers). Acted i made (cluster_of s.world s.servers r) z.world z.servers r (Err Before)) (sym same) (record { stands = stands; whole = tt; cut = refl })

@@ -209,7 +209,6 @@ module _ (wt : Watching) where
       count = s.count;
       watching = s.watching;
       sound = s.sound;
-      joined = s.joined;
       proposed = s.proposed;
       ascends = subst Ascends (sym restood_is) (ascends_with h r.held s.ascends);
       held = subst (Each (IsHeld w servers r.asked)) (sym restood_is) (each_with (IsHeld w servers r.asked) h r.held (held_on awake) s.held);

@@ -57,11 +57,11 @@ module _ (wt : Watching) where
 
   pub answer_stands : (w : World) (servers : List Server) (r : Requests) (number : ℕ) (kind : Kind) (known : Bool) (contact : ℕ) (content : Content) → Stands w servers r → Stands w servers (answered_with number kind known contact content r)
   answer_stands w servers r number kind known contact content s =
-      record { reached = s.reached; some = s.some; count = s.count; watching = s.watching; sound = s.sound; joined = s.joined; proposed = s.proposed; ascends = ascends_without number r.held s.ascends; held = each_kept (IsHeld w servers r.asked) number r.held s.held }
+      record { reached = s.reached; some = s.some; count = s.count; watching = s.watching; sound = s.sound; proposed = s.proposed; ascends = ascends_without number r.held s.ascends; held = each_kept (IsHeld w servers r.asked) number r.held s.held }
 
   closing_stands : (w : World) (servers : List Server) (r : Requests) (number event : ℕ) → Stands w servers r → Stands w servers (closed_with number event r)
   closing_stands w servers r number event s =
-      record { reached = s.reached; some = s.some; count = s.count; watching = s.watching; sound = s.sound; joined = s.joined; proposed = s.proposed; ascends = ascends_without number r.held s.ascends; held = each_kept (IsHeld w servers r.asked) number r.held s.held }
+      record { reached = s.reached; some = s.some; count = s.count; watching = s.watching; sound = s.sound; proposed = s.proposed; ascends = ascends_without number r.held s.ascends; held = each_kept (IsHeld w servers r.asked) number r.held s.held }
 
   -- after a call that did something or nothing
   pub call_stands : {A B : Type 0} (w : World) (servers : List Server) (r done new : Requests) (result : Result A B) → Stands w servers r → Stands w servers done → OnOk result (new ≡ done) → OnErr result (new ≡ r) → Stands w servers new
@@ -173,7 +173,6 @@ module _ (wt : Watching) where
         count = length_set_server s.servers i x ∙ a.count;
         watching = (size ∙ a.watching.0 ∙ sym (length_set_server s.servers i x), omega (arith, seen, a.watching.1));
         sound = sound_with s.world s.servers i x a.sound sound;
-        joined = a.joined;
         proposed = a.proposed;
         ascends = a.ascends;
         held = all_held (cluster_of s.world s.servers r) i x (one_longer (clock_of s.world i) (server_of s.servers i) o) new fired

@@ -1,9 +1,9 @@
 -- What comes of one proposal for no request.
-use Rattle.std.proofs.Common.{◌≡◌, ◌⊎◌, inl, inr, ℕ, ◌≤◌, Bool, true, false, not, List, Result, Ok, Err, sym, ◌∙◌, ap, subst, arith}
-use Rattle.std.specs.Prelude.{◌&&◌}
+use Rattle.std.proofs.Common.{◌≡◌, ◌⊎◌, inl, inr, ℕ, ◌≤◌, Bool, true, false, List, Result, Ok, Err, refl, sym, ◌∙◌, ap, subst, arith}
 use Rattle.cat_model.specs.declared.command.Command.{Command}
 use Rattle.cat_model.specs.declared.memory.Memory as memory
 use Rattle.raft_model.specs.declared.message.Place.{Place}
+use Rattle.raft_model.specs.Log.{Log}
 use Rattle.raft_model.specs.Node.{Node}
 use Rattle.raft_model.specs.Rules.{Propose, has_room}
 use Rattle.raft_model.specs.Step.{NodeStep, LogFails, Outcome}
@@ -12,7 +12,7 @@ use Rattle.raft_node.specs.declared.fault.ProposeFault.{ProposeFault}
 use Rattle.raft_node.specs.declared.fault.ProposeFault.TheVariants as fault
 use Rattle.raft_world.specs.Steps.{KeepsAgreement, Proposes}
 use Rattle.cluster_rules.specs.Cluster.{Cluster, Server, node_of, runs_leading}
-use Rattle.cluster_rules.specs.Requests.{moved}
+use Rattle.cluster_rules.specs.Requests.{halted_now, moved}
 use Rattle.cluster_rules.proofs.Boundary.{acts_greatest, acts_server, leader_there, leading_tells, leads_on}
 use Rattle.cluster_rules.proofs.Tools.{is_node}
 use Rattle.cluster_servers.specs.Servers.{Servers}
@@ -22,7 +22,7 @@ use Rattle.cluster_parts.specs.Moving.{MarksStep, seen_of}
 use Rattle.cluster_parts.specs.Proposing.{EndedOne, EndsProposal, OneProposed}
 use Rattle.cluster_parts.specs.Standing as standing
 use Rattle.cluster_parts.proofs.Carried.{carries, proposing_goes}
-use Rattle.cluster_parts.proofs.Marking.{cluster_marked, stands_proposed, with_room}
+use Rattle.cluster_parts.proofs.Marking.{cluster_marked, stands_proposed}
 use Rattle.agent_rules.specs.Agents.{Agent}
 use Rattle.cluster_parts.specs.Watching.{Watching}
 
@@ -37,25 +37,22 @@ module _ (gs : List Agent) (wt : Watching) where
   abbrev Ended : ℕ → Command → Cluster → World → List Server → Requests → Result Bool memory.Memory → Type 0
   Ended i command c w' servers r' result = EndedOne gs wt i command c w' servers r' result
 
-  module _ (i : ℕ) (command : Command) (w w' : World) (servers : List Server) (r p r' : Requests) (s : Stands w servers r) (keeps : KeepsAgreement w w') (prepared : p ≡ record r { room = 4 }) (lead : runs_leading w i ≡ true) where
+  module _ (i : ℕ) (command : Command) (w w' : World) (servers : List Server) (r r' : Requests) (s : Stands w servers r) (keeps : KeepsAgreement w w') (lead : runs_leading w i ≡ true) where
     abbrev c : Cluster
     c = cluster_of w servers r
 
-    at_room : Stands w servers p × (cluster_of w servers p ≡ c)
-    at_room = with_room gs wt w servers r p 4 s prepared
-
-    module _ (a : NodeActs w i (Propose 0 command) w') (marks : MarksStep (seen_of w i) (seen_of w' i) i p r') where
+    module _ (a : NodeActs w i (Propose 0 command) w') (marks : MarksStep (seen_of w i) (seen_of w' i) i w'.agreed r r') where
       same_node : node_of w i ≡ a.old
       same_node = is_node w i a.old a.server
 
       moves : cluster_of w' servers r' ≡ moved i w' c
-      moves = cluster_marked gs wt (not (node_of w i).halted && (node_of w' i).halted) i w w' servers p r' at_room.0 keeps marks ∙ ap (moved i w') at_room.1
+      moves = cluster_marked gs wt (halted_now w w' i) i w w' servers r r' marks
 
-      low : w'.greatest ≤ p.asked
-      low = omega (arith, acts_greatest w i (Propose 0 command) w' a, at_room.0.proposed)
+      low : w'.greatest ≤ r.asked
+      low = omega (arith, acts_greatest w i (Propose 0 command) w' a, s.proposed)
 
       stands : Stands w' servers r'
-      stands = stands_proposed gs wt (not (node_of w i).halted && (node_of w' i).halted) i w w' servers p r' at_room.0 keeps (carries w w' servers (proposing_goes w i 0 command w' s.reached a) s.sound) low marks
+      stands = stands_proposed gs wt (halted_now w w' i) i w w' servers r r' s keeps (carries w w' servers (proposing_goes w i 0 command w' s.reached a) s.sound) low marks
 
       entered : (b : Bool) → b ≡ true → has_room (node_of w i) 0 command ≡ true → (node_of w' i).halted ≡ false → Ended i command c w' servers r' (Ok b)
       entered b e room up = record {
@@ -73,7 +70,7 @@ module _ (gs : List Agent) (wt : Watching) where
         stands = stands;
       }
 
-    ended_now : (proposed : Result Place ProposeFault) (result : Result Bool memory.Memory) → Proposes w i 0 command w' proposed → EndsProposal (seen_of w i) (seen_of w' i) i proposed result p r' → Ended i command c w' servers r' result
+    ended_now : (proposed : Result Place ProposeFault) (result : Result Bool memory.Memory) → Proposes w i 0 command w' proposed → EndsProposal (seen_of w i) (seen_of w' i) i w'.agreed proposed result r r' → Ended i command c w' servers r' result
     ended_now (Ok place) (Ok b) made ends =
         let a = made.acts in
         entered a ends.1 b ends.0 (ap (λ (n : Node). has_room n 0 command) (same_node a ends.1) ∙ made.may.2) (ap (λ (n : Node). n.halted) (acts_server w i (Propose 0 command) w' a) ∙ made.runs)
@@ -90,28 +87,26 @@ module _ (gs : List Agent) (wt : Watching) where
     ended_now (Err fault.NotLeader) (Err e) made ends = absurd ((made.1 (node_of w i) (leader_there w i lead)).1 (leading_tells w i lead).1)
     ended_now (Err fault.Memory) (Ok b) made ends = absurd ends
     ended_now (Err fault.Memory) (Err e) made ends =
-        let same : cluster_of w' servers r' ≡ c = ap (λ (v : World). cluster_of v servers r') made.0 ∙ ap (cluster_of w servers) ends ∙ at_room.1 in
+        let same : cluster_of w' servers r' ≡ c = ap (λ (v : World). cluster_of v servers r') made.0 ∙ ap (cluster_of w servers) ends in
         record {
           told = tt;
           leads = tt;
           same = same;
-          stands = subst (λ (v : World). Stands v servers r') (sym made.0) (subst (Stands w servers) (sym ends) at_room.0);
+          stands = subst (λ (v : World). Stands v servers r') (sym made.0) (subst (Stands w servers) (sym ends) s);
         }
 
-  -- the same for a cluster that is seen so before
-  pub one_ended : (i : ℕ) (command copy : Command) (s₁ s₂ : Servers) (r p r' : Requests) (c : Cluster) (before now : Seen) (proposed : Result Place ProposeFault) (result : Result Bool memory.Memory) →
-      Stands s₁.world s₁.servers r → cluster_of s₁.world s₁.servers r ≡ c → runs_leading c.world i ≡ true → p ≡ record r { room = 4 } → copy ≡ command → before ≡ seen_of s₁.world i → now ≡ seen_of s₂.world i
-      → Proposes s₁.world i 0 copy s₂.world proposed → KeepsAgreement s₁.world s₂.world → s₂.servers ≡ s₁.servers → EndsProposal before now i proposed result p r'
-      → Ended i command c s₂.world s₂.servers r' result
-  one_ended i command copy s₁ s₂ r p r' c before now proposed result stands view lead prepared same_command was seen made keeps same ends =
-      let marks : EndsProposal (seen_of s₁.world i) (seen_of s₂.world i) i proposed result p r' =
-      subst (λ (z : Seen). EndsProposal z (seen_of s₂.world i) i proposed result p r') was (subst (λ (z : Seen). EndsProposal before z i proposed result p r') seen ends) in
-      subst (λ (ss : List Server). Ended i command c s₂.world ss r' result) (sym same) (subst (λ (d : Cluster). Ended i command d s₂.world s₁.servers r' result) view
-      (ended_now i command s₁.world s₂.world s₁.servers r p r' stands keeps prepared (ap (λ (z : Cluster). runs_leading z.world i) view ∙ lead) proposed result
-      (subst (λ (x : Command). Proposes s₁.world i 0 x s₂.world proposed) same_command made) marks))
+  -- the same with what was seen
+  pub one_ended : (i : ℕ) (command copy : Command) (s₁ s₂ : Servers) (r r' : Requests) (before now : Seen) (agreed : Log) (proposed : Result Place ProposeFault) (result : Result Bool memory.Memory) →
+      Stands s₁.world s₁.servers r → runs_leading s₁.world i ≡ true → copy ≡ command → before ≡ seen_of s₁.world i → now ≡ seen_of s₂.world i → agreed ≡ s₂.world.agreed
+      → Proposes s₁.world i 0 copy s₂.world proposed → KeepsAgreement s₁.world s₂.world → s₂.servers ≡ s₁.servers → EndsProposal before now i agreed proposed result r r'
+      → Ended i command (cluster_of s₁.world s₁.servers r) s₂.world s₂.servers r' result
+  one_ended i command copy s₁ s₂ r r' before now agreed proposed result stands lead same_command was seen all made keeps same ends =
+      let marks : EndsProposal (seen_of s₁.world i) (seen_of s₂.world i) i s₂.world.agreed proposed result r r' =
+      subst (λ (z : Seen). EndsProposal z (seen_of s₂.world i) i s₂.world.agreed proposed result r r') was
+      (subst (λ (z : Seen). EndsProposal before z i s₂.world.agreed proposed result r r') seen (subst (λ (l : Log). EndsProposal before now i l proposed result r r') all ends)) in
+      subst (λ (ss : List Server). Ended i command (cluster_of s₁.world s₁.servers r) s₂.world ss r' result) (sym same)
+      (ended_now i command s₁.world s₂.world s₁.servers r r' stands keeps lead proposed result (subst (λ (x : Command). Proposes s₁.world i 0 x s₂.world proposed) same_command made) marks)
 
   -- a proposal for which there is no memory
-  pub not_proposed : (i : ℕ) (command : Command) (w : World) (servers : List Server) (r r' : Requests) (result : Result Bool memory.Memory) (e : memory.Memory) → result ≡ Err e → r' ≡ r → Stands w servers r → Ended i command (cluster_of w servers r) w servers r' result
-  not_proposed i command w servers r r' result e is same s =
-      subst (λ (z : Result Bool memory.Memory). Ended i command (cluster_of w servers r) w servers r' z) (sym is)
-      (record { told = tt; leads = tt; same = ap (cluster_of w servers) same; stands = subst (Stands w servers) (sym same) s })
+  pub not_proposed : (i : ℕ) (command : Command) (w : World) (servers : List Server) (r : Requests) (result : Result Bool memory.Memory) (e : memory.Memory) → result ≡ Err e → Stands w servers r → Ended i command (cluster_of w servers r) w servers r result
+  not_proposed i command w servers r result e is s = subst (λ (z : Result Bool memory.Memory). Ended i command (cluster_of w servers r) w servers r z) (sym is) (record { told = tt; leads = tt; same = refl; stands = s })

@@ -1,7 +1,8 @@
 -- A restart: the server has applied nothing, and what it holds is to be closed.
-use Rattle.std.proofs.Common.{◌≡◌, inl, ℕ, ◌-◌, ◌<◌, ◌≤◌, Bool, true, false, cond, List, [], ◌∷◌, length, map, refl, sym, ◌∙◌, ap, subst, arith}
+use Rattle.std.proofs.Common.{◌≡◌, inl, ℕ, ◌<◌, ◌≤◌, Bool, true, false, cond, List, [], ◌∷◌, Ok, drop, length, map, refl, sym, ◌∙◌, ap, subst, arith}
 use Rattle.std.specs.Prelude.{◌==◌, Contains}
 use Rattle.std.specs.List.{AllByRecursion as Each}
+use Rattle.cat_model.specs.declared.reply.Mark.{Mark}
 use Rattle.cat_model.specs.declared.request.Event.TheVariants as event
 use Rattle.raft_model.proofs.Tests.{at_bool, eq_tells}
 use Rattle.raft_model.specs.Log.{Log}
@@ -10,21 +11,20 @@ use Rattle.raft_model.specs.World.{World, WorldStep, IsReached}
 use Rattle.raft_model.specs.World as world
 use Rattle.raft_world.specs.Steps.{KeepsAgreement}
 use Rattle.cluster_rules.specs.Cluster.{Cluster, Ended, Pending, Server, no_node, no_server, node_of, server_of}
+use Rattle.cluster_rules.specs.Requests.{halts_past}
 use Rattle.cluster_rules.specs.Sound.{Ascends, ServerIsSound}
-use Rattle.cluster_rules.specs.Step.{begun_anew, ended, restarts}
+use Rattle.cluster_rules.specs.Step.{begun_anew, ended, events_in, restarts}
 use Rattle.cluster_rules.proofs.Grows.{GoesTo, goes_by}
 use Rattle.cluster_rules.proofs.Tools.{eq_tells_not, is_place, item_other, item_same, length_set_server}
-use Rattle.open_requests.proofs.Lifting.{ends_by}
+use Rattle.open_requests.proofs.Numbering.{entries_uncounted}
 use Rattle.open_requests.specs.Held.{NumbersAll}
-use Rattle.open_requests.specs.Notes.{events_noted}
 use Rattle.open_requests.specs.Requests.{Requests, cluster_of as whole_of, ended_all}
 use Rattle.cluster_parts.specs.declared.moving.Seen.{Seen}
-use Rattle.cluster_parts.specs.Acting.{AreAwake}
+use Rattle.cluster_parts.specs.Acting.{Acted, AreAwake}
 use Rattle.cluster_parts.specs.Moving.{IsMarked, seen_of}
 use Rattle.cluster_parts.specs.Standing as standing
-use Rattle.cluster_parts.proofs.Acts.{ActedWhole, whole_with}
 use Rattle.cluster_parts.proofs.Carried.{AreSound, Carries, held_same, server_later, sound_with}
-use Rattle.cluster_parts.proofs.Marking.{cluster_marked, stands_marked, with_room}
+use Rattle.cluster_parts.proofs.Marking.{cluster_marked, stands_marked}
 use Rattle.agent_rules.specs.Agents.{Agent}
 use Rattle.cluster_parts.specs.Watching.{Watching, MayBeDue}
 
@@ -74,15 +74,13 @@ module _ (gs : List Agent) (wt : Watching) where
     count = length_set_server servers i no_server ∙ s.count;
     watching = (s.watching.0 ∙ sym (length_set_server servers i no_server), s.watching.1);
     sound = sound_with w servers i no_server s.sound (nothing_sound w.agreed (node_of w i).commit);
-    joined = s.joined;
     proposed = s.proposed;
     ascends = ascends_kept i made r.held s.ascends;
     held = held_kept w servers i made r.asked r.held awake s.held;
   }
 
-  ended_marked : (failed : Bool) (i made count : ℕ) (r r' : Requests) → IsMarked failed i count r r' → IsMarked failed i count (ended_with i made r) (ended_with i made r')
-  ended_marked true i made count r r' m = ap (ended_with i made) m
-  ended_marked false i made count r r' m = ap (ended_with i made) m
+  ended_marked : (failed : Bool) (i made from : ℕ) (agreed : Log) (r r' : Requests) → IsMarked failed i from agreed r r' → IsMarked failed i from agreed (ended_with i made r) (ended_with i made r')
+  ended_marked failed i made from agreed r r' m = ap (ended_with i made) m
 
   -- No other server's commit fell.
   restart_carries : (w w' : World) (servers : List Server) (i : ℕ) → IsReached w → length servers ≡ length w.nodes → AreSound w servers → WorldStep w (world.Restarts i) w' → Carries w w' (set_server servers i no_server)
@@ -106,39 +104,36 @@ module _ (gs : List Agent) (wt : Watching) where
           (server_later w w' on (node_of w j).commit (node_of w' j).commit (server_of servers j) (omega (arith, commit)) (sound j))) refl
 
   restart_stands : (failed : Bool) (i : ℕ) (w w' : World) (servers : List Server) (r r' : Requests) → AreAwake wt i r.held → Stands w servers r → KeepsAgreement w w' → WorldStep w (world.Restarts i) w'
-      → IsMarked failed i (length w'.agreed - length w.agreed) r r' → Stands w' (set_server servers i no_server) (ended_all i r')
+      → IsMarked failed i (length w.agreed) w'.agreed r r' → Stands w' (set_server servers i no_server) (ended_all i r')
   restart_stands failed i w w' servers r r' awake s k step m =
-      let made = events_noted r'.notes in
+      let made = events_in r'.past in
       stands_marked gs wt failed i w w' (set_server servers i no_server) (ended_with i made r) (ended_with i made r') (stands_ended i made w servers r awake s) k
-      (restart_carries w w' servers i s.reached s.count s.sound step) (ap (λ (v : World). v.greatest) step.4) (ended_marked failed i made (length w'.agreed - length w.agreed) r r' m)
+      (restart_carries w w' servers i s.reached s.count s.sound step) (ap (λ (v : World). v.greatest) step.4) (ended_marked failed i made (length w.agreed) w'.agreed r r' m)
 
-  pub restart_acts : (i : ℕ) (w w' : World) (servers servers' : List Server) (r r₁ r₂ r' : Requests) (c : Cluster) (before now : Seen) (room : ℕ) → AreAwake wt i r.held → Stands w servers r → cluster_of w servers r ≡ c → r₁ ≡ record r { room = room } → KeepsAgreement w w'
-      → servers' ≡ set_server servers i no_server → WorldStep w (world.Restarts i) w' → before ≡ seen_of w i → now ≡ seen_of w' i → IsMarked now.halted i (now.agreed - before.agreed) r₁ r₂ → r' ≡ ended_all i r₂ → ActedWhole gs wt i (event.Restart i) c w' servers' r'
-  restart_acts i w w' servers servers' r r₁ r₂ r' c before now room awake s view ready k same step was seen m e =
-      let p = with_room gs wt w servers r r₁ room s ready in
+  pub restart_acts : (i : ℕ) (w w' : World) (servers servers' : List Server) (r r₁ r' : Requests) (before now : Seen) (agreed : Log) → AreAwake wt i r.held → Stands w servers r → KeepsAgreement w w' → servers' ≡ set_server servers i no_server → WorldStep w (world.Restarts i) w'
+      → before ≡ seen_of w i → now ≡ seen_of w' i → agreed ≡ w'.agreed → IsMarked now.halted i before.agreed agreed r r₁ → r' ≡ ended_all i r₁ → Acted gs wt i (event.Restart i) (cluster_of w servers r) w' servers' r' (Ok tt)
+  restart_acts i w w' servers servers' r r₁ r' before now agreed awake s k same step was seen all m e =
       let failed = (node_of w' i).halted in
-      let marks : IsMarked failed i (length w'.agreed - length w.agreed) r₁ r₂ = subst (λ (z : Seen). IsMarked failed i (length w'.agreed - z.agreed) r₁ r₂) was (subst (λ (z : Seen). IsMarked z.halted i (z.agreed - before.agreed) r₁ r₂) seen m) in
-      let awake₁ : AreAwake wt i r₁.held = subst (λ (q : Requests). AreAwake wt i q.held) (sym ready) awake in
-      let stands = restart_stands failed i w w' servers r₁ r₂ awake₁ p.0 k step marks in
-      let moves = cluster_marked gs wt failed i w w' servers r₁ r₂ p.0 k marks in
-      let is : cluster_of w' (set_server servers i no_server) (ended_all i r₂) ≡ begun_anew i (cluster_of w' servers r₂) = ends_by w' (set_server servers i no_server) gs r₂ i in
-      let whole : ActedWhole gs wt i (event.Restart i) (cluster_of w servers r₁) w' (set_server servers i no_server) (ended_all i r₂) = record { stands = stands; whole = (restarts w' refl refl step (is ∙ ap (begun_anew i) moves), tt) } in
-      subst (λ (q : Requests). ActedWhole gs wt i (event.Restart i) c w' servers' q) (sym e) (whole_with gs wt i (event.Restart i) (cluster_of w servers r₁) c w' (set_server servers i no_server) servers' (ended_all i r₂) (p.1 ∙ view) same whole)
+      let marks : IsMarked failed i (length w.agreed) w'.agreed r r₁ = subst (λ (z : Seen). IsMarked failed i z.agreed w'.agreed r r₁) was (subst (λ (z : Seen). IsMarked z.halted i before.agreed w'.agreed r r₁) seen (subst (λ (l : Log). IsMarked now.halted i before.agreed l r r₁) all m)) in
+      let moves = cluster_marked gs wt failed i w w' servers r r₁ marks in
+      subst (λ (q : Requests). Acted gs wt i (event.Restart i) (cluster_of w servers r) w' servers' q (Ok tt)) (sym e)
+      (subst (λ (l : List Server). Acted gs wt i (event.Restart i) (cluster_of w servers r) w' l (ended_all i r₁) (Ok tt)) (sym same)
+      (record { stands = restart_stands failed i w w' servers r r₁ awake s k step marks; whole = (restarts w' refl refl step (ap (begun_anew i) moves), tt); cut = tt }))
+
+-- a halt is no event
+halt_uncounted : (failed : Bool) (i : ℕ) (past : List Mark) → events_in (halts_past i failed past) ≡ events_in past
+halt_uncounted true i past = refl
+halt_uncounted false i past = refl
+
+-- marks of a server count no event
+pub still_counted : (failed : Bool) (i from event : ℕ) (agreed : Log) (r r' : Requests) → event ≡ events_in r.past → IsMarked failed i from agreed r r' → event ≡ events_in r'.past
+still_counted failed i from event agreed r r' is m =
+    is ∙ sym (ap (λ (q : Requests). events_in q.past) m ∙ entries_uncounted (drop from agreed) (halts_past i failed r.past) ∙ halt_uncounted failed i r.past)
 
 module _ (wt : Watching) where
   -- marks of a server leave what is held and asked as it is
-  marked_same : (failed : Bool) (i count : ℕ) (r r' : Requests) → IsMarked failed i count r r' → (r'.held ≡ r.held) × (r'.asked ≡ r.asked)
-  marked_same true i count r r' m = (ap (λ (q : Requests). q.held) m, ap (λ (q : Requests). q.asked) m)
-  marked_same false i count r r' m = (ap (λ (q : Requests). q.held) m, ap (λ (q : Requests). q.asked) m)
-
-  -- the same of room that was taken before
-  still_same : (failed : Bool) (i count : ℕ) (r r₁ r₂ : Requests) (room : ℕ) → r₁ ≡ record r { room = room } → IsMarked failed i count r₁ r₂ → (r₂.held ≡ r.held) × (r₂.asked ≡ r.asked)
-  still_same failed i count r r₁ r₂ room ready m =
-      let s = marked_same failed i count r₁ r₂ m in
-      (s.0 ∙ ap (λ (q : Requests). q.held) ready, s.1 ∙ ap (λ (q : Requests). q.asked) ready)
-
-  pub still_awake : (failed : Bool) (i count : ℕ) (r r₁ r₂ : Requests) (room : ℕ) → AreAwake wt i r.held → r₁ ≡ record r { room = room } → IsMarked failed i count r₁ r₂ → AreAwake wt i r₂.held
-  still_awake failed i count r r₁ r₂ room awake ready m = subst (AreAwake wt i) (sym (still_same failed i count r r₁ r₂ room ready m).0) awake
+  pub still_awake : (failed : Bool) (i from : ℕ) (agreed : Log) (r r' : Requests) → AreAwake wt i r.held → IsMarked failed i from agreed r r' → AreAwake wt i r'.held
+  still_awake failed i from agreed r r' awake m = subst (λ (q : Requests). AreAwake wt i q.held) (sym m) awake
 
   -- held requests have numbers that were given
   abbrev AreGiven : ℕ → List Pending → Type 0
@@ -148,10 +143,8 @@ module _ (wt : Watching) where
   are_given w servers asked [] all = tt
   are_given w servers asked (h ∷ held) all = (all.0.numbered, are_given w servers asked held all.1)
 
-  pub still_numbered : (failed : Bool) (i count : ℕ) (w : World) (servers : List Server) (r r₁ r₂ : Requests) (room : ℕ) → standing.Stands wt w servers r → r₁ ≡ record r { room = room } → IsMarked failed i count r₁ r₂ → AreGiven r₂.asked r₂.held
-  still_numbered failed i count w servers r r₁ r₂ room s ready m =
-      let same = still_same failed i count r r₁ r₂ room ready m in
-      subst (λ n. AreGiven n r₂.held) (sym same.1) (subst (AreGiven r.asked) (sym same.0) (are_given w servers r.asked r.held s.held))
+  pub still_numbered : (failed : Bool) (i from : ℕ) (agreed : Log) (w : World) (servers : List Server) (r r' : Requests) → standing.Stands wt w servers r → IsMarked failed i from agreed r r' → AreGiven r'.asked r'.held
+  still_numbered failed i from agreed w servers r r' s m = subst (λ (q : Requests). AreGiven q.asked q.held) (sym m) (are_given w servers r.asked r.held s.held)
 
   -- where the numbers of what is awake tell all of which something may be due
   abbrev Covers : ℕ → List ℕ → Type 0

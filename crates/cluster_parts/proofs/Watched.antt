@@ -142,7 +142,6 @@ stands_by old new w servers r size seen on s = record {
   count = s.count;
   watching = (size ∙ s.watching.0, seen);
   sound = s.sound;
-  joined = s.joined;
   proposed = s.proposed;
   ascends = s.ascends;
   held = all_by old new w servers r.asked r.held on s.held;

@@ -1,6 +1,7 @@
 -- What is marked of a step that a server's node made.
-use Rattle.std.specs.Prelude.{◌≡◌, ◌≢◌, ℕ, ◌-◌, ◌==◌, ◌&&◌, not, if◌then◌else◌, Bool, length, Result, Ok, Err}
+use Rattle.std.specs.Prelude.{◌≡◌, ◌≢◌, ℕ, ◌==◌, ◌&&◌, not, if◌then◌else◌, Bool, length, Result, Ok, Err}
 use Rattle.cat_model.specs.declared.memory.Memory.{Memory}
+use Rattle.raft_model.specs.Log.{Log}
 use Rattle.raft_model.specs.World.{World}
 use Rattle.office_rules.specs.Offices.{office_from}
 use Rattle.cluster_rules.specs.Cluster.{clock_of, node_of, runs_leading}
@@ -18,22 +19,18 @@ seen_of w i = record { halted = (node_of w i).halted; leads = runs_leading w i; 
 abbrev pub Seats : Seen → Seen → ℕ → Servers → Servers → Type 0
 Seats before now i old new = new ≡ (if now.leads && not (before.leads && (before.term == now.term)) then officed i (office_from (clock_of old.world i)) old else old)
 
--- a server's store failed or not
-abbrev pub IsHalted : Bool → ℕ → Requests → Requests → Type 0
-IsHalted failed i old new = new ≡ record (halted_with failed i old) { room = new.room }
-
--- a server's store failed or not, and so many entries joined the agreed log
-abbrev pub IsMarked : Bool → ℕ → ℕ → Requests → Requests → Type 0
-IsMarked failed i count old new = new ≡ record (joining count (halted_with failed i old)) { room = new.room }
+-- a server's store failed or not, and the entries of this agreed log from a place on joined it
+abbrev pub IsMarked : Bool → (i from : ℕ) → Log → Requests → Requests → Type 0
+IsMarked failed i from agreed old new = new ≡ joining from agreed (halted_with failed i old)
 
 -- a step of server i is marked, by what was seen before and what is seen now
-abbrev pub MarksStep : Seen → Seen → ℕ → Requests → Requests → Type 0
-MarksStep before now i old new = IsMarked (not before.halted && now.halted) i (now.agreed - before.agreed) old new
+abbrev pub MarksStep : Seen → Seen → ℕ → Log → Requests → Requests → Type 0
+MarksStep before now i agreed old new = IsMarked (not before.halted && now.halted) i before.agreed agreed old new
 
 -- A call that was a step is marked. One that found no memory was a part of a step exactly where the term differs.
-abbrev pub Ends : Seen → Seen → ℕ → Result Unit Memory → Result Unit Cut → Requests → Requests → Type 0
-Ends before now i (Ok _) (Ok _) old new = MarksStep before now i old new
-Ends before now i (Ok _) (Err _) old new = ⊥
-Ends before now i (Err _) (Ok _) old new = ⊥
-Ends before now i (Err _) (Err Before) old new = (now.term ≡ before.term) × (new ≡ old)
-Ends before now i (Err _) (Err Within) old new = (now.term ≢ before.term) × MarksStep before now i old new
+abbrev pub Ends : Seen → Seen → ℕ → Log → Result Unit Memory → Result Unit Cut → Requests → Requests → Type 0
+Ends before now i agreed (Ok _) (Ok _) old new = MarksStep before now i agreed old new
+Ends before now i agreed (Ok _) (Err _) old new = ⊥
+Ends before now i agreed (Err _) (Ok _) old new = ⊥
+Ends before now i agreed (Err _) (Err Before) old new = (now.term ≡ before.term) × (new ≡ old)
+Ends before now i agreed (Err _) (Err Within) old new = (now.term ≢ before.term) × MarksStep before now i agreed old new

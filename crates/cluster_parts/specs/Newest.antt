@@ -13,8 +13,7 @@ use Rattle.cluster_rules.specs.Cluster.{ForIndex, Looked, clock_of, server_of}
 use Rattle.cluster_rules.specs.Replies.{Renews, Reply, Says}
 use Rattle.cluster_servers.specs.Servers.{Servers, officed}
 use Rattle.office_rules.specs.Offices.{renew_in}
-use Rattle.open_requests.specs.Requests.{Requests, answered_with, holding_with, numbered_with, used}
-use Rattle.cluster_parts.specs.declared.newest.NewAnswer.{NewAnswer}
+use Rattle.open_requests.specs.Requests.{Requests, answered_with, given_with, holding_with, numbered_with, used}
 
 -- Room is taken, and it gets its number.
 abbrev pub numbered_newest : ℕ → Asked → Draw → Requests → Requests
@@ -31,20 +30,19 @@ held_newest i agent asked draw deadline applied r =
 
 -- It is answered by this reply.
 abbrev pub answered_newest : ℕ → Asked → Draw → Reply → Requests → Requests
-answered_newest agent asked draw reply r = used (answered_with reply.number reply.kind reply.known reply.contact reply.content (numbered_newest agent asked draw r))
+answered_newest agent asked draw reply r = used (given_with reply (numbered_newest agent asked draw r))
 
 -- It is a renewal at server i, which has applied so many positions, and it is answered with the session's row.
 abbrev pub renewed_newest : ℕ → ℕ → Asked → Draw → (applied : ℕ) → Option SessionRow → Requests → Requests
 renewed_newest i agent asked draw applied row r =
     let numbered = numbered_newest agent asked draw r in
-    used (answered_with (r.asked + 1) (Seen Default applied) false 0 (Renews row) (used (record numbered { starts = Looked (r.asked + 1) i applied ∷ numbered.starts })))
+    used (answered_with (r.asked + 1) (Seen Default applied) false 0 (Renews row) (record numbered { starts = Looked (r.asked + 1) i applied ∷ numbered.starts }))
 
 -- The renewal gets its number and this answer.
-abbrev pub GivesRenewal : ℕ → ℕ → Draw → NewAnswer → (number applied : ℕ) → Requests → Requests → Type 0
-GivesRenewal i agent draw answer number applied old new =
-    let numbered = used (numbered_with agent answer.asked draw old) in
-    let reply = answer.reply in
-    new ≡ used (answered_with reply.number reply.kind reply.known reply.contact reply.content (used (record numbered { starts = Looked number i applied ∷ numbered.starts })))
+abbrev pub GivesRenewal : ℕ → ℕ → Asked → Draw → Reply → (applied : ℕ) → Requests → Requests → Type 0
+GivesRenewal i agent asked draw reply applied old new =
+    let numbered = used (numbered_with agent asked draw old) in
+    new ≡ used (given_with reply (record numbered { starts = Looked reply.number i applied ∷ numbered.starts }))
 
 -- server i renews a session, if it is there
 abbrev pub renewed_in : ℕ → ℕ → Servers → Servers

@@ -4,6 +4,7 @@ use Rattle.agent_rules.specs.Agents.{Agent}
 use Rattle.cat_model.specs.declared.command.Command.{Command}
 use Rattle.cat_model.specs.declared.memory.Memory.{Memory}
 use Rattle.raft_model.specs.declared.message.Place.{Place}
+use Rattle.raft_model.specs.Log.{Log}
 use Rattle.raft_model.specs.Rules.{Propose, has_room}
 use Rattle.raft_model.specs.World.{World, Acts as NodeActs}
 use Rattle.raft_node.specs.declared.fault.ProposeFault.{ProposeFault}
@@ -20,13 +21,13 @@ use Rattle.cluster_parts.specs.Standing.{Stands}
 use Rattle.cluster_parts.specs.Watching.{Watching}
 
 -- A proposal that this answers: the step is marked, also where the proposal is refused.
-abbrev pub EndsProposal : Seen → Seen → ℕ → Result Place ProposeFault → Result Bool Memory → Requests → Requests → Type 0
-EndsProposal before now i (Ok place) (Ok entered) old new = (entered ≡ true) × MarksStep before now i old new
-EndsProposal before now i (Err fault.Full) (Ok entered) old new = (entered ≡ false) × MarksStep before now i old new
-EndsProposal before now i (Err fault.Halted) (Ok entered) old new = (entered ≡ false) × MarksStep before now i old new
-EndsProposal before now i (Err fault.NotLeader) (Err _) old new = new ≡ old
-EndsProposal before now i (Err fault.Memory) (Err _) old new = new ≡ old
-EndsProposal before now i proposed result old new = ⊥
+abbrev pub EndsProposal : Seen → Seen → ℕ → Log → Result Place ProposeFault → Result Bool Memory → Requests → Requests → Type 0
+EndsProposal before now i agreed (Ok place) (Ok entered) old new = (entered ≡ true) × MarksStep before now i agreed old new
+EndsProposal before now i agreed (Err fault.Full) (Ok entered) old new = (entered ≡ false) × MarksStep before now i agreed old new
+EndsProposal before now i agreed (Err fault.Halted) (Ok entered) old new = (entered ≡ false) × MarksStep before now i agreed old new
+EndsProposal before now i agreed (Err fault.NotLeader) (Err _) old new = new ≡ old
+EndsProposal before now i agreed (Err fault.Memory) (Err _) old new = new ≡ old
+EndsProposal before now i agreed proposed result old new = ⊥
 
 -- A leading server entered the command into its log.
 pub record IsEntered (i : ℕ) (command : Command) (c c' : Cluster) : Type 0 where

@@ -18,7 +18,6 @@ use Rattle.cluster_rules.specs.Cluster.{Stand, AtPlace, ForIndex, Pending, Serve
 use Rattle.cluster_rules.specs.Lasting.{IsWrite}
 use Rattle.cluster_rules.specs.Replies.{Question, entered}
 use Rattle.cluster_rules.specs.Sound.{Ascends, ServerIsSound}
-use Rattle.open_requests.specs.Notes.{joined_in}
 use Rattle.open_requests.specs.Requests.{Requests}
 
 -- the entry with which the request enters this command has this place, now and later
@@ -50,15 +49,14 @@ pub record IsHeld (watch : Watching) (w : World) (servers : List Server) (asked 
   pub watched : IsWatched watch (server_of servers h.server).applied h
 
 -- The world is one of a run with as many servers, of which there is one at least, each has applied a front of the agreed
--- log, the notes count the agreed log, no proposal has a number above those that were given, and held requests stand in
--- the order of their numbers, each watched.
+-- log, no proposal has a number above those that were given, and held requests stand in the order of their numbers, each
+-- watched.
 pub record Stands (watch : Watching) (w : World) (servers : List Server) (r : Requests) : Type 0 where
   pub reached : IsReached w
   pub some : 0 < length servers
   pub count : length servers ≡ length w.nodes
   pub watching : (length watch.watch.servers ≡ length servers) × (watch.seen ≤ r.asked)
   pub sound : (i : ℕ) → ServerIsSound w.agreed (node_of w i).commit (server_of servers i)
-  pub joined : joined_in r.notes ≡ length w.agreed
   pub proposed : w.greatest ≤ r.asked
   pub ascends : Ascends r.held
   pub held : Each (IsHeld watch w servers r.asked) r.held

@@ -1,5 +1,5 @@
 -- Which of the requests that were asked may have something due.
-use Rattle.std.specs.Prelude.{ℕ, ◌≡◌, ◌<◌, ◌⊎◌, List}
+use Rattle.std.specs.Prelude.{ℕ, ◌<◌, ◌⊎◌, List}
 use Rattle.cat_model.specs.declared.query.Chan.{Chan}
 use Rattle.cluster_rules.specs.Cluster.{Stand, AtPlace, InRound, ForIndex, Ended}
 use Rattle.read_watch.specs.Watch as plain

@@ -40,7 +40,7 @@ pub use entering::entered;
 pub use kinds::{changes, is_stale, is_stale_read, wait_of};
 pub use moving::{Seen, see};
 pub use newest::{answer_newest, answer_own, hold_newest, refuse_newest, renew_newest};
-pub use probing::{NewRead, end_probe, read_copies};
+pub use probing::end_probe;
 pub use proposing::{Proposed, propose_all};
 pub use replying::deferred;
 pub use turning::turn;

@@ -1,10 +1,10 @@
 //! The marks of a step that a server's node made.
 
-ghost use Rattle.std.specs.Prelude.{◌≡◌, ◌+◌, ◌-◌, ◌≤◌, IfErr, OnErr, OnOk, length};
+ghost use Rattle.std.specs.Prelude.{◌≡◌, ◌≤◌, length};
 ghost use Rattle.raft_world.specs.Steps.{IsNumber};
-ghost use Rattle.cluster_parts.specs.Moving.{Ends, IsHalted, IsMarked, MarksStep, Seats, seen_of};
+ghost use Rattle.cluster_parts.specs.Moving.{Ends, IsMarked, MarksStep, Seats, seen_of};
 
-use cat_model::Memory;
+use cat_model::{Entry, Memory};
 use cat_outside::Keeper;
 use cluster_servers::Servers;
 use cluster_turns::Cut;
@@ -50,48 +50,22 @@ pub fn seat<K: Keeper>(servers: &mut Servers<K>, server: u32, before: Seen, now:
     }
 }
 
-/// Takes the room for the marks of a step.
-pub fn prepare(requests: &mut Requests) -> Result<(), Cut>
-    ensures ok { OnOk result (requests.new ≡ record requests.old { room = 4 }) }
-    ensures err { IfErr result (λ cut. (cut ≡ Cut.Before) × (requests.new ≡ requests.old)) }
+/// Marks that a server's store failed, where it did, and that the entries of the agreed log from this place on joined it.
+pub fn mark(requests: &mut Requests, server: u32, failed: bool, agreed: &[Entry], from: u64)
+    ensures { IsMarked failed server from agreed.now requests.old requests.new }
 {
-    match requests.prepare() {
-        Ok(()) => Ok(()),
-        Err(Memory) => Err(Cut::Before),
+    if failed {
+        requests.halt(server);
     }
-}
-
-// Marks that a server's store failed, where it did.
-fn mark_failure(requests: &mut Requests, server: u32, failed: bool)
-    requires { 1 ≤ requests.old.room }
-    ensures halted { IsHalted failed server requests.old requests.new }
-    ensures room { requests.old.room ≤ requests.new.room + 1 }
-{
-    if !failed {
-        return;
-    }
-    requests.halt(server);
-}
-
-/// Marks that a server's store failed, where it did, and that so many entries joined the agreed log.
-pub fn mark(requests: &mut Requests, server: u32, failed: bool, joined: u64)
-    requires { 2 ≤ requests.old.room }
-    ensures marked { IsMarked failed server joined requests.old requests.new }
-    ensures room { requests.old.room ≤ requests.new.room + 2 }
-{
-    mark_failure(requests, server, failed);
-    requests.join(joined);
+    requests.join(agreed, from);
 }
 
 /// Marks a step of a server, by what was seen before and what is seen now.
-pub fn mark_step(requests: &mut Requests, server: u32, before: Seen, now: Seen)
-    requires room { 2 ≤ requests.old.room }
-    requires grown { before.agreed ≤ now.agreed }
-    ensures marked { MarksStep before now server requests.old requests.new }
-    ensures room { requests.old.room ≤ requests.new.room + 2 }
+pub fn mark_step(requests: &mut Requests, server: u32, before: Seen, now: Seen, agreed: &[Entry])
+    ensures { MarksStep before now server agreed.now requests.old requests.new }
 {
     let failed = !before.halted && now.halted;
-    mark(requests, server, failed, now.agreed - before.agreed);
+    mark(requests, server, failed, agreed, before.agreed);
 }
 
 /// Marks what a call did at a server. Where it found no memory, the server's term tells whether a vote was saved.
@@ -100,20 +74,19 @@ pub fn end(
     server: u32,
     before: Seen,
     now: Seen,
+    agreed: &[Entry],
     made: Result<(), Memory>,
 ) -> Result<(), Cut>
-    requires room { 2 ≤ requests.old.room }
-    requires grown { before.agreed ≤ now.agreed }
-    ensures { Ends before now server made result requests.old requests.new }
+    ensures { Ends before now server agreed.now made result requests.old requests.new }
 {
     match made {
         Ok(()) => {
-            mark_step(requests, server, before, now);
+            mark_step(requests, server, before, now, agreed);
             Ok(())
         }
         Err(Memory) if now.term == before.term => Err(Cut::Before),
         Err(Memory) => {
-            mark_step(requests, server, before, now);
+            mark_step(requests, server, before, now, agreed);
             Err(Cut::Within)
         }
     }

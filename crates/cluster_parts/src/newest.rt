@@ -1,13 +1,13 @@
 //! A request that was noted last takes its number, and is refused, held or answered at once.
 
-ghost use Rattle.std.specs.Prelude.{◌≡◌, ◌+◌, ◌<◌, ◌≤◌, IfOk, OnErr, OnOk, length};
+ghost use Rattle.std.specs.Prelude.{◌≡◌, ◌+◌, ◌<◌, ◌≤◌, OnErr, OnOk, length};
 ghost use Rattle.std.specs.List.{AllByRecursion as Each};
 ghost use Rattle.agent_rules.specs.Agents.{change};
 ghost use Rattle.cat_model.specs.Catalog.{session_at};
 ghost use Rattle.cat_model.specs.Log.{commands_of};
 ghost use Rattle.cat_model.specs.Machine.{catalog_at};
 ghost use Rattle.cluster_rules.specs.Cluster.{server_of};
-ghost use Rattle.open_requests.specs.Notes.{IsMadeLast};
+ghost use Rattle.open_requests.specs.Past.{IsMadeLast};
 ghost use Rattle.open_requests.specs.Plain.{refusal_of};
 ghost use Rattle.raft_world.specs.Steps.{IsNumber};
 ghost use Rattle.cluster_parts.specs.Agents.{IsThere, agent_at, agents_with, own_reply};
@@ -19,26 +19,22 @@ use crate::replying::{own_reply, renewed};
 use cat_model::{AgentOp, Asked, Draw, Memory, Shared};
 use cat_outside::Keeper;
 use cluster_servers::Servers;
-use open_requests::{MarkedReply, Plain, Question, Requests, Stand, Start};
+use open_requests::{Plain, Question, Reply, Requests, Stand, Start};
 use std::alloc::Global;
 
 // Takes room, and gives the request its number.
 fn number_newest(
     requests: &mut Requests,
     agent: u32,
-    asked: &Shared<Asked>,
+    asked: &Asked,
     draw: Draw,
 ) -> Result<(), Memory>
-    requires { IsMadeLast requests.old.notes }
+    requires { IsMadeLast requests.old.past }
     ensures ok { OnOk result (requests.new ≡ numbered_newest agent asked.now draw requests.old) }
     ensures err { OnErr result (requests.new ≡ requests.old) }
 {
-    let copy = asked.share()?;
-    if requests.prepare().is_err() {
-        drop(copy);
-        return Err(Memory);
-    }
-    requests.number(agent, copy, draw);
+    requests.prepare()?;
+    requests.number(agent, asked, draw);
     Ok(())
 }
 
@@ -46,11 +42,11 @@ fn number_newest(
 pub fn refuse_newest(
     requests: &mut Requests,
     agent: u32,
-    asked: &Shared<Asked>,
+    asked: &Asked,
     draw: Draw,
     why: Plain,
 ) -> Result<(), Memory>
-    requires { IsMadeLast requests.old.notes }
+    requires { IsMadeLast requests.old.past }
     ensures ok { OnOk result (requests.new ≡ refused_newest agent asked.now draw (refusal_of why) requests.old) }
     ensures err { OnErr result (requests.new ≡ requests.old) }
 {
@@ -64,19 +60,25 @@ pub fn refuse_newest(
 fn hold_question(
     requests: &mut Requests,
     server: u32,
-    asked: &Shared<Asked>,
     question: Question,
     deadline: u64,
     applied: u64,
 ) -> Result<(), Memory>
-    requires made { IsMadeLast requests.old.notes }
-    requires question { question ≡ record { number = requests.old.asked + 1; agent = question.agent; asked = asked.now; draw = question.draw } }
+    requires made { IsMadeLast requests.old.past }
+    requires number { question.number ≡ requests.old.asked + 1 }
     requires last { Each (λ h. h.question.number < requests.old.asked + 1) requests.old.held }
-    ensures ok { OnOk result (requests.new ≡ held_newest server question.agent asked.now question.draw deadline applied requests.old) }
+    ensures ok { OnOk result (requests.new ≡ held_newest server question.agent question.asked question.draw deadline applied requests.old) }
     ensures err { OnErr result (requests.new ≡ requests.old) }
 {
     let number = question.number();
-    if number_newest(requests, question.agent(), asked, question.draw()).is_err() {
+    if number_newest(
+        requests,
+        question.agent(),
+        question.asked(),
+        question.draw(),
+    )
+    .is_err()
+    {
         drop(question);
         return Err(Memory);
     }
@@ -104,25 +106,25 @@ pub fn hold_newest(
     deadline: u64,
     applied: u64,
 ) -> Result<(), Memory>
-    requires made { IsMadeLast requests.old.notes }
+    requires made { IsMadeLast requests.old.past }
     requires last { Each (λ h. h.question.number < requests.old.asked + 1) requests.old.held }
     ensures ok { OnOk result (requests.new ≡ held_newest server agent asked.now draw deadline applied requests.old) }
     ensures err { OnErr result (requests.new ≡ requests.old) }
 {
     let number = requests.asked().checked_add(1).ok_or(Memory)?;
     let question = copied_question(number, agent, asked, draw)?;
-    hold_question(requests, server, asked, question, deadline, applied)
+    hold_question(requests, server, question, deadline, applied)
 }
 
 /// Answers it.
 pub fn answer_newest(
     requests: &mut Requests,
     agent: u32,
-    asked: &Shared<Asked>,
+    asked: &Asked,
     draw: Draw,
-    reply: MarkedReply,
+    reply: Reply,
 ) -> Result<(), Memory>
-    requires { IsMadeLast requests.old.notes }
+    requires { IsMadeLast requests.old.past }
     ensures ok { OnOk result (requests.new ≡ answered_newest agent asked.now draw reply requests.old) }
     ensures err { OnErr result (requests.new ≡ requests.old) }
 {
@@ -132,26 +134,6 @@ pub fn answer_newest(
     }
     requests.give(reply);
     Ok(())
-}
-
-// An answer that was made before, with a copy of what was asked.
-#[derive(Drop)]
-struct NewAnswer {
-    asked: Shared<Asked>,
-    reply: MarkedReply,
-}
-
-// A copy of what was asked beside its reply.
-fn with_copy(asked: &Shared<Asked>, reply: MarkedReply) -> Result<NewAnswer, Memory>
-    ensures { IfOk result (λ answer. answer ≡ record { asked = asked.now; reply = reply }) }
-{
-    match asked.share() {
-        Ok(asked) => Ok(NewAnswer { asked, reply }),
-        Err(Memory) => {
-            drop(reply);
-            Err(Memory)
-        }
-    }
 }
 
 // Takes room, and renews a session.
@@ -176,19 +158,18 @@ fn give_renewal(
     requests: &mut Requests,
     server: u32,
     agent: u32,
+    asked: &Asked,
     draw: Draw,
-    answer: NewAnswer,
-    number: u64,
+    reply: Reply,
     applied: u64,
 )
-    requires made { IsMadeLast requests.old.notes }
-    requires room { 3 ≤ requests.old.room }
-    ensures { GivesRenewal server agent draw answer number applied requests.old requests.new }
+    requires made { IsMadeLast requests.old.past }
+    requires room { 2 ≤ requests.old.room }
+    ensures { GivesRenewal server agent asked.now draw reply applied requests.old requests.new }
 {
-    let NewAnswer { asked, reply } = answer;
     requests.number(agent, asked, draw);
     requests.start(Start::Looked {
-        number,
+        number: reply.number(),
         server,
         applied,
     });
@@ -202,12 +183,12 @@ pub fn renew_newest<K: Keeper>(
     requests: &mut Requests,
     server: u32,
     agent: u32,
-    asked: &Shared<Asked>,
+    asked: &Asked,
     draw: Draw,
     id: u128,
 ) -> Result<(), Memory>
     requires server { IsNumber server servers.old.world }
-    requires made { IsMadeLast requests.old.notes }
+    requires made { IsMadeLast requests.old.past }
     ensures servers { OnOk result (servers.new ≡ renewed_in server id servers.old) }
     ensures requests { let own = server_of servers.old.servers server in OnOk result (requests.new ≡ renewed_newest server agent asked.now draw (length own.applied) (session_at id (catalog_at (commands_of own.applied)).sessions) requests.old) }
     ensures same { OnErr result (servers.new ≡ servers.old) }
@@ -216,12 +197,11 @@ pub fn renew_newest<K: Keeper>(
     let number = requests.asked().checked_add(1).ok_or(Memory)?;
     let applied = servers.applied(server);
     let reply = renewed(number, applied, servers.session(server, id))?;
-    let answer = with_copy(asked, reply)?;
     if renew_session(servers, requests, server, id).is_err() {
-        drop(answer);
+        drop(reply);
         return Err(Memory);
     }
-    give_renewal(requests, server, agent, draw, answer, number, applied);
+    give_renewal(requests, server, agent, asked, draw, reply, applied);
     Ok(())
 }
 
@@ -250,12 +230,12 @@ pub fn answer_own(
     requests: &mut Requests,
     alloc: Global,
     agent: u32,
-    asked: &Shared<Asked>,
+    asked: &Asked,
     op: &AgentOp,
     draw: Draw,
 ) -> Result<(), Memory>
     requires agent { IsThere agents.old agent }
-    requires made { IsMadeLast requests.old.notes }
+    requires made { IsMadeLast requests.old.past }
     ensures agents { OnOk result (agents.new ≡ agents_with agent (change agent op.now (agent_at agents.old agent)) agents.old) }
     ensures requests { OnOk result (requests.new ≡ answered_newest agent asked.now draw (own_reply (requests.old.asked + 1) agent op.now agents.old) requests.old) }
     ensures same { OnErr result (agents.new ≡ agents.old) }
@@ -263,12 +243,10 @@ pub fn answer_own(
 {
     let number = requests.asked().checked_add(1).ok_or(Memory)?;
     let reply = own_reply(alloc, agents, number, agent, op)?;
-    let answer = with_copy(asked, reply)?;
     if change_own(agents, requests, alloc, agent, op).is_err() {
-        drop(answer);
+        drop(reply);
         return Err(Memory);
     }
-    let NewAnswer { asked, reply } = answer;
     requests.number(agent, asked, draw);
     requests.give(reply);
     Ok(())

@@ -1,7 +1,6 @@
 //! What becomes of commands that a server proposes for no request.
 
 ghost use Rattle.std.specs.Prelude.{◌≡◌, ◌≤◌, length, true};
-ghost use Rattle.raft_model.specs.World.{IsReached};
 ghost use Rattle.cluster_rules.specs.Cluster.{runs_leading};
 ghost use Rattle.cluster_parts.specs.Proposing.{EndsProposal, ProposesAll, ProposesOne};
 ghost use Rattle.cluster_parts.specs.Standing.{Stands};
@@ -9,7 +8,7 @@ ghost use Rattle.cluster_parts.specs.Watching.{Watching};
 
 use crate::copying::shared_copy;
 use crate::moving::{Seen, mark_step, see};
-use cat_model::{Command, Memory};
+use cat_model::{Command, Entry, Memory};
 use cat_outside::Keeper;
 use cluster_servers::Servers;
 use open_requests::Requests;
@@ -33,19 +32,18 @@ fn end_proposal(
     server: u32,
     before: Seen,
     now: Seen,
+    agreed: &[Entry],
     proposed: Result<Place, ProposeFault>,
 ) -> Result<bool, Memory>
-    requires room { 4 ≤ requests.old.room }
-    requires grown { before.agreed ≤ now.agreed }
-    ensures { EndsProposal before now server proposed result requests.old requests.new }
+    ensures { EndsProposal before now server agreed.now proposed result requests.old requests.new }
 {
     match proposed {
         Ok(_) => {
-            mark_step(requests, server, before, now);
+            mark_step(requests, server, before, now, agreed);
             Ok(true)
         }
         Err(ProposeFault::Full | ProposeFault::Halted) => {
-            mark_step(requests, server, before, now);
+            mark_step(requests, server, before, now, agreed);
             Ok(false)
         }
         Err(ProposeFault::NotLeader | ProposeFault::Memory) => Err(Memory),
@@ -62,19 +60,14 @@ fn propose_one<K: Keeper + Drop>(
 ) -> Result<bool, Memory>
     requires first { 1 ≤ server }
     requires last { server ≤ length servers.old.servers }
-    requires reached { IsReached servers.old.world }
     requires leads { runs_leading servers.old.world server ≡ true }
     ensures { ProposesOne server command.now servers.old requests.old servers.new requests.new result }
 {
     let copy = shared_copy(alloc, command)?;
-    if requests.prepare().is_err() {
-        drop(copy);
-        return Err(Memory);
-    }
     let before = see(servers, server);
     let proposed = servers.propose(alloc, server, 0, copy);
     let now = see(servers, server);
-    end_proposal(requests, server, before, now, proposed)
+    end_proposal(requests, server, before, now, servers.agreed(), proposed)
 }
 
 /// Proposes commands at a server that leads, in their order and for no request, up to the first that the log has no

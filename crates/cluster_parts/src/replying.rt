@@ -19,7 +19,7 @@ use cat_model::{
     AgentOp, Applied, Asked, Command, Kind, Memory, Mode, Refusal, Request, SessionRow, Shared,
     Text,
 };
-use open_requests::{Content, MarkedReply, Question};
+use open_requests::{Content, Question, Reply};
 use std::alloc::Global;
 
 fn copy_of(row: Option<&SessionRow>) -> Result<Option<SessionRow>, Memory>
@@ -32,7 +32,7 @@ fn copy_of(row: Option<&SessionRow>) -> Result<Option<SessionRow>, Memory>
 }
 
 /// The reply to a renewal at this prefix, where the session has this row, or is not there.
-pub fn renewed(number: u64, prefix: u64, row: Option<&SessionRow>) -> Result<MarkedReply, Memory>
+pub fn renewed(number: u64, prefix: u64, row: Option<&SessionRow>) -> Result<Reply, Memory>
     ensures { IfOk result (λ reply. reply ≡ reply_with number (SpecKind.Seen SpecMode.Default prefix) false 0 (replies.Renews (option_copied row.entry))) }
 {
     let content = Content::Renews(copy_of(row)?);
@@ -40,7 +40,7 @@ pub fn renewed(number: u64, prefix: u64, row: Option<&SessionRow>) -> Result<Mar
         mode: Mode::Default,
         prefix,
     };
-    MarkedReply::new(number, kind, false, 0, content)
+    Ok(Reply::new(number, kind, false, 0, content))
 }
 
 // What a write shows that locks this key.
@@ -65,12 +65,12 @@ pub fn deferred(
     key: &str,
     until: u64,
     now: u64,
-) -> Result<MarkedReply, Memory>
+) -> Result<Reply, Memory>
     ensures { IfOk result (λ reply. reply ≡ reply_with number (SpecKind.Delayed key.now until now) false 0 (Defers command.now key.now)) }
 {
     let content = defers(alloc, command, key)?;
     match Text::new(alloc, key) {
-        Ok(key) => MarkedReply::new(number, Kind::Delayed { key, until, now }, false, 0, content),
+        Ok(key) => Ok(Reply::new(number, Kind::Delayed { key, until, now }, false, 0, content)),
         Err(Memory) => {
             drop(content);
             Err(Memory)
@@ -88,12 +88,12 @@ fn not_found(alloc: Global, op: &AgentOp) -> Result<Refusal, Memory>
 }
 
 // The refusal of a request that names what an agent doesn't have.
-fn refusing(alloc: Global, number: u64, op: &AgentOp) -> Result<MarkedReply, Memory>
+fn refusing(alloc: Global, number: u64, op: &AgentOp) -> Result<Reply, Memory>
     ensures { let why = refusal.NotFound (unknown op.now) in IfOk result (λ reply. reply ≡ reply_with number (SpecKind.Refused why) false 0 (Says why)) }
 {
     let why = not_found(alloc, op)?;
     match not_found(alloc, op) {
-        Ok(again) => MarkedReply::new(number, Kind::Refused(why), false, 0, Content::Says(again)),
+        Ok(again) => Ok(Reply::new(number, Kind::Refused(why), false, 0, Content::Says(again))),
         Err(Memory) => {
             drop(why);
             Err(Memory)
@@ -108,19 +108,19 @@ fn telling(
     number: u64,
     agent: u32,
     op: &AgentOp,
-) -> Result<MarkedReply, Memory>
+) -> Result<Reply, Memory>
     requires { IsThere agents.now agent }
     ensures { let body = agent_body agent op.now (agent_at agents.now agent) in IfOk result (λ reply. reply ≡ reply_with number (SpecKind.Local body) false 0 (Holds body)) }
 {
     let body = agents.body(alloc, agent, op)?;
     match agents.body(alloc, agent, op) {
-        Ok(again) => MarkedReply::new(
+        Ok(again) => Ok(Reply::new(
             number,
             Kind::Local { body },
             false,
             0,
             Content::Holds(again),
-        ),
+        )),
         Err(Memory) => {
             drop(body);
             Err(Memory)
@@ -135,7 +135,7 @@ pub fn own_reply(
     number: u64,
     agent: u32,
     op: &AgentOp,
-) -> Result<MarkedReply, Memory>
+) -> Result<Reply, Memory>
     requires { IsThere agents.now agent }
     ensures { IfOk result (λ reply. reply ≡ own_reply number agent op.now agents.now) }
 {

@@ -6,7 +6,7 @@ ghost use Rattle.cluster_rules.specs.Replies.{entered};
 
 use crate::entering::entered;
 use crate::writing::Write;
-use cat_model::{Asked, Command, Entry, Memory, Shared};
+use cat_model::{Command, Entry, Memory, Shared};
 use command_codec::encoded_len;
 use open_requests::Question;
 use std::alloc::Global;
@@ -39,19 +39,12 @@ fn total(bytes: u64, command: &Command) -> Result<u64, Memory>
     Ok(all)
 }
 
-// A write with all its parts.
-fn with_bytes(
-    question: Question,
-    entry: Entry,
-    asked: &Shared<Asked>,
-    entries: u64,
-    bytes: u64,
-) -> Result<Write, Memory>
-    ensures { IfOk result (λ write. write ≡ record { asked = asked.now; question = question; entry = entry; entries = entries; bytes = bytes }) }
+// A write with its entry, behind so many bytes of the log.
+fn with_entry(question: Question, entry: Entry, entries: u64, before: u64) -> Result<Write, Memory>
+    ensures { IfOk result (λ write. write ≡ record { question = question; entry = entry; entries = entries; bytes = before + bytes_of_command entry.command }) }
 {
-    match asked.share() {
-        Ok(asked) => Ok(Write {
-            asked,
+    match total(before, &entry.command) {
+        Ok(bytes) => Ok(Write {
             question,
             entry,
             entries,
@@ -65,40 +58,19 @@ fn with_bytes(
     }
 }
 
-// A write with its entry, behind so many bytes of the log.
-fn with_entry(
-    question: Question,
-    entry: Entry,
-    asked: &Shared<Asked>,
-    entries: u64,
-    before: u64,
-) -> Result<Write, Memory>
-    ensures { IfOk result (λ write. write ≡ record { asked = asked.now; question = question; entry = entry; entries = entries; bytes = before + bytes_of_command entry.command }) }
-{
-    match total(before, &entry.command) {
-        Ok(bytes) => with_bytes(question, entry, asked, entries, bytes),
-        Err(Memory) => {
-            drop(question);
-            drop(entry);
-            Err(Memory)
-        }
-    }
-}
-
 /// A write with its question, which a leader of this term enters behind so many bytes of its log.
 pub fn with_question(
     alloc: Global,
     question: Question,
     term: u64,
-    asked: &Shared<Asked>,
     command: &Shared<Command>,
     entries: u64,
     before: u64,
 ) -> Result<Write, Memory>
-    ensures { let enters = entered question command.now in IfOk result (λ write. write ≡ record { asked = asked.now; question = question; entry = record { term = term; number = question.number; command = enters }; entries = entries; bytes = before + bytes_of_command enters }) }
+    ensures { let enters = entered question command.now in IfOk result (λ write. write ≡ record { question = question; entry = record { term = term; number = question.number; command = enters }; entries = entries; bytes = before + bytes_of_command enters }) }
 {
     match entry_of(alloc, &question, term, command) {
-        Ok(entry) => with_entry(question, entry, asked, entries, before),
+        Ok(entry) => with_entry(question, entry, entries, before),
         Err(Memory) => {
             drop(question);
             Err(Memory)

@@ -2,12 +2,12 @@
 
 ghost use Rattle.std.specs.Prelude.{◌≡◌, ◌<◌, ◌≤◌};
 ghost use Rattle.std.specs.List.{AllByRecursion as Each};
-ghost use Rattle.open_requests.specs.Notes.{IsMadeLast};
+ghost use Rattle.open_requests.specs.Past.{IsMadeLast};
 ghost use Rattle.open_requests.specs.Plain.{refusal_of};
 ghost use Rattle.cluster_parts.specs.Asking.{EndsWrite, HoldsWrite, RefusesWrite};
 
 use crate::moving::{Seen, mark_step};
-use cat_model::{Asked, Entry, Memory, Shared};
+use cat_model::{Entry, Memory};
 use open_requests::{Plain, Question, Requests, Stand, Start};
 use raft_model::Place;
 use raft_node::ProposeFault;
@@ -15,9 +15,7 @@ use raft_node::ProposeFault;
 /// A write with its number, and its copies.
 #[derive(Drop)]
 pub struct Write {
-    /// What is asked.
-    pub asked: Shared<Asked>,
-    /// The same with its number.
+    /// What is asked, with its number.
     pub question: Question,
     /// The entry that it enters.
     pub entry: Entry,
@@ -33,24 +31,19 @@ fn refuse_write(
     server: u32,
     before: Seen,
     now: Seen,
+    agreed: &[Entry],
     write: Write,
     why: Plain,
 )
-    requires room { 4 ≤ requests.old.room }
-    requires made { IsMadeLast requests.old.notes }
-    requires grown { before.agreed ≤ now.agreed }
-    ensures { RefusesWrite write before now server (refusal_of why) requests.old requests.new }
+    requires room { 2 ≤ requests.old.room }
+    requires made { IsMadeLast requests.old.past }
+    ensures { RefusesWrite write before now server agreed.now (refusal_of why) requests.old requests.new }
 {
-    let Write {
-        asked,
-        question,
-        entry,
-        ..
-    } = write;
-    drop(entry);
+    let question = &write.question;
     let number = question.number();
-    requests.number(question.agent(), asked, question.draw());
-    mark_step(requests, server, before, now);
+    requests.number(question.agent(), question.asked(), question.draw());
+    drop(write);
+    mark_step(requests, server, before, now, agreed);
     requests.refuse(number, why);
 }
 
@@ -60,23 +53,22 @@ fn hold_write(
     server: u32,
     before: Seen,
     now: Seen,
+    agreed: &[Entry],
     write: Write,
     place: Place,
 )
-    requires room { 4 ≤ requests.old.room }
-    requires made { IsMadeLast requests.old.notes }
-    requires grown { before.agreed ≤ now.agreed }
+    requires room { 2 ≤ requests.old.room }
+    requires made { IsMadeLast requests.old.past }
     requires last { Each (λ h. h.question.number < write.question.number) requests.old.held }
-    ensures { HoldsWrite write before now server place requests.old requests.new }
+    ensures { HoldsWrite write before now server agreed.now place requests.old requests.new }
 {
     let Write {
-        asked,
         question,
         entry,
         ..
     } = write;
-    requests.number(question.agent(), asked, question.draw());
-    mark_step(requests, server, before, now);
+    requests.number(question.agent(), question.asked(), question.draw());
+    mark_step(requests, server, before, now, agreed);
     let stand = Stand::AtPlace {
         index: place.index,
         term: place.term,
@@ -94,18 +86,18 @@ pub fn end_write(
     server: u32,
     before: Seen,
     now: Seen,
+    agreed: &[Entry],
     write: Write,
     proposed: Result<Place, ProposeFault>,
 ) -> Result<(), Memory>
-    requires room { 4 ≤ requests.old.room }
-    requires made { IsMadeLast requests.old.notes }
-    requires grown { before.agreed ≤ now.agreed }
+    requires room { 2 ≤ requests.old.room }
+    requires made { IsMadeLast requests.old.past }
     requires last { Each (λ h. h.question.number < write.question.number) requests.old.held }
-    ensures { EndsWrite write before now server proposed result requests.old requests.new }
+    ensures { EndsWrite write before now server agreed.now proposed result requests.old requests.new }
 {
     match proposed {
         Ok(place) => {
-            hold_write(requests, server, before, now, write, place);
+            hold_write(requests, server, before, now, agreed, write, place);
             Ok(())
         }
         Err(ProposeFault::Full) => {
@@ -113,7 +105,7 @@ pub fn end_write(
                 entries: write.entries,
                 bytes: write.bytes,
             };
-            refuse_write(requests, server, before, now, write, why);
+            refuse_write(requests, server, before, now, agreed, write, why);
             Ok(())
         }
         Err(ProposeFault::Halted) => {
@@ -122,6 +114,7 @@ pub fn end_write(
                 server,
                 before,
                 now,
+                agreed,
                 write,
                 Plain::Halted { server },
             );

@@ -6,3 +6,4 @@ pub mod Clocked
 pub mod Numbering
 pub mod Pairing
 pub mod AgentSteps
+pub mod Concluding

@@ -94,7 +94,7 @@ under_way_still k a b h d = let there = under_way k a h in (there.0, delivered_t
 pub cut_delivery : (k : ℕ) (a b : Cluster) → HasLowest (Some k) a → FindsNoMemory (event.Deliver k) a b → IsPartOfPair a b
 cut_delivery k a b h (inl e) = inl e
 cut_delivery k a b (p, l, e) (inr d) =
-    inr (p, l, subst (λ n. IsUnderWay a n) (sym e) (under_way k a (p, l, e)), inl (subst (λ n. ClusterStep a (event.Deliver n) b false) (sym e) d))
+    inr (p, l, subst (λ n. IsUnderWay a n) (sym e) (under_way k a (p, l, e)), subst (λ n. ClusterStep a (event.Deliver n) b false) (sym e) d)
 
 pub pair_is : (k : ℕ) (a b c : Cluster) → HasLowest (Some k) a → ClusterStep a (event.Deliver k) b true → ClusterStep b (event.Drop k) c true → IsPair a c
 pair_is k a b c (p, l, e) d s = (
@@ -106,12 +106,3 @@ pair_is k a b c (p, l, e) d s = (
   subst (λ n. IsUnderWay b n) (sym e) (under_way_still k a b (p, l, e) d),
   subst (λ n. ClusterStep b (event.Drop n) c true) (sym e) s,
 )
-
-pub cut_loss : (k : ℕ) (a b c : Cluster) → HasLowest (Some k) a → ClusterStep a (event.Deliver k) b true → c ≡ b → IsPartOfPair a c
-cut_loss k a b c (p, l, e) d s =
-    inr (
-      p,
-      l,
-      subst (λ n. IsUnderWay a n) (sym e) (under_way k a (p, l, e)),
-      inr (b, subst (λ n. ClusterStep a (event.Deliver n) b true) (sym e) d, subst (λ n. IsUnderWay b n) (sym e) (under_way_still k a b (p, l, e) d), inl s),
-    )

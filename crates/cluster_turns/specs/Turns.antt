@@ -1,5 +1,5 @@
 -- What the parts of an event do: one work that is due, all that is due, the act, and the whole event.
-use Rattle.std.specs.Prelude.{◌≡◌, ◌≢◌, ◌⊎◌, ℕ, suc, Bool, true, false, List, [], ◌∷◌, length, None, Some}
+use Rattle.std.specs.Prelude.{◌≡◌, ◌≢◌, ◌⊎◌, ℕ, suc, Bool, true, false, List, [], ◌∷◌, length, None, Some, Result, Ok, Err}
 use Rattle.cat_model.specs.declared.request.Asked.{Asked}
 use Rattle.cat_model.specs.declared.request.Draw.{Draw}
 use Rattle.cat_model.specs.declared.request.Event.{Event}
@@ -14,7 +14,7 @@ use Rattle.cluster_rules.specs.Due.{Work, due, IsDue, did, Works, IsMadeUp}
 use Rattle.cluster_rules.specs.Requests as rules
 use Rattle.cluster_rules.specs.Requests.{Handles, Answers, Goes, way, asked_server, moved}
 use Rattle.cluster_rules.specs.Proposals.{Tends}
-use Rattle.cluster_rules.specs.Step.{Acts, Remembers, Does, ClusterStep}
+use Rattle.cluster_rules.specs.Step.{Acts, Remembers, Does, ClusterStep, noted, shelved}
 use Rattle.cluster_turns.specs.declared.cut.Cut.{Cut}
 use Rattle.cluster_turns.specs.declared.cut.Cut.TheVariants.{Before, Within}
 use Rattle.cluster_turns.specs.declared.parts.Way.{Way}
@@ -75,6 +75,21 @@ IsCut i made Within c c' = WorkedSome i c c' ⊎ ((c₁ : Cluster) × IsMadeUp i
 -- an event that found no memory changed nothing, or was cut short
 abbrev pub FindsNoMemory : Event → Cluster → Cluster → Type 0
 FindsNoMemory made c c' = (c' ≡ c) ⊎ ClusterStep c made c' false
+
+-- an event was noted, and nothing else happened since
+abbrev pub IsJustNoted : Cluster → Type 0
+IsJustNoted c = (made : Event) × (before : Cluster) × (c ≡ noted made before)
+
+-- it is as if that event had not come
+abbrev pub Forgets : Cluster → Cluster → Type 0
+Forgets c c' = (made : Event) (before : Cluster) → c ≡ noted made before → c' ≡ before
+
+-- An event that was noted is over, and its outs join the tray. One that has changed nothing is forgotten.
+abbrev pub Concludes : {T U E : Type 0} → Result T Cut → Result U E → Cluster → Cluster → Type 0
+Concludes (Ok done) (Ok value) c c' = c' ≡ shelved c
+Concludes (Err Before) (Err lack) c c' = Forgets c c'
+Concludes (Err Within) (Err lack) c c' = c' ≡ shelved c
+Concludes done result c c' = ⊥
 
 -- The request that was noted last is this one; answers alone came since.
 abbrev pub IsCome : ℕ → Asked → Draw → List Mark → Type 0

@@ -11,7 +11,7 @@ use crate::agent_event::{AgentEvent, is_for_agent};
 use crate::cut::Cut;
 use crate::parts::{Parts, Way};
 use crate::syncing::happen;
-use crate::turns::{cut_after, finish, make_up};
+use crate::turns::{conclude, cut_after, finish, make_up};
 use cat_model::{Asked, Draw, Memory, Refusal, Shared, Steps};
 use std::alloc::Global;
 use std::sync::ledger::Ledger;
@@ -63,21 +63,9 @@ fn ask_at<P: Parts, L: Ledger>(
     ensures cut { OnErr result (FindsNoMemory (event.Ask agent asked.now draw) (P.state parts.old) (P.state parts.new)) }
     ensures counted { EvaluatesFor (event.Ask agent asked.now draw) result steps.old steps.new (P.state parts.old) (P.state parts.new) }
 {
-    parts.note_request(alloc, agent, asked, draw)?;
-    match serve(parts, alloc, server, agent, asked, draw, steps) {
-        Ok(()) => {
-            parts.shelve();
-            Ok(())
-        }
-        Err(Cut::Before) => {
-            parts.forget();
-            Err(Memory)
-        }
-        Err(Cut::Within) => {
-            parts.shelve();
-            Err(Memory)
-        }
-    }
+    parts.note_request(agent, asked, draw);
+    let done = serve(parts, alloc, server, agent, asked, draw, steps);
+    conclude(parts, done)
 }
 
 // Makes the event of a request that is refused at once.

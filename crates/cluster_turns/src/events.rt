@@ -7,10 +7,9 @@ ghost use Rattle.cluster_rules.specs.Step.{ClusterStep, goes_to};
 ghost use Rattle.cluster_turns.specs.Evaluations.{Adds, EvaluatesFor};
 ghost use Rattle.cluster_turns.specs.Turns.{FindsNoMemory, event_of};
 
-use crate::cut::Cut;
 use crate::impulse::Impulse;
 use crate::parts::Parts;
-use crate::turns::react;
+use crate::turns::{conclude, react};
 use cat_model::{Event, Memory, Steps};
 use std::alloc::Global;
 use std::sync::ledger::Ledger;
@@ -31,21 +30,9 @@ fn impel<P: Parts, L: Ledger>(
     ensures cut { OnErr result (FindsNoMemory (event_of impulse) (P.state parts.old) (P.state parts.new)) }
     ensures counted { EvaluatesFor (event_of impulse) result steps.old steps.new (P.state parts.old) (P.state parts.new) }
 {
-    parts.note(alloc, impulse.event())?;
-    match react(parts, alloc, server, impulse, steps) {
-        Ok(()) => {
-            parts.shelve();
-            Ok(())
-        }
-        Err(Cut::Before) => {
-            parts.forget();
-            Err(Memory)
-        }
-        Err(Cut::Within) => {
-            parts.shelve();
-            Err(Memory)
-        }
-    }
+    parts.note(&impulse.event());
+    let done = react(parts, alloc, server, impulse, steps);
+    conclude(parts, done)
 }
 
 /// The server's election timeout is over.
@@ -126,14 +113,12 @@ pub fn fail_keep<P: Parts, L: Ledger>(
 }
 
 /// The message with this number is lost.
-pub fn lose<P: Parts>(parts: &mut P, alloc: Global, number: u64) -> Result<(), Memory>
+pub fn lose<P: Parts>(parts: &mut P, number: u64)
     requires { IsUnderWay (P.state parts.old) number }
-    ensures whole { OnOk result (ClusterStep (P.state parts.old) (event.Drop number) (P.state parts.new) true) }
-    ensures same { OnErr result (P.state parts.new ≡ P.state parts.old) }
+    ensures whole { ClusterStep (P.state parts.old) (event.Drop number) (P.state parts.new) true }
     ensures counted { Adds 0 (P.state parts.old) (P.state parts.new) }
 {
-    parts.note(alloc, Event::Drop(number))?;
+    parts.note(&Event::Drop(number));
     parts.lose(number);
     parts.shelve();
-    Ok(())
 }

@@ -34,7 +34,10 @@ pub fn make<P: Parts, L: Ledger>(
         Event::Beat(server) => beat(parts, alloc, *server, steps),
         Event::Tick(server, ms) => tick(parts, alloc, *server, *ms, steps),
         Event::Deliver(number) => deliver(parts, alloc, *number, steps),
-        Event::Drop(number) => lose(parts, alloc, *number),
+        Event::Drop(number) => {
+            lose(parts, *number);
+            Ok(())
+        }
         Event::Restart(server) => restart(parts, alloc, *server, steps),
         Event::FailKeep(server, nth) => fail_keep(parts, alloc, *server, *nth, steps),
         Event::Ask { agent, asked, draw } => request(parts, alloc, *agent, asked, *draw, steps),

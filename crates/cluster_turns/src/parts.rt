@@ -53,21 +53,13 @@ pub trait Parts {
         ensures counted { EvaluatesIn (lacking result) steps.old steps.new (state self.old) (state self.new) };
 
     /// Marks an event, whatever it is.
-    fn note(&mut self, alloc: Global, made: Event) -> Result<(), Memory>
-        ensures ok { OnOk result (state self.new ≡ noted made (state self.old)) }
-        ensures err { OnErr result (state self.new ≡ state self.old) };
+    fn note(&mut self, made: &Event)
+        ensures { state self.new ≡ noted made.now (state self.old) };
 
     /// Marks an event that is a request, of which the number is still to be given.
-    fn note_request(
-        &mut self,
-        alloc: Global,
-        agent: u32,
-        asked: &Shared<Asked>,
-        draw: Draw,
-    ) -> Result<(), Memory>
+    fn note_request(&mut self, agent: u32, asked: &Asked, draw: Draw)
         requires { takes asked.now }
-        ensures ok { OnOk result (state self.new ≡ noted (event.Ask agent asked.now draw) (state self.old)) }
-        ensures err { OnErr result (state self.new ≡ state self.old) };
+        ensures { state self.new ≡ noted (event.Ask agent asked.now draw) (state self.old) };
 
     /// Takes the mark of an event back that has changed nothing.
     fn forget(&mut self)
@@ -115,9 +107,8 @@ pub trait Parts {
         ensures { HasLowest result (state self.now) };
 
     /// Marks so many pairs of a delivery and the message's loss.
-    fn settled(&mut self, alloc: Global, pairs: u32) -> Result<(), Memory>
-        ensures ok { OnOk result (state self.new ≡ settled pairs (state self.old)) }
-        ensures err { OnErr result (state self.new ≡ state self.old) };
+    fn settled(&mut self, pairs: u32)
+        ensures { state self.new ≡ settled pairs (state self.old) };
 
     /// Where a request goes that no agent answers.
     fn way(&self, alloc: Global, agent: u32, asked: &Shared<Asked>) -> Result<Way, Memory>

@@ -25,7 +25,8 @@ fn pair<P: Parts, L: Ledger>(
     ensures counted { EvaluatesIn (lacking result) steps.old steps.new (P.state parts.old) (P.state parts.new) }
 {
     deliver(parts, alloc, number, steps)?;
-    lose(parts, alloc, number)
+    lose(parts, number);
+    Ok(())
 }
 
 /// Delivers the message with the lowest number and loses it, again and again, at most so often. Gives how often. It
@@ -49,6 +50,6 @@ pub fn settle<P: Parts, L: Ledger>(
         }
         pairs += 1;
     }
-    parts.settled(alloc, pairs)?;
+    parts.settled(pairs);
     Ok(pairs)
 }

@@ -12,7 +12,7 @@ ghost use Rattle.cluster_turns.specs.AgentEvents.{IsAlone, IsNoted, IsSynced, Is
 use crate::agent_event::AgentEvent;
 use crate::cut::Cut;
 use crate::parts::{Parts, Way};
-use crate::turns::{cut_after, finish, make_up};
+use crate::turns::{conclude, cut_after, finish, make_up};
 use cat_model::{Event, Memory, Steps};
 use std::alloc::Global;
 use std::sync::ledger::Ledger;
@@ -39,15 +39,14 @@ fn stay<P: Parts>(
 }
 
 // Marks an agent's event. A request gets its number later.
-fn note<P: Parts>(parts: &mut P, alloc: Global, event: &AgentEvent) -> Result<(), Memory>
+fn note<P: Parts>(parts: &mut P, event: &AgentEvent)
     requires { IsTaken P.takes (event_of_agent event.now) }
-    ensures ok { OnOk result (P.state parts.new ≡ noted (event_of_agent event.now) (P.state parts.old)) }
-    ensures err { OnErr result (P.state parts.new ≡ P.state parts.old) }
+    ensures { P.state parts.new ≡ noted (event_of_agent event.now) (P.state parts.old) }
 {
     match event {
-        AgentEvent::Sync { agent } => parts.note(alloc, Event::Sync(*agent)),
-        AgentEvent::Tick { agent, ms } => parts.note(alloc, Event::AgentTick(*agent, *ms)),
-        AgentEvent::Ask { agent, asked, draw } => parts.note_request(alloc, *agent, asked, *draw),
+        AgentEvent::Sync { agent } => parts.note(&Event::Sync(*agent)),
+        AgentEvent::Tick { agent, ms } => parts.note(&Event::AgentTick(*agent, *ms)),
+        AgentEvent::Ask { agent, asked, draw } => parts.note_request(*agent, asked, *draw),
     }
 }
 
@@ -99,21 +98,9 @@ fn sync<P: Parts, L: Ledger>(
     ensures cut { OnErr result (FindsNoMemory (event_of_agent event.now) (P.state parts.old) (P.state parts.new)) }
     ensures counted { EvaluatesFor (event_of_agent event.now) result steps.old steps.new (P.state parts.old) (P.state parts.new) }
 {
-    note(parts, alloc, event)?;
-    match carry_out(parts, alloc, server, event, steps) {
-        Ok(()) => {
-            parts.shelve();
-            Ok(())
-        }
-        Err(Cut::Before) => {
-            parts.forget();
-            Err(Memory)
-        }
-        Err(Cut::Within) => {
-            parts.shelve();
-            Err(Memory)
-        }
-    }
+    note(parts, event);
+    let done = carry_out(parts, alloc, server, event, steps);
+    conclude(parts, done)
 }
 
 // Makes the event of an agent whose sync goes this way.

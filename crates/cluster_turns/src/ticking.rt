@@ -9,7 +9,7 @@ ghost use Rattle.cluster_turns.specs.Turns.{FindsNoMemory, IsDone, IsCut};
 
 use crate::cut::Cut;
 use crate::parts::Parts;
-use crate::turns::{finish, make_up};
+use crate::turns::{conclude, finish, make_up};
 use cat_model::{Event, Memory, Steps};
 use std::alloc::Global;
 use std::sync::ledger::Ledger;
@@ -58,19 +58,7 @@ pub fn tick<P: Parts, L: Ledger>(
     ensures cut { OnErr result (FindsNoMemory (event.Tick server ms) (P.state parts.old) (P.state parts.new)) }
     ensures counted { EvaluatesFor (event.Tick server ms) result steps.old steps.new (P.state parts.old) (P.state parts.new) }
 {
-    parts.note(alloc, Event::Tick(server, ms))?;
-    match go_on(parts, alloc, server, ms, steps) {
-        Ok(()) => {
-            parts.shelve();
-            Ok(())
-        }
-        Err(Cut::Before) => {
-            parts.forget();
-            Err(Memory)
-        }
-        Err(Cut::Within) => {
-            parts.shelve();
-            Err(Memory)
-        }
-    }
+    parts.note(&Event::Tick(server, ms));
+    let done = go_on(parts, alloc, server, ms, steps);
+    conclude(parts, done)
 }

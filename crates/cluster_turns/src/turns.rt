@@ -1,11 +1,11 @@
 //! Making up, and an event's work at its server.
 
-ghost use Rattle.std.specs.Prelude.{◌≡◌, ◌≢◌, None, Some, IfOk, IfErr, OnOk, OnErr};
+ghost use Rattle.std.specs.Prelude.{◌≡◌, ◌≢◌, None, Some, Err, IfOk, IfErr, OnOk, OnErr};
 ghost use Rattle.cluster_rules.specs.Due.{due, Works};
 ghost use Rattle.cluster_rules.specs.Reached.{IsServerNumber, Fits};
 ghost use Rattle.cluster_rules.specs.Step.{goes_to};
 ghost use Rattle.cluster_turns.specs.Evaluations.{EvaluatesFor, EvaluatesIn, lacking};
-ghost use Rattle.cluster_turns.specs.Turns.{MadeUp, FellBehind, IsDone, IsCut, cut_after, event_of};
+ghost use Rattle.cluster_turns.specs.Turns.{Concludes, MadeUp, FellBehind, IsDone, IsCut, IsJustNoted, cut_after, event_of};
 
 use crate::cut::Cut;
 use crate::impulse::Impulse;
@@ -106,5 +106,26 @@ pub fn react<P: Parts, L: Ledger>(
         Ok(()) => finish(parts, alloc, server, steps),
         Err(Cut::Before) => Err(cut_after(was)),
         Err(Cut::Within) => Err(Cut::Within),
+    }
+}
+
+/// Ends an event that was noted, whole or cut short: its outs join the tray. One that has changed nothing loses its mark.
+pub fn conclude<P: Parts>(parts: &mut P, done: Result<(), Cut>) -> Result<(), Memory>
+    requires { done ≡ Err Cut.Before → IsJustNoted (P.state parts.old) }
+    ensures { Concludes done result (P.state parts.old) (P.state parts.new) }
+{
+    match done {
+        Ok(()) => {
+            parts.shelve();
+            Ok(())
+        }
+        Err(Cut::Before) => {
+            parts.forget();
+            Err(Memory)
+        }
+        Err(Cut::Within) => {
+            parts.shelve();
+            Err(Memory)
+        }
     }
 }

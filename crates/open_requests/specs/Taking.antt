@@ -12,7 +12,7 @@ use Rattle.open_requests.specs.declared.collected.Awaits.{Awaits}
 use Rattle.open_requests.specs.declared.collected.Awaits.TheVariants as awaits
 use Rattle.open_requests.specs.declared.collected.Collected.{Collected}
 use Rattle.open_requests.specs.declared.collected.Collected.TheVariants as collected
-use Rattle.open_requests.specs.Notes.{taken_note}
+use Rattle.open_requests.specs.Past.{taken_past}
 use Rattle.open_requests.specs.Requests.{Requests}
 
 -- This out was taken out of the tray, and a request's taking is marked.
@@ -20,11 +20,11 @@ pub record Takes (out : Out) (old new : Requests) : Type 0 where
   pub before : List Out
   pub after : List Out
   pub there : old.tray ≡ before ++ out ∷ after
-  pub is : new ≡ record old { tray = before ++ after; notes = taken_note (number_of out) old.notes }
+  pub is : new ≡ record old { tray = before ++ after; past = taken_past (number_of out) old.past }
 
 -- The first out of the tray was taken.
 abbrev pub TakesFirst : Out → Requests → Requests → Type 0
-TakesFirst out old new = (old.tray ≡ out ∷ new.tray) × (new ≡ record old { tray = new.tray; notes = taken_note (number_of out) old.notes })
+TakesFirst out old new = (old.tray ≡ out ∷ new.tray) × (new ≡ record old { tray = new.tray; past = taken_past (number_of out) old.past })
 
 abbrev pub has_number : Option ℕ → ℕ → Bool
 has_number None number = false
@@ -36,11 +36,15 @@ is_of number out = has_number (number_of out) number
 
 -- the out at this place of the tray was taken
 abbrev pub TakesAt : ℕ → Out → Requests → Requests → Type 0
-TakesAt at out old new = (out ≡ get_or old.tray at out) × (new ≡ record old { tray = remove old.tray at; notes = taken_note (number_of out) old.notes })
+TakesAt at out old new = (out ≡ get_or old.tray at out) × (new ≡ record old { tray = remove old.tray at; past = taken_past (number_of out) old.past })
 
 abbrev pub least_of : Asked → ℕ
 least_of (Good (Read query mode least wait raw)) = least
 least_of other = 0
+
+-- the out at this place is of the request of this number, or of none
+abbrev pub IsNumberAt : ℕ → List Out → Option ℕ → Type 0
+IsNumberAt at outs number = (other : Out) → number ≡ number_of (get_or outs at other)
 
 -- what a request with this stand waits for
 abbrev pub awaits_of : Asked → Stand → Awaits

@@ -1,30 +1,31 @@
 //! The requests of a cluster.
 
-ghost use Rattle.std.specs.Prelude.{◌≡◌, ◌==◌, ◌<◌, ◌+◌, [], ◌∷◌, IfOk, IfSome, IfNone, None, Some, OnOk, OnErr, true, filter, is_some, length, map, reverse};
+ghost use Rattle.std.specs.Prelude.{◌≡◌, ◌==◌, ◌<◌, ◌+◌, [], ◌∷◌, IfOk, IfSome, IfNone, None, Some, OnOk, OnErr, true, filter, is_some, length, map};
 ghost use Rattle.cat_model.specs.declared.reply.Mark.TheVariants as mark;
-ghost use Rattle.open_requests.specs.declared.note.Note.TheVariants as notes;
 ghost use Rattle.open_requests.specs.Contents.{stand_of, start_of};
 ghost use Rattle.std.specs.List.{AllByRecursion as Each, find, position};
 ghost use Rattle.std.specs.Option.{option_copied};
 ghost use Rattle.cluster_rules.specs.Due.{waiting};
 ghost use Rattle.cluster_rules.specs.Replies.{number_of};
 ghost use Rattle.open_requests.specs.Held.{NumbersAll, held_in};
-ghost use Rattle.open_requests.specs.Notes.{IsJustMade, IsMadeLast, events_noted, past_of};
-ghost use Rattle.open_requests.specs.Requests.{came_with, empty, ended_all, forgotten, holding_with, joining, noted, numbered_with, restood, shelved_all, used, with_note};
-ghost use Rattle.open_requests.specs.Taking.{IsCollected, TakesAt, TakesFirst, is_of};
+ghost use Rattle.cluster_rules.specs.Step.{events_in};
+ghost use Rattle.cat_model.specs.declared.request.Event.TheVariants as event;
+ghost use Rattle.open_requests.specs.Past.{IsJustMade, IsMadeLast};
+ghost use Rattle.open_requests.specs.Requests.{came_with, empty, ended_all, forgotten, holding_with, joining, noted, numbered_with, restood, shelved_all, used, with_mark};
+ghost use Rattle.open_requests.specs.Taking.{IsCollected, IsNumberAt, TakesAt, TakesFirst, is_of};
 
 use crate::collected::Collected;
+use crate::events::{one_less, one_more};
+use crate::giving;
 use crate::held::HeldRequests;
-use crate::history::marks_of;
-use crate::note::Note;
 use crate::out::{Given, Out};
+use crate::past::{Happened, Past};
 use crate::pending::{Pending, Stand, Start};
 use crate::question::Question;
 use crate::room::reserve;
 use crate::slot::HeldSlot;
 use crate::starts::Starts;
-use crate::{giving, noting};
-use cat_model::{Asked, Draw, Entry, Event, List, Mark, Memory, Shared};
+use cat_model::{Asked, Draw, Entry, Event, List, Memory};
 use std::alloc::Global;
 use std::collections::VecDeque;
 use std::marker::Model;
@@ -38,17 +39,18 @@ const CALLS: u64 = 4;
 #[derive(Drop)]
 pub struct Requests {
     pub(crate) asked: u64,
-    pub(crate) events: u64,
+    // How many there were, as long as that fits.
+    pub(crate) events: Option<u64>,
     pub(crate) held: HeldRequests,
     pub(crate) starts: Starts,
     pub(crate) fresh: Vec<Out>,
     pub(crate) tray: VecDeque<Out>,
-    pub(crate) notes: Vec<Note>,
+    pub(crate) past: Past,
     pub(crate) room: u64,
 }
 
 impl Model for Requests {
-    ghost use Rattle.std.specs.Prelude.{map, reverse, vec_len, vec_capacity};
+    ghost use Rattle.std.specs.Prelude.{map, vec_len, vec_capacity};
     ghost use Rattle.std.specs.VecDeque.{deque_len, deque_capacity};
     ghost use Rattle.open_requests.specs.Ordered.{IsOrdered};
     ghost use Rattle.open_requests.specs.Requests as spec;
@@ -63,13 +65,13 @@ impl Model for Requests {
       starts = map start_of r.starts.items;
       fresh = r.fresh.items;
       tray = r.tray.items;
-      notes = reverse r.notes.items;
+      past = r.past.items;
       room = r.room;
     } };
 
     ghost invariant = { λ r.
-        spec.HasRoom r.room (vec_len r.notes) (vec_capacity r.notes) r.held.room (vec_len r.fresh) (vec_capacity r.fresh) (deque_len r.tray) (deque_capacity r.tray)
-        × spec.HasNumbers r.room r.asked r.events (reverse r.notes.items)
+        spec.HasRoom r.room r.held.room (vec_len r.fresh) (vec_capacity r.fresh) (deque_len r.tray) (deque_capacity r.tray)
+        × spec.HasNumbers r.room r.asked r.events r.past.items
         × IsOrdered r.fresh.items };
 }
 
@@ -80,12 +82,12 @@ impl Requests {
     {
         Requests {
             asked: 0,
-            events: 0,
+            events: Some(0),
             held: HeldRequests::new(alloc),
             starts: Starts::new(),
             fresh: Vec::new(alloc),
             tray: VecDeque::new(alloc),
-            notes: Vec::new(alloc),
+            past: Past::new(),
             room: 0,
         }
     }
@@ -95,16 +97,10 @@ impl Requests {
         ensures ok { OnOk result (self.new ≡ record self.old { room = room }) }
         ensures err { OnErr result (self.new ≡ self.old) }
     {
-        if self.asked > u64::MAX - room || self.events > u64::MAX - room {
+        if self.asked > u64::MAX - room {
             return Err(Memory);
         }
-        reserve(
-            &mut self.notes,
-            &mut self.held,
-            &mut self.fresh,
-            &mut self.tray,
-            room,
-        )?;
+        reserve(&mut self.held, &mut self.fresh, &mut self.tray, room)?;
         self.room = room;
         Ok(())
     }
@@ -168,123 +164,93 @@ impl Requests {
         self.held.waiting(server)
     }
 
-    /// What has happened, the first one first.
-    pub fn notes(&self) -> &[Note]
-        ensures { reverse result.now ≡ self.now.notes }
+    /// How many events there were, as long as that fits.
+    pub fn events(&self) -> Option<u64>
+        ensures { IfSome result (λ events. events ≡ events_in self.now.past) }
     {
-        self.notes.as_slice()
+        self.events
     }
 
-    // Puts a note last that is no event's.
-    fn add(&mut self, note: Note)
-        requires room { 0 < self.old.room }
-        requires kind { events_noted (note ∷ self.old.notes) ≡ events_noted self.old.notes }
-        ensures { self.new ≡ used (with_note note self.old) }
+    /// The entries of the agreed log from this place on joined it.
+    #[tactic(auto, using(crate::proofs::Numbering::entries_uncounted))]
+    pub fn join(&mut self, agreed: &[Entry], from: u64)
+        ensures { self.new ≡ joining from agreed.now self.old }
     {
-        noting::add(&mut self.notes, note);
-        self.room -= 1;
+        self.past = self.past.then(&Happened::Joined { agreed, from });
     }
 
-    /// So many entries joined the agreed log, or none did. There is room for it, so that it takes no memory.
-    pub fn join(&mut self, count: u64)
-        requires { 0 < self.old.room }
-        ensures { self.new ≡ used (joining count self.old) }
-    {
-        if count == 0 {
-            self.room -= 1;
-        } else {
-            self.add(Note::Joined(count));
-        }
-    }
-
-    /// The server's durable store failed. There is room for it, so that it takes no memory.
+    /// The server's durable store failed.
     pub fn halt(&mut self, server: u32)
-        requires { 0 < self.old.room }
-        ensures { self.new ≡ used (with_note (notes.Marked (mark.Halted server)) self.old) }
+        ensures { self.new ≡ with_mark (mark.Halted server) self.old }
     {
-        self.add(Note::Marked(Mark::Halted { server }));
-    }
-
-    // Puts the mark of an event last.
-    fn add_event(&mut self, event: Event)
-        requires { 0 < self.old.room }
-        ensures { self.new ≡ used (noted event self.old) }
-    {
-        noting::add(&mut self.notes, Note::Marked(Mark::Made(event)));
-        self.events += 1;
-        self.room -= 1;
+        self.past = self.past.then(&Happened::Halted(server));
     }
 
     /// Marks an event, whatever it is.
-    pub fn note(&mut self, event: Event) -> Result<(), Memory>
-        ensures ok { OnOk result (self.new ≡ noted event self.old) }
-        ensures err { OnErr result (self.new ≡ self.old) }
+    pub fn note(&mut self, made: &Event)
+        ensures { self.new ≡ noted made.now self.old }
     {
-        match self.prepare_one() {
-            Ok(()) => {
-                self.add_event(event);
-                Ok(())
-            }
-            Err(Memory) => {
-                drop(event);
-                Err(Memory)
-            }
-        }
+        self.past = self.past.then(&Happened::Made(made));
+        self.events = one_more(self.events);
     }
 
-    /// Takes the mark of the event at work back, which has changed nothing. It takes no memory.
-    #[tactic(auto, using(crate::proofs::Numbering::made_counted))]
+    /// Marks an event that is a request, of which the number is still to be given.
+    pub fn note_request(&mut self, agent: u32, asked: &Asked, draw: Draw)
+        ensures { self.new ≡ noted (event.Ask agent asked.now draw) self.old }
+    {
+        self.past = self.past.then(&Happened::Requested { agent, asked, draw });
+        self.events = one_more(self.events);
+    }
+
+    /// Takes the mark of the event at work back, which has changed nothing.
+    #[tactic(auto, using(crate::proofs::Numbering::one_forgotten))]
     pub fn forget(&mut self)
-        requires { IsJustMade self.old.notes }
+        requires { IsJustMade self.old.past }
         ensures { self.new ≡ forgotten self.old }
     {
-        noting::take_back(&mut self.notes);
-        self.events -= 1;
+        self.past = self.past.then(&Happened::Forgotten);
+        self.events = one_less(self.events);
     }
 
-    /// The request that was noted last takes its number, and its mark. Answers alone were given since. There is room
-    /// for it, so that it takes no memory.
-    pub fn number(&mut self, agent: u32, asked: Shared<Asked>, draw: Draw)
+    /// The request that was noted last takes its number, and its mark. Answers alone were given since. There is a number
+    /// for it.
+    #[tactic(auto, using(crate::proofs::Numbering::count_stays))]
+    pub fn number(&mut self, agent: u32, asked: &Asked, draw: Draw)
         requires room { 0 < self.old.room }
-        requires made { IsMadeLast self.old.notes }
-        ensures { self.new ≡ used (numbered_with agent asked draw self.old) }
+        requires made { IsMadeLast self.old.past }
+        ensures { self.new ≡ used (numbered_with agent asked.now draw self.old) }
     {
         let number = self.asked + 1;
-        let mark = Mark::Asked {
+        self.past = self.past.then(&Happened::Numbered {
             number,
             agent,
             asked,
             draw,
-        };
-        noting::replace_made(&mut self.notes, Note::Marked(mark));
+        });
         self.asked = number;
         self.room -= 1;
     }
 
     /// Marks so many pairs of a delivery and the message's loss.
-    pub fn settle(&mut self, pairs: u32) -> Result<(), Memory>
-        ensures ok { OnOk result (self.new ≡ with_note (notes.Marked (mark.Settled pairs true)) self.old) }
-        ensures err { OnErr result (self.new ≡ self.old) }
+    pub fn settle(&mut self, pairs: u32)
+        ensures { self.new ≡ with_mark (mark.Settled pairs true) self.old }
     {
-        self.prepare_one()?;
-        self.add(Note::Marked(Mark::Settled { pairs, whole: true }));
-        Ok(())
+        self.past = self.past.then(&Happened::Settled(pairs));
     }
 
-    /// Marks a request that comes with its number. There is room for it, so that it takes no memory.
-    pub fn come(&mut self, agent: u32, asked: Shared<Asked>, draw: Draw)
+    /// Marks a request that comes with its number. There is a number for it.
+    pub fn come(&mut self, agent: u32, asked: &Asked, draw: Draw)
         requires { 0 < self.old.room }
-        ensures { self.new ≡ used (came_with agent asked draw self.old) }
+        ensures { self.new ≡ used (came_with agent asked.now draw self.old) }
     {
         self.asked += 1;
-        self.events += 1;
-        let mark = Mark::Asked {
+        self.past = self.past.then(&Happened::Came {
             number: self.asked,
             agent,
             asked,
             draw,
-        };
-        noting::add(&mut self.notes, Note::Marked(mark));
+        });
+        self.events = one_more(self.events);
         self.room -= 1;
     }
 
@@ -301,14 +267,12 @@ impl Requests {
         self.room -= 1;
     }
 
-    /// Notes what the act of a request's asking did, for proofs alone. There is room for it.
+    /// Notes what the act of a request's asking did.
     pub fn start(&mut self, start: Start)
-        requires { 0 < self.old.room }
-        ensures { self.new ≡ used (record self.old { starts = start_of start ∷ self.old.starts }) }
+        ensures { self.new ≡ record self.old { starts = start_of start ∷ self.old.starts } }
     {
         self.starts = self.starts.with(&start);
         drop(start);
-        self.room -= 1;
     }
 
     /// The held request of a number waits for something else.
@@ -318,21 +282,22 @@ impl Requests {
         self.held.restand(number, stand);
     }
 
-    /// A server restarted in the event that was noted last: each request that it holds is to be closed.
-    pub fn end_all_of(&mut self, server: u32)
+    /// A server restarted in the event that was noted last, which has this number: each request that it holds is to be
+    /// closed.
+    pub fn end_all_of(&mut self, server: u32, event: u64)
+        requires { event ≡ events_in self.old.past }
         ensures { self.new ≡ ended_all server self.old }
     {
-        let event = self.events;
         self.held.end_all(server, event);
     }
 
     /// The same, where these are the numbers of all that the server holds. Each is found in a logarithm, and no other is
     /// looked at.
-    pub fn end_among(&mut self, server: u32, numbers: &[u64])
-        requires { NumbersAll server numbers.now self.old.held }
+    pub fn end_among(&mut self, server: u32, event: u64, numbers: &[u64])
+        requires event { event ≡ events_in self.old.past }
+        requires numbers { NumbersAll server numbers.now self.old.held }
         ensures { self.new ≡ ended_all server self.old }
     {
-        let event = self.events;
         self.held.end_among(server, event, numbers);
     }
 
@@ -351,6 +316,7 @@ impl Requests {
     }
 
     /// Takes the first out of the tray, if there is one.
+    #[tactic(auto, using(crate::proofs::Numbering::taken_uncounted))]
     pub fn next_out(&mut self) -> Option<Out>
         ensures none { IfNone result ((self.old.tray ≡ []) × (self.new ≡ self.old)) }
         ensures some { IfSome result (λ out. TakesFirst out self.old self.new) }
@@ -358,13 +324,29 @@ impl Requests {
         match self.tray.pop_front() {
             None => None,
             Some(out) => {
-                noting::add_taken(&mut self.notes, out.number());
+                self.past = self.past.then(&Happened::Taken(out.number()));
                 Some(out)
             }
         }
     }
 
+    /// How many outs wait to be taken.
+    pub fn outs(&self) -> usize
+        ensures { result ≡ length self.now.tray }
+    {
+        self.tray.len()
+    }
+
+    /// The number of the request whose out stands at this place of the tray, where it is a request's.
+    pub fn out_number(&self, at: usize) -> Option<u64>
+        requires { at < length self.now.tray }
+        ensures { IsNumberAt at self.now.tray result }
+    {
+        self.tray[at].number()
+    }
+
     // Takes the out at a place of the tray.
+    #[tactic(auto, using(crate::proofs::Numbering::taken_uncounted))]
     fn take_at(&mut self, at: usize) -> Out
         requires { at < length self.old.tray }
         ensures { TakesAt at result self.old self.new }
@@ -372,7 +354,7 @@ impl Requests {
         let Some(out) = self.tray.remove(at) else {
             unreachable!()
         };
-        noting::add_taken(&mut self.notes, out.number());
+        self.past = self.past.then(&Happened::Taken(out.number()));
         out
     }
 
@@ -417,27 +399,5 @@ impl Requests {
         ensures { IfOk result (λ numbers. numbers ≡ map (λ h. h.question.number) self.now.held) }
     {
         Ok(List::from(self.held.numbers(alloc)?))
-    }
-
-    /// The marks of what has happened, the first one first, beside the agreed log.
-    #[tactic(auto, using(crate::proofs::Telling::all_told))]
-    pub fn into_marks(self, alloc: Global, agreed: &[Entry]) -> Result<List<Mark>, Memory>
-        ensures { IfOk result (λ marks. marks ≡ reverse (past_of agreed.now self.notes)) }
-    {
-        let Requests {
-            held,
-            starts,
-            fresh,
-            tray,
-            mut notes,
-            ..
-        } = self;
-        let marks = marks_of(alloc, &mut notes, agreed);
-        drop(held);
-        drop(starts);
-        drop(fresh);
-        drop(tray);
-        drop(notes);
-        Ok(List::from(marks?))
     }
 }

@@ -118,10 +118,7 @@ settled_on size pairs c mid c' s all is =
 
 part_on : (size : Size) (c c' : Cluster) → Serves size c → IsPartOfPair c c' → Serves size c'
 part_on size c c' s (inl e) = subst (Serves size) (sym e) s
-part_on size c c' s (inr (p, low, fits, inl short)) = by_move size c c' (event.Deliver p.number) false s tt fits short
-part_on size c c' s (inr (p, low, fits, inr (c₁, first, fits', inl e))) = subst (Serves size) (sym e) (by_move size c c₁ (event.Deliver p.number) true s tt fits first)
-part_on size c c' s (inr (p, low, fits, inr (c₁, first, fits', inr short))) =
-    by_move size c₁ c' (event.Drop p.number) false (by_move size c c₁ (event.Deliver p.number) true s tt fits first) refl fits' short
+part_on size c c' s (inr (p, low, fits, short)) = by_move size c c' (event.Deliver p.number) false s tt fits short
 
 pub partly_on : (size : Size) (most : ℕ) (c c' : Cluster) → Serves size c → IsPartlySettled most c c' → Serves size c'
 partly_on size most c c' s (pairs, few, (c₁, all, part)) = part_on size c₁ c' (settling_on size pairs 0 c c₁ (no_pairs size c s) all).serves part

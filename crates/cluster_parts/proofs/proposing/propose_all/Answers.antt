@@ -1,4 +1,4 @@
-use Rattle.std.proofs.Common.{◌≡◌, ◌+◌, ◌≤◌, ◌∙◌, [], List, Ok, length, refl, sym, ap, subst, arith}
+use Rattle.std.proofs.Common.{◌≡◌, ◌+◌, ◌≤◌, ◌∙◌, List, Ok, length, refl, sym, ap, subst, arith}
 use Rattle.cluster_rules.specs.Cluster.{Server}
 use Rattle.cluster_parts.proofs.ProposedAll.{all_gone, leads_then, none_gone, one_broken, one_gone, one_stopped, same_broken, same_servers}
 use Rattle.cluster_parts.proofs.proposing.propose_all.Goals as goal
@@ -8,9 +8,6 @@ loop-command-init g c = (refl, c.requires.leads, refl, refl, none_gone c.args.se
 
 pub propose_one-requires-clause-last : goal.propose_one-requires-clause-last
 propose_one-requires-clause-last g c = subst (λ (ss : List Server). c.args.server ≤ length ss) (sym c.loop-command.invariant.2) c.requires.last
-
-pub propose_one-requires-clause-reached : goal.propose_one-requires-clause-reached
-propose_one-requires-clause-reached g c = (c.loop-command.invariant.4 [] c.requires.stands.0 c.requires.stands.1).1.reached
 
 pub returns-in-Ok-false-clause-proposals : goal.returns-in-Ok-false-clause-proposals
 returns-in-Ok-false-clause-proposals g c =

@@ -1,10 +1,7 @@
-use Rattle.std.proofs.Common.{rules, ◌≡◌, true, subst, sym, arith}
-use Rattle.cat_model.specs.declared.request.Event.TheVariants as event
-use Rattle.cluster_rules.specs.Step.{ClusterStep}
-use Rattle.cluster_turns.proofs.Working.{ok_by, err_by, err_any}
-use Rattle.cluster_turns.proofs.Pairing.{under_way, under_way_still, cut_delivery, pair_is, cut_loss}
+use Rattle.std.proofs.Common.{rules, ◌≡◌, subst, sym}
+use Rattle.cluster_turns.proofs.Working.{err_any}
+use Rattle.cluster_turns.proofs.Pairing.{under_way, under_way_still, cut_delivery, pair_is}
 use Rattle.cluster_turns.specs.Evaluations.{EvaluatesIn, lacking}
-use Rattle.cluster_turns.proofs.Adding.{adds_most}
 use Rattle.cluster_turns.proofs.Evaluating.{evaluates_adding, evaluates_then}
 use Rattle.cluster_turns.proofs.settling.pair.Goals as goal
 
@@ -22,10 +19,7 @@ lose-requires g c = under_way_still c.args.number (g.P.Parts.state c.args.parts.
 
 pub returns-clause-whole : goal.returns-clause-whole
 returns-clause-whole g c =
-    ok_by c.lose.result (ClusterStep (g.P.Parts.state c.deliver.new.parts) (event.Drop c.args.number) (g.P.Parts.state c.lose.new.parts) true) _ (λ s. pair_is c.args.number (g.P.Parts.state c.args.parts.now) (g.P.Parts.state c.deliver.new.parts) (g.P.Parts.state c.lose.new.parts) c.requires c.in_ok-deliver.ensures.whole s) c.lose.ensures.whole
-
-pub returns-clause-cut : goal.returns-clause-cut
-returns-clause-cut g c = err_by c.lose.result ((g.P.Parts.state c.lose.new.parts) ≡ (g.P.Parts.state c.deliver.new.parts)) _ (λ e. cut_loss c.args.number (g.P.Parts.state c.args.parts.now) (g.P.Parts.state c.deliver.new.parts) (g.P.Parts.state c.lose.new.parts) c.requires c.in_ok-deliver.ensures.whole e) c.lose.ensures.same
+    pair_is c.args.number (g.P.Parts.state c.args.parts.now) (g.P.Parts.state c.deliver.new.parts) (g.P.Parts.state c.lose.new.parts) c.requires c.in_ok-deliver.ensures.whole c.lose.ensures.whole
 
 pub returns-in_err-deliver-clause-counted : goal.returns-in_err-deliver-clause-counted
 returns-in_err-deliver-clause-counted g c =
@@ -34,5 +28,5 @@ returns-in_err-deliver-clause-counted g c =
 
 pub returns-clause-counted : goal.returns-clause-counted
 returns-clause-counted g c =
-    evaluates_then (lacking c.lose.result) c.args.steps.now c.deliver.new.steps c.deliver.new.steps (g.P.Parts.state c.args.parts.now) (g.P.Parts.state c.deliver.new.parts) (g.P.Parts.state c.lose.new.parts) c.in_ok-deliver.ensures.counted
-    (evaluates_adding (lacking c.lose.result) c.deliver.new.steps (g.P.Parts.state c.deliver.new.parts) (g.P.Parts.state c.lose.new.parts) (adds_most 0 (lacking c.lose.result) (g.P.Parts.state c.deliver.new.parts) (g.P.Parts.state c.lose.new.parts) (omega arith) c.lose.ensures.counted))
+    evaluates_then 0 c.args.steps.now c.deliver.new.steps c.deliver.new.steps (g.P.Parts.state c.args.parts.now) (g.P.Parts.state c.deliver.new.parts) (g.P.Parts.state c.lose.new.parts) c.in_ok-deliver.ensures.counted
+    (evaluates_adding 0 c.deliver.new.steps (g.P.Parts.state c.deliver.new.parts) (g.P.Parts.state c.lose.new.parts) c.lose.ensures.counted)

@@ -4,7 +4,7 @@ use Rattle.cluster_turns.proofs.Working.{err_any}
 use Rattle.cluster_turns.proofs.Pairing.{pair_more}
 use Rattle.cluster_turns.specs.Evaluations.{EvaluatesIn, lacking}
 use Rattle.cluster_turns.proofs.Adding.{settled_adds}
-use Rattle.cluster_turns.proofs.Evaluating.{evaluates_adding, evaluates_none, evaluates_same, evaluates_then}
+use Rattle.cluster_turns.proofs.Evaluating.{evaluates_adding, evaluates_none, evaluates_then}
 use Rattle.cluster_turns.proofs.settling.settle.Goals as goal
 use Rattle.cluster_turns.proofs.settling.settle.Goals.{else-loop-pairs-test, then-loop-pairs-test+in-None}
 
@@ -18,7 +18,7 @@ pub returns-in_err-pair-in-Some-clause-whole : goal.returns-in_err-pair-in-Some-
 returns-in_err-pair-in-Some-clause-whole g c = search rules
 
 pub returns-in_err-pair-in-Some-clause-cut : goal.returns-in_err-pair-in-Some-clause-cut
-returns-in_err-pair-in-Some-clause-cut g c = err_any c.from_residual.result _ (c.loop-pairs.pairs, c.loop-pairs.invariant.0, ((g.P.Parts.state c.loop-pairs.parts), c.loop-pairs.invariant.1, c.in_err-pair-in-Some.ensures.cut))
+returns-in_err-pair-in-Some-clause-cut g c = err_any c.from_residual.result _ (c.loop-pairs.pairs, c.loop-pairs-test.true, ((g.P.Parts.state c.loop-pairs.parts), c.loop-pairs.invariant.1, c.in_err-pair-in-Some.ensures.cut))
 
 pub overflow_add-pairs : goal.overflow_add-pairs
 overflow_add-pairs g c = search rules
@@ -35,18 +35,12 @@ loop-pairs-preserved g c =
       evaluates_then 0 c.args.steps.now c.loop-pairs.steps c.pair.new.steps (g.P.Parts.state c.args.parts.now) (g.P.Parts.state c.loop-pairs.parts) (g.P.Parts.state c.pair.new.parts) c.loop-pairs.invariant.2 c.in_ok-pair-in-Some.ensures.counted,
     )
 
-pub returns-in_err-settled-clause-whole : goal.returns-in_err-settled-clause-whole
-returns-in_err-settled-clause-whole g c = search rules
-
-pub returns-in_err-settled-clause-cut : goal.returns-in_err-settled-clause-cut
-returns-in_err-settled-clause-cut g c = err_any c.from_residual-in_err-settled.result _ (c.loop-pairs.pairs, c.loop-pairs.invariant.0, ((g.P.Parts.state c.loop-pairs.parts), c.loop-pairs.invariant.1, inl c.in_err-settled.ensures.err))
-
 pub returns-clause-whole : goal.returns-clause-whole
 returns-clause-whole g c =
     let within = c.loop-pairs.invariant.0 in
     let ends : (c.loop-pairs.pairs ≡ c.args.most) ⊎ (lowest (g.P.Parts.state c.loop-pairs.parts).world.bag.packets ≡ None) =
     elim c.loop-pairs-test.branch [ else-loop-pairs-test w ↦ inl (let past = w.loop-pairs-test.false in omega arith) | then-loop-pairs-test+in-None w ↦ inr w.in-None.ensures ] in
-    (within, ((g.P.Parts.state c.loop-pairs.parts), c.loop-pairs.invariant.1, ends, c.in_ok-settled.ensures.ok))
+    (within, ((g.P.Parts.state c.loop-pairs.parts), c.loop-pairs.invariant.1, ends, c.settled.ensures))
 
 pub returns-in_err-pair-in-Some-clause-counted : goal.returns-in_err-pair-in-Some-clause-counted
 returns-in_err-pair-in-Some-clause-counted g c =
@@ -54,11 +48,6 @@ returns-in_err-pair-in-Some-clause-counted g c =
     subst (λ n. EvaluatesIn n c.args.steps.now c.pair.new.steps (g.P.Parts.state c.args.parts.now) (g.P.Parts.state c.pair.new.parts)) (sym one)
     (evaluates_then 1 c.args.steps.now c.loop-pairs.steps c.pair.new.steps (g.P.Parts.state c.args.parts.now) (g.P.Parts.state c.loop-pairs.parts) (g.P.Parts.state c.pair.new.parts) c.loop-pairs.invariant.2 c.in_err-pair-in-Some.ensures.counted)
 
-pub returns-in_err-settled-clause-counted : goal.returns-in_err-settled-clause-counted
-returns-in_err-settled-clause-counted g c =
-    let n = lacking c.from_residual-in_err-settled.result in
-    evaluates_then n c.args.steps.now c.loop-pairs.steps c.loop-pairs.steps (g.P.Parts.state c.args.parts.now) (g.P.Parts.state c.loop-pairs.parts) (g.P.Parts.state c.settled.new.self) c.loop-pairs.invariant.2 (evaluates_same n c.loop-pairs.steps (g.P.Parts.state c.loop-pairs.parts) (g.P.Parts.state c.settled.new.self) c.in_err-settled.ensures.err)
-
 pub returns-clause-counted : goal.returns-clause-counted
 returns-clause-counted g c =
-    evaluates_then 0 c.args.steps.now c.loop-pairs.steps c.loop-pairs.steps (g.P.Parts.state c.args.parts.now) (g.P.Parts.state c.loop-pairs.parts) (g.P.Parts.state c.settled.new.self) c.loop-pairs.invariant.2 (evaluates_adding 0 c.loop-pairs.steps (g.P.Parts.state c.loop-pairs.parts) (g.P.Parts.state c.settled.new.self) (settled_adds c.loop-pairs.pairs (g.P.Parts.state c.loop-pairs.parts) (g.P.Parts.state c.settled.new.self) c.in_ok-settled.ensures.ok))
+    evaluates_then 0 c.args.steps.now c.loop-pairs.steps c.loop-pairs.steps (g.P.Parts.state c.args.parts.now) (g.P.Parts.state c.loop-pairs.parts) (g.P.Parts.state c.settled.new.self) c.loop-pairs.invariant.2 (evaluates_adding 0 c.loop-pairs.steps (g.P.Parts.state c.loop-pairs.parts) (g.P.Parts.state c.settled.new.self) (settled_adds c.loop-pairs.pairs (g.P.Parts.state c.loop-pairs.parts) (g.P.Parts.state c.settled.new.self) c.settled.ensures))

@@ -1,8 +1,7 @@
 use Rattle.std.proofs.Common.{refl}
-use Rattle.cluster_parts.proofs.Marking.{with_room}
 use Rattle.cluster.proofs.AgentParts.{answer_done, answered_stands}
 use Rattle.cluster.proofs.Handled.{made_last}
-use Rattle.cluster.proofs.Results.{either_way, ok_both, ok_then}
+use Rattle.cluster.proofs.Results.{either_way, ok_both, ok_then, stands_alike}
 use Rattle.cluster.proofs.cluster.Cluster.answer_asked.Goals as goal
 
 pub answer_own-requires-clause-made : goal.answer_own-requires-clause-made
@@ -13,7 +12,7 @@ pub invariant_of-self : goal.invariant_of-self
 invariant_of-self g c =
     either_way c.answer_own.result (λ e. answered_stands c.self.inside.agents c.answer_own.new.agents c.self.inside.watch c.self.inside.servers.world c.self.inside.servers.servers c.self.inside.requests c.answer_own.new.requests c.args.self.now c.args.agent c.args.op.now c.args.asked.now c.args.draw
     (record { stands = c.self.invariant; view = c.self.view_is; come = c.requires.come }) c.requires.asked e.0 e.1)
-    (λ e. (with_room c.self.inside.agents c.self.inside.watch c.self.inside.servers.world c.self.inside.servers.servers c.self.inside.requests c.answer_own.new.requests c.answer_own.new.requests.room c.self.invariant e).0)
+    (λ e. stands_alike c.self.invariant e refl refl)
     (ok_both _ _ c.answer_own.result c.answer_own.ensures.agents c.answer_own.ensures.requests) c.answer_own.ensures.room
 
 pub returns-clause-ok : goal.returns-clause-ok

@@ -4,10 +4,5 @@ use Rattle.cluster.proofs.cluster.Cluster.fail_keep.Goals as goal
 pub invariant_of-self : goal.invariant_of-self
 invariant_of-self g c = (c.fail_keep.ensures c.self.inside.agents c.self.inside.watch c.self.invariant).stands
 
-pub returns-clause-whole : goal.returns-clause-whole
-returns-clause-whole g c =
-    (acted_as c.self.view_is (c.fail_keep.ensures c.self.inside.agents c.self.inside.watch c.self.invariant)).whole
-
-pub returns-clause-cut : goal.returns-clause-cut
-returns-clause-cut g c =
-    (acted_as c.self.view_is (c.fail_keep.ensures c.self.inside.agents c.self.inside.watch c.self.invariant)).cut
+pub returns : goal.returns
+returns g c = (acted_as c.self.view_is (c.fail_keep.ensures c.self.inside.agents c.self.inside.watch c.self.invariant)).whole

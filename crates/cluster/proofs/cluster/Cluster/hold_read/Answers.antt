@@ -1,8 +1,7 @@
-use Rattle.std.proofs.Common.{◌≡◌, ◌+◌, length, refl, subst, sym, rules}
+use Rattle.std.proofs.Common.{◌≡◌, ◌+◌, length, refl, rules}
 use Rattle.cluster_rules.specs.Cluster.{applied_of, clock_of}
 use Rattle.cluster_rules.specs.Requests.{wait_of}
-use Rattle.cluster_parts.specs.Standing as standing
-use Rattle.cluster.proofs.Results.{either_way, ok_then}
+use Rattle.cluster.proofs.Results.{either_way, ok_then, stands_alike}
 use Rattle.cluster.proofs.Handled.{below_next, made_last, read_handles}
 use Rattle.cluster.proofs.cluster.Cluster.hold_read.Goals as goal
 
@@ -20,7 +19,7 @@ invariant_of-self g c =
     let applied : c.applied-applied.result ≡ length (applied_of c.args.self.now c.args.server) = search rules in
     let held = read_handles c.self.inside.agents c.self.inside.watch c.self.inside.servers.world c.self.inside.servers.servers c.self.inside.requests c.hold_newest.new.requests c.args.self.now c.args.server c.args.agent c.args.asked.now c.args.draw c.requires.look.0 c.args.wait_ms (c.self.inside.requests.asked + 1) c.in_ok-deadline.deadline c.applied-applied.result
     (record { stands = c.self.invariant; view = c.self.view_is; come = c.requires.come }) c.requires.taken c.requires.look.1 c.requires.look.2 c.requires.go refl deadline applied in
-    either_way c.hold_newest.result (λ e. (held e).1) (λ same. subst (standing.Stands c.self.inside.watch c.self.inside.servers.world c.self.inside.servers.servers) (sym same) c.self.invariant) c.hold_newest.ensures.ok c.hold_newest.ensures.err
+    either_way c.hold_newest.result (λ e. (held e).1) (λ e. stands_alike c.self.invariant e refl refl) c.hold_newest.ensures.ok c.hold_newest.ensures.err
 
 pub returns-clause-ok : goal.returns-clause-ok
 returns-clause-ok g c =

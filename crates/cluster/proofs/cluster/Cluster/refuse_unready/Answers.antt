@@ -1,8 +1,7 @@
-use Rattle.std.proofs.Common.{◌≡◌, ◌+◌, refl, subst, sym, rules}
+use Rattle.std.proofs.Common.{◌≡◌, ◌+◌, refl, rules}
 use Rattle.cluster_rules.specs.Cluster.{applied_of, node_of}
 use Rattle.raft_model.specs.Log.{last_term}
-use Rattle.cluster_parts.specs.Standing as standing
-use Rattle.cluster.proofs.Results.{either_way, ok_then}
+use Rattle.cluster.proofs.Results.{either_way, ok_then, stands_alike}
 use Rattle.cluster.proofs.Handled.{made_last, unready_handles, unready_stands}
 use Rattle.cluster.proofs.cluster.Cluster.refuse_unready.Goals as goal
 
@@ -13,7 +12,7 @@ refuse_newest-requires g c =
 pub invariant_of-self : goal.invariant_of-self
 invariant_of-self g c =
     either_way c.refuse_newest.result (unready_stands c.self.inside.agents c.self.inside.watch c.self.inside.servers.world c.self.inside.servers.servers c.self.inside.requests c.refuse_newest.new.requests c.args.self.now c.args.agent c.args.asked.now c.args.draw (c.self.inside.requests.asked + 1) _ (record { stands = c.self.invariant; view = c.self.view_is; come = c.requires.come }))
-    (λ same. subst (standing.Stands c.self.inside.watch c.self.inside.servers.world c.self.inside.servers.servers) (sym same) c.self.invariant) c.refuse_newest.ensures.ok c.refuse_newest.ensures.err
+    (λ e. stands_alike c.self.invariant e refl refl) c.refuse_newest.ensures.ok c.refuse_newest.ensures.err
 
 pub returns-clause-ok : goal.returns-clause-ok
 returns-clause-ok g c =

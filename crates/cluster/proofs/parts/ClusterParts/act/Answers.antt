@@ -22,4 +22,4 @@ returns-in-Restart-clause-whole g c =
 
 pub returns-in-FailKeep-clause-whole : goal.returns-in-FailKeep-clause-whole
 returns-in-FailKeep-clause-whole g c =
-    subst (λ z. OnOk c.fail_keep.result (ActsWhole c.args.server z c.args.self.now c.fail_keep.new.self)) (as_named c.args.self.now (λ n. impulse.FailKeep n c.in-FailKeep.nth) (λ _. refl) c.args.impulse c.in-FailKeep.field-0 c.args.server c.in-FailKeep.is c.requires.goes) c.fail_keep.ensures.whole
+    subst (λ z. ActsWhole c.args.server z c.args.self.now c.fail_keep.new.self) (as_named c.args.self.now (λ n. impulse.FailKeep n c.in-FailKeep.nth) (λ _. refl) c.args.impulse c.in-FailKeep.field-0 c.args.server c.in-FailKeep.is c.requires.goes) c.fail_keep.ensures

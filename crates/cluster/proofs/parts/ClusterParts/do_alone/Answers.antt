@@ -6,4 +6,4 @@ use Rattle.cluster.proofs.parts.ClusterParts.do_alone.Goals as goal
 pub returns-then-is_err-clause-err : goal.returns-then-is_err-clause-err
 returns-then-is_err-clause-err g c =
     c.forget_event.ensures (event_of_agent c.args.event.now) c.args.self.now
-    (when_err c.do_noted.result (sym c.is_err.ensures.value ∙ c.if-is_err.true) c.do_noted.ensures.err ∙ c.in_ok-mark_agents.ensures.ok)
+    (when_err c.do_noted.result (sym c.is_err.ensures.value ∙ c.if-is_err.true) c.do_noted.ensures.err ∙ c.mark_agents.ensures)
