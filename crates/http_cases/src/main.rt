@@ -4,7 +4,8 @@
 //! A line of `bodies.txt` is the kind of a request, its body, ` => ` and what the body asks for, or `invalid FIELD`;
 //! `bodies_shown.rt` says how that is written. A line of `requests.txt` is a method, a target and maybe a body, parted by
 //! a space, then ` => ` and what they ask for: a request as `requests_shown.rt` writes it, or `400 FIELD`, `404 TEXT`,
-//! `405 METHODS` or `413`. A body `*N` is of N bytes. An empty text or list, or none, is `-`.
+//! `405 METHODS` or `413`; behind it ` filtered` where the target has a filter. A body `*N` is of N bytes. An empty text or
+//! list, or none, is `-`.
 #![tactic(auto)]
 
 mod bodies;

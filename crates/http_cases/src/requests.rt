@@ -4,7 +4,7 @@ use crate::requests_shown;
 use crate::texts::put_texts;
 use anyhow::{Result, anyhow};
 use cat_model::{Asked, Refusal};
-use http_routes::route;
+use http_routes::{Routed, route};
 use std::alloc::Global;
 
 /// What the request of a line asks for.
@@ -13,9 +13,21 @@ pub fn given(alloc: Global, said: &str) -> Result<String> {
     let (target, text) = rest.split_once(" ").unwrap_or((rest, ""));
     let body = body_of(alloc, text)?;
     match route(alloc, method.as_bytes(), target.as_bytes(), body.as_slice()) {
-        Ok(Asked::Good(request)) => requests_shown::request(alloc, &request),
-        Ok(Asked::Bad(refusal)) => refused(alloc, &refusal),
+        Ok(Routed { asked, filter }) => {
+            let mut out = asked_for(alloc, &asked)?;
+            if filter.is_some() {
+                out.push_str(" filtered")?;
+            }
+            Ok(out)
+        }
         Err(_) => Err(anyhow!("out of memory")),
+    }
+}
+
+fn asked_for(alloc: Global, asked: &Asked) -> Result<String> {
+    match asked {
+        Asked::Good(request) => requests_shown::request(alloc, request),
+        Asked::Bad(refusal) => refused(alloc, refusal),
     }
 }
 

@@ -1,5 +1,5 @@
 -- How what is read in steps is taken: a step and what follows it.
-use Rattle.std.proofs.Common.{◌≡◌, ℕ, Bool, true, false, cond, List, Result, Ok, Err, IfOk, refl}
+use Rattle.std.proofs.Common.{◌≡◌, Bool, true, false, cond, Result, Ok, Err, IfOk}
 use Rattle.cat_model.specs.declared.command.Command.{Command}
 use Rattle.cat_model.specs.declared.request.Request.{Request}
 use Rattle.cat_model.specs.declared.request.Request.TheVariants.{Write}

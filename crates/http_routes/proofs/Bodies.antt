@@ -1,18 +1,16 @@
 -- What the bodies of requests ask for: of transactions those of at most 64 operations.
-use Rattle.std.proofs.Common.{◌≡◌, ℕ, suc, ◌+◌, ◌≤◌, ◌<◌, Bool, true, false, nat_le, nat_lt, List, [], ◌∷◌, length, Option, None, Some, Result, Ok, Err, IfOk, refl, arith}
+use Rattle.std.proofs.Common.{◌≡◌, ℕ, Bool, true, false, nat_le, nat_lt, List, ◌∷◌, length, Option, None, Some, Result, Ok, Err, IfOk, refl, arith}
 use Rattle.std.proofs.lemmas.Bool.Decides.{nat_tests}
-use Rattle.serde_json.specs.Data.{Data, Items, no_items, item}
+use Rattle.serde_json.specs.Data.{Items, no_items, item}
 use Rattle.serde_json.specs.Find.{as_array}
-use Rattle.cat_model.specs.declared.command.Command.{Command}
 use Rattle.cat_model.specs.declared.command.TxnOp.{TxnOp}
 use Rattle.json_bodies.specs.declared.error.ReadError.{ReadError}
-use Rattle.json_bodies.specs.declared.field.Field.{Field}
 use Rattle.json_bodies.specs.declared.field.Field.TheVariants as f
 use Rattle.json_bodies.specs.Errors.{◌>>=◌, refuse_if}
 use Rattle.json_bodies.specs.Members.{json_of, object_only, filled_text_at, text_at, each}
 use Rattle.json_bodies.specs.Registers.{center_at, service_in, one_at, checks_at, register_at, register_of}
 use Rattle.json_bodies.specs.Deregisters.{deregister_at, deregister_of}
-use Rattle.json_bodies.specs.Txns.{an_op, count, ops_in, ops_if, ops_at, ops_of}
+use Rattle.json_bodies.specs.Txns.{an_op, count, ops_if, ops_at, ops_of}
 use Rattle.http_routes.proofs.Answers.{IsFitCommand}
 
 after : {A B : Type 0} (r : Result A ReadError) (f : A → Result B ReadError) (P : B → Type 0) → ((a : A) → IfOk (f a) P) → IfOk (r >>= f) P

@@ -3,7 +3,6 @@ use Rattle.std.proofs.Common.{ℕ, List, Err, bytes_eq, codes}
 use Rattle.http_routes.specs.declared.error.Allow.TheVariants as allows
 use Rattle.http_routes.specs.declared.error.RouteError.TheVariants.{Method}
 use Rattle.http_routes.specs.declared.params.Pair.{Pair}
-use Rattle.http_routes.specs.Errors.{◌>>=◌}
 use Rattle.http_routes.specs.Methods.{Asks, Methods, only, get, put, get_post, delete_get_put}
 use Rattle.http_routes.proofs.Answers.{IsFit, after, of_test}
 

@@ -1,5 +1,5 @@
 -- Each route gives requests that are taken.
-use Rattle.std.proofs.Common.{◌≡◌, ℕ, Bool, true, false, List, [], ◌∷◌, Option, None, Some, Result, Ok, Err, IfOk, refl, codes}
+use Rattle.std.proofs.Common.{◌≡◌, ℕ, Bool, true, false, List, Option, None, Some, Result, Ok, Err, IfOk, refl}
 use Rattle.cat_model.specs.declared.command.Command.TheVariants.{Txn}
 use Rattle.cat_model.specs.declared.command.TxnOp.{TxnOp}
 use Rattle.cat_model.specs.declared.query.Query.{Query}
@@ -11,17 +11,12 @@ use Rattle.cat_model.specs.declared.request.Request.TheVariants.{Write}
 use Rattle.cat_model.specs.declared.row.Status.{Status}
 use Rattle.cat_model.specs.declared.row.Status.TheVariants.{Passing, Warning, Critical}
 use Rattle.json_bodies.specs.declared.error.ReadError.{ReadError}
-use Rattle.json_bodies.specs.AgentChecks.{agent_check_of, update_of}
-use Rattle.json_bodies.specs.AgentServices.{add_service_of}
 use Rattle.json_bodies.specs.Deregisters.{deregister_of}
-use Rattle.json_bodies.specs.NewQueries.{query_of}
 use Rattle.json_bodies.specs.Registers.{register_of}
-use Rattle.json_bodies.specs.Sessions.{session_of}
 use Rattle.json_bodies.specs.Txns.{ops_of}
 use Rattle.http_routes.specs.declared.error.RouteError.{RouteError}
 use Rattle.http_routes.specs.declared.kv.Condition.{Condition}
 use Rattle.http_routes.specs.declared.kv.Condition.TheVariants.{Always, IfModifiedAt, Acquires, Releases}
-use Rattle.http_routes.specs.declared.params.Pair.{Pair}
 use Rattle.http_routes.specs.declared.table.Route.{Route}
 use Rattle.http_routes.specs.declared.table.Route.TheVariants as r
 use Rattle.http_routes.specs.declared.table.CatalogRoute.{CatalogRoute}
@@ -37,7 +32,7 @@ use Rattle.http_routes.specs.declared.table.AgentRoute.TheVariants as a
 use Rattle.http_routes.specs.Errors.{◌>>=◌, in_body}
 use Rattle.http_routes.specs.Targets.{path_of, query_of as query_part}
 use Rattle.http_routes.specs.Params.{pairs_of}
-use Rattle.http_routes.specs.Kv.{put_on, deletion, recurses, kv_get, kv_put, kv_delete, transaction}
+use Rattle.http_routes.specs.Kv.{put_on, deletion, kv_get, kv_put, kv_delete, transaction}
 use Rattle.http_routes.specs.Checks.{plain}
 use Rattle.http_routes.specs.Catalog.{register, deregister, upgrade, whole, service, node, health_node, health_checks, health_service, health_state}
 use Rattle.http_routes.specs.Sessions.{session_create, session_destroy, session_renew, session_info, session_node}
@@ -46,6 +41,7 @@ use Rattle.http_routes.specs.Agents.{listing, service_register, service_deregist
 use Rattle.http_routes.specs.Routes as routes
 use Rattle.http_routes.specs.Routes.{methods, of_path, request_of, asked_of, route_of}
 use Rattle.http_routes.specs.Paths.{found}
+use Rattle.http_routes.specs.Filters.{pairs_left}
 use Rattle.cat_model.specs.Taken.{is_command_taken, IsTakenAsked}
 use Rattle.http_routes.proofs.Answers.{IsFit, after, after_command}
 use Rattle.http_routes.proofs.Bodies.{IsShort, register_fit, deregister_fit, few}
@@ -259,7 +255,7 @@ methods-fit (r.Agent route) part = agent-fits route part
 
 path-fits : (at : Option (Route × List ℕ)) → MethodsFit (of_path at)
 path-fits None method pairs body = tt
-path-fits (Some (route, part)) method pairs body = methods-fit route part method pairs body
+path-fits (Some (route, part)) method pairs body = methods-fit route part method (pairs_left route pairs) body
 
 asked-fits : (r : Result Request RouteError) → IsFit r → IsTakenAsked (asked_of r)
 asked-fits (Ok request) h = h

@@ -1,5 +1,5 @@
--- What is tested of many requests, in this order: the datacenter, the mode, the index, the wait, that there is no
--- filter, and after a path's own parameters the length of the body. Consul, HTTP API: "Consistency Modes", "Blocking
+-- What is tested of many requests, in this order: the datacenter, the mode, the index, the wait, that no filter is
+-- left, and after a path's own parameters the length of the body. Consul, HTTP API: "Consistency Modes", "Blocking
 -- Queries", "Filtering".
 use Rattle.std.specs.Prelude.{ℕ, nat_le, false, if◌then◌else◌, List, length, Result, Ok, Err, ⊤, codes}
 use Rattle.cat_model.specs.declared.query.Query.{Query}
@@ -31,7 +31,7 @@ mode_at pairs =
 unfoldable pub wait_at : List Pair → Result ℕ RouteError
 wait_at pairs = of_option 0 p.Wait duration_of (first_of (name_of p.Wait) pairs)
 
--- there is no filter
+-- there is no filter that was not read
 unfoldable pub unfiltered_at : List Pair → Result ⊤ RouteError
 unfiltered_at pairs = refuse_if (is_there (codes "filter") pairs) p.Filter
 

@@ -9,5 +9,6 @@ pub mod PreparedQueries
 pub mod Agents
 pub mod Methods
 pub mod Paths
+pub mod Filters
 pub mod Routers
 pub mod Routes

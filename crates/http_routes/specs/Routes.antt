@@ -26,6 +26,7 @@ use Rattle.http_routes.specs.Targets.{path_of, query_of}
 use Rattle.http_routes.specs.Params.{pairs_of}
 use Rattle.http_routes.specs.Methods.{Methods, get, put, get_post, delete_get_put}
 use Rattle.http_routes.specs.Paths.{found}
+use Rattle.http_routes.specs.Filters.{pairs_left}
 use Rattle.http_routes.specs.Kv.{kv_get, kv_put, kv_delete, transaction}
 use Rattle.http_routes.specs.Catalog.{register, deregister, upgrade, whole, service, node, health_node, health_checks, health_service, health_state}
 use Rattle.http_routes.specs.Sessions.{session_create, session_destroy, session_renew, session_info, session_node}
@@ -83,10 +84,10 @@ methods (Agent route) part = agent route part
 
 -- ---- the whole
 
--- a path that has no row is no route
+-- A path that has no row is no route. The parameters are those without a filter that was read.
 abbrev pub of_path : Option (Route × List ℕ) → Methods
 of_path None method pairs body = Err NoRoute
-of_path (Some (route, part)) method pairs body = methods route part method pairs body
+of_path (Some (route, part)) method pairs body = methods route part method (pairs_left route pairs) body
 
 unfoldable pub request_of : List ℕ → List ℕ → List ℕ → Result Request RouteError
 request_of method target body = of_path (found (path_of target)) method (pairs_of (query_of target)) body

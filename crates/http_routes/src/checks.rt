@@ -77,7 +77,7 @@ fn wait(pairs: &[Pair]) -> Result<u64, RouteError>
     }
 }
 
-/// Refuses a filter.
+/// Refuses a filter that was not read.
 #[tactic(auto, unfolding(crate::specs::Checks::unfiltered_at))]
 pub(crate) fn unfiltered(pairs: &[Pair]) -> Result<(), RouteError>
     ensures { Gives result (unfiltered_at pairs.now) }

@@ -6,6 +6,7 @@ mod body;
 mod catalog;
 mod checks;
 mod error;
+mod filters;
 mod health;
 mod kv;
 pub mod laws;
@@ -19,4 +20,4 @@ mod table;
 mod target;
 
 pub use error::{Allow, Parameter, RouteError};
-pub use routing::{Routes, route};
+pub use routing::{Routed, Routes, route};

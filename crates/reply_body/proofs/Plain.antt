@@ -18,7 +18,8 @@ use Rattle.cat_model.specs.declared.query.Ran.{Ran}
 use Rattle.cat_model.specs.declared.applied.TxnResult.{TxnResult}
 use Rattle.cat_model.specs.declared.command.Verb.{Verb}
 use Rattle.reply_body.specs.Bodies.{row_data, rows_data, value_data, session_member}
-use Rattle.reply_body.specs.Rows.{names_data, node_data, service_data, instance_data, check_data, health_data, session_data, query_data, put_each, by_name, services_data, node_view_data}
+use Rattle.row_objects.specs.Objects.{names_data, node_data, service_data, instance_data, check_data, health_data}
+use Rattle.reply_body.specs.Rows.{session_data, query_data, put_each, by_name, services_data, node_view_data}
 use Rattle.reply_body.specs.Others.{ran_data, delay_data}
 use Rattle.reply_body.specs.Writes.{id_data, shown_row, result_data, results_data, failure_data}
 

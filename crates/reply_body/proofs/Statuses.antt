@@ -22,7 +22,7 @@ use Rattle.reply_body.specs.Contents.{shown_content}
 use Rattle.reply_body.specs.Others.{shown_delay, shown_ran, shown_renewal, shown_rows_of_agent}
 use Rattle.reply_body.specs.Reads.{has_none, shown_bytes, shown_key, shown_listing, shown_names, shown_other, shown_read, shown_rows, shown_tree, shown_value}
 use Rattle.reply_body.specs.Refusals.{shown_refusal}
-use Rattle.reply_body.specs.Rows.{names_data}
+use Rattle.row_objects.specs.Objects.{names_data}
 use Rattle.reply_body.specs.Writes.{shown_done, shown_refuse, shown_write}
 use Rattle.reply_body.specs.declared.shown.Shown.{Shown}
 

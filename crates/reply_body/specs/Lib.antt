@@ -5,4 +5,5 @@ pub mod Writes
 pub mod Others
 pub mod Refusals
 pub mod Contents
+pub mod Filtered
 pub mod Written

@@ -12,7 +12,8 @@ use Rattle.cat_model.specs.declared.reply.Form.TheVariants.{Json}
 use Rattle.cat_model.specs.declared.row.SessionRow.{SessionRow}
 use Rattle.office_rules.specs.Locks.{is_lock}
 use Rattle.reply_body.specs.Bodies.{json, plain}
-use Rattle.reply_body.specs.Rows.{duration_text, health_data, session_data}
+use Rattle.row_objects.specs.Objects.{health_data}
+use Rattle.reply_body.specs.Rows.{duration_text, session_data}
 use Rattle.reply_body.specs.Writes.{shown_bool}
 use Rattle.reply_body.specs.declared.shown.Shown.{Shown}
 

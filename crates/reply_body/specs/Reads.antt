@@ -13,7 +13,8 @@ use Rattle.cat_model.specs.declared.query.Answer.TheVariants as a
 use Rattle.cat_model.specs.declared.reply.Form.TheVariants.{Octets}
 use Rattle.reply_body.specs.Bodies.{json, plain, rows_data}
 use Rattle.reply_body.specs.declared.shown.Shown.{Shown}
-use Rattle.reply_body.specs.Rows.{names_data, node_data, instance_data, check_data, health_data, session_data, query_data, services_data, node_view_data}
+use Rattle.row_objects.specs.Objects.{names_data, node_data, instance_data, check_data, health_data}
+use Rattle.reply_body.specs.Rows.{session_data, query_data, services_data, node_view_data}
 
 -- rows of keys: where there are none, there is nothing to show
 abbrev pub shown_rows : List KvRow → Shown

@@ -1,83 +1,16 @@
--- The JSON of the catalog's rows, as Consul's HTTP API version 1 shows them, with the members of an object in byte
--- order. There is one datacenter, `dc1`.
-use Rattle.std.specs.Prelude.{ℕ, ◌*◌, ◌/◌, ◌%◌, ◌==◌, if◌then◌else◌, List, [], ◌∷◌, ◌++◌, map, min, Option, None, Some, codes, decimal}
-use Rattle.serde_json.specs.Data.{Data, null, boolean, number, string, array, object, unsigned, Members, member, no_members, put}
-use Rattle.serde_json.specs.View.{items_of}
+-- The JSON of sessions, of prepared queries, and of what is shown by names, as Consul's HTTP API version 1 shows it, with
+-- the members of an object in byte order. Nodes, services, instances and checks stand in `row_objects`.
+use Rattle.std.specs.Prelude.{ℕ, ◌*◌, ◌/◌, ◌%◌, ◌==◌, if◌then◌else◌, List, [], ◌∷◌, ◌++◌, min, Option, None, Some, codes, decimal}
+use Rattle.serde_json.specs.Data.{Data, null, boolean, number, string, object, unsigned, Members, member, no_members, put}
 use Rattle.cat_model.specs.declared.row.NodeRow.{NodeRow}
 use Rattle.cat_model.specs.declared.row.ServiceRow.{ServiceRow}
 use Rattle.cat_model.specs.declared.row.SessionRow.{SessionRow}
 use Rattle.cat_model.specs.declared.row.QueryRow.{QueryRow}
-use Rattle.cat_model.specs.declared.row.Status.{Status}
-use Rattle.cat_model.specs.declared.row.Status.TheVariants.{Passing, Warning, Critical}
 use Rattle.cat_model.specs.declared.row.Behavior.{Behavior}
 use Rattle.cat_model.specs.declared.row.Behavior.TheVariants as behavior
-use Rattle.cat_model.specs.declared.query.CheckView.{CheckView}
 use Rattle.cat_model.specs.declared.query.NameTags.{NameTags}
-use Rattle.cat_model.specs.declared.query.Instance.{Instance}
+use Rattle.row_objects.specs.Objects.{names_data, node_data, service_data}
 use Rattle.reply_body.specs.Bodies.{id_text}
-
-unfoldable pub names_data : List (List ℕ) → Data
-names_data names = array (items_of (map string names))
-
-unfoldable pub node_data : NodeRow → Data
-node_data row = object
-    (member (codes "Address") (string row.address)
-    (member (codes "CreateIndex") (number (unsigned row.create))
-    (member (codes "Datacenter") (string (codes "dc1"))
-    (member (codes "ModifyIndex") (number (unsigned row.modify))
-    (member (codes "Node") (string row.node) no_members)))))
-
--- a service without its node
-unfoldable pub service_data : ServiceRow → Data
-service_data row = object
-    (member (codes "Address") (string row.address)
-    (member (codes "CreateIndex") (number (unsigned row.create))
-    (member (codes "EnableTagOverride") (boolean row.tag_override)
-    (member (codes "ID") (string row.id)
-    (member (codes "ModifyIndex") (number (unsigned row.modify))
-    (member (codes "Port") (number (unsigned row.port))
-    (member (codes "Service") (string row.name)
-    (member (codes "Tags") (names_data row.tags) no_members))))))))
-
--- an instance in the catalog: the service with its node's address
-unfoldable pub instance_data : Instance → Data
-instance_data x = object
-    (member (codes "Address") (string x.node.address)
-    (member (codes "CreateIndex") (number (unsigned x.service.create))
-    (member (codes "Datacenter") (string (codes "dc1"))
-    (member (codes "ModifyIndex") (number (unsigned x.service.modify))
-    (member (codes "Node") (string x.service.node)
-    (member (codes "ServiceAddress") (string x.service.address)
-    (member (codes "ServiceEnableTagOverride") (boolean x.service.tag_override)
-    (member (codes "ServiceID") (string x.service.id)
-    (member (codes "ServiceName") (string x.service.name)
-    (member (codes "ServicePort") (number (unsigned x.service.port))
-    (member (codes "ServiceTags") (names_data x.service.tags) no_members)))))))))))
-
-abbrev pub status_text : Status → List ℕ
-status_text Passing = codes "passing"
-status_text Warning = codes "warning"
-status_text Critical = codes "critical"
-
-unfoldable pub check_data : CheckView → Data
-check_data x = object
-    (member (codes "CheckID") (string x.row.id)
-    (member (codes "CreateIndex") (number (unsigned x.row.create))
-    (member (codes "ModifyIndex") (number (unsigned x.row.modify))
-    (member (codes "Name") (string x.row.name)
-    (member (codes "Node") (string x.row.node)
-    (member (codes "Notes") (string x.row.notes)
-    (member (codes "Output") (string x.row.output)
-    (member (codes "ServiceID") (string x.row.service)
-    (member (codes "ServiceName") (string x.service_name)
-    (member (codes "Status") (string (status_text x.row.status)) no_members))))))))))
-
--- an instance in the health endpoints: its checks, its node and its service
-unfoldable pub health_data : Instance → Data
-health_data x = object
-    (member (codes "Checks") (array (items_of (map check_data x.checks)))
-    (member (codes "Node") (node_data x.node)
-    (member (codes "Service") (service_data x.service) no_members)))
 
 -- a time in milliseconds: none is the empty text
 abbrev pub duration_text : ℕ → List ℕ

@@ -1,6 +1,6 @@
 //! Pieces of bodies.
 
-ghost use Rattle.std.specs.Prelude.{◌≡◌, List, Result, Ok, IfOk, false, string_bytes, map};
+ghost use Rattle.std.specs.Prelude.{◌≡◌, List, Bool, Result, Ok, IfOk, false, string_bytes, map, filter};
 ghost use Rattle.std.specs.Fn.{FnReturnsAt};
 ghost use Rattle.serde_json.specs.Data.{Data, array};
 ghost use Rattle.serde_json.specs.View.{view, items_of};
@@ -67,4 +67,24 @@ pub(crate) fn listed<T, F: Fn(&T) -> Result<Value, AllocError>>(
         all.push(make(item)?)?;
     }
     Ok(Value::Array(all))
+}
+
+/// The array of what is made of each item that passes the test, in their order.
+pub(crate) fn listed_where<T, P: Fn(&T) -> bool, F: Fn(&T) -> Result<Value, AllocError>>(
+    alloc: Global,
+    items: &[T],
+    passes: P,
+    make: F,
+) -> Result<Value, AllocError>
+    requires test { P.IsAlwaysCallable passes }
+    requires make { F.IsAlwaysCallable make }
+    ensures { IfOk result (λ json. (p : T → Bool) (f : T → Data) → ((x : T) (b : Bool) → FnReturnsAt P.Fn passes x b → b ≡ p x) → ((x : T) (y : Value) → FnReturnsAt F.Fn make x (Ok y) → view y ≡ f x) → view json ≡ array (items_of (map f (filter p items.now)))) }
+{
+    let mut kept = Vec::new(alloc);
+    for item in items {
+        if passes(item) {
+            kept.push(make(item)?)?;
+        }
+    }
+    Ok(Value::Array(kept))
 }

@@ -16,5 +16,5 @@ mod shown;
 mod writes;
 
 pub use content::body;
-pub use given::written;
+pub use given::{written, written_through};
 pub use shown::Shown;

@@ -2,7 +2,8 @@
 
 ghost use Rattle.std.specs.Prelude.{◌≡◌, IfOk, Some};
 ghost use Rattle.serde_json.specs.View.{view};
-ghost use Rattle.reply_body.specs.Rows.{by_name, service_data, services_data, node_view_data};
+ghost use Rattle.row_objects.specs.Objects.{service_data};
+ghost use Rattle.reply_body.specs.Rows.{by_name, services_data, node_view_data};
 
 use crate::catalog::{node_json, service_json};
 use crate::rows::names_json;

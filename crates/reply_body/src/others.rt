@@ -24,7 +24,7 @@ fn ran_json(alloc: Global, ran: &Ran) -> Result<Value, AllocError>
     ensures { IfOk result (λ json. view json ≡ spec.ran_data ran.now) }
 {
     let ttl = duration(alloc, ran.dns_ttl_ms)?;
-    let nodes = healths_json(alloc, ran.nodes.as_slice())?;
+    let nodes = healths_json(alloc, ran.nodes.as_slice(), None)?;
     json!(in alloc; {
         "DNS": { "TTL": ttl.as_str() },
         "Datacenter": "dc1",

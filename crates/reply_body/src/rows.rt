@@ -4,7 +4,7 @@ ghost use Rattle.std.specs.Prelude.{◌≡◌, IfOk};
 ghost use Rattle.serde_json.specs.Data.{string};
 ghost use Rattle.serde_json.specs.View.{view};
 ghost use Rattle.reply_body.specs.Bodies as spec;
-ghost use Rattle.reply_body.specs.Rows.{names_data};
+ghost use Rattle.row_objects.specs.Objects.{names_data};
 ghost use Rattle.reply_body.specs.Reads.{shown_bytes, shown_rows, shown_value, shown_names};
 
 use crate::json::{id_text, listed, plain, written};
@@ -69,7 +69,7 @@ fn name_json(alloc: Global, name: &Text) -> Result<Value, AllocError>
 }
 
 /// The array of these texts.
-#[tactic(auto, unfolding(crate::specs::Rows::names_data))]
+#[tactic(auto, unfolding(row_objects::specs::Objects::names_data))]
 pub(crate) fn names_json(alloc: Global, names: &[Text]) -> Result<Value, AllocError>
     ensures { IfOk result (λ json. view json ≡ names_data names.now) }
 {

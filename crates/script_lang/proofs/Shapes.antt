@@ -1,8 +1,6 @@
 -- Lines with the wrong number of words.
-use Rattle.std.proofs.Common.{◌≡◌, ℕ, List, [], ◌∷◌, Result, Ok, Err, refl}
-use Rattle.script_lang.specs.declared.bad_line.BadLine.{BadLine}
+use Rattle.std.proofs.Common.{◌≡◌, ℕ, List, [], ◌∷◌, Err, refl}
 use Rattle.script_lang.specs.declared.bad_line.BadLine.TheVariants.{UnknownLine}
-use Rattle.script_lang.specs.declared.line.Line.{Line}
 use Rattle.script_lang.specs.declared.numbers.Bounds.{Bounds}
 use Rattle.script_lang.specs.Numbers.{one_number, two_numbers}
 use Rattle.script_lang.specs.Lines.{opening}

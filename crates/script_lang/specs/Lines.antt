@@ -14,6 +14,8 @@ use Rattle.script_lang.specs.Words.{words_of, rest_of, is_nothing}
 use Rattle.script_lang.specs.Answers.{◌>>=◌}
 use Rattle.script_lang.specs.Numbers.{number_in, is_filled, one_number, two_numbers}
 use Rattle.script_lang.specs.Requests.{asked_of}
+use Rattle.filter_expr.specs.Expressions.{Expression}
+use Rattle.http_routes.specs.Filters.{filter_at}
 
 -- a line whose first word is `cluster`
 abbrev pub first_of : List (List ℕ) → List ℕ
@@ -135,3 +137,24 @@ worded number seed (name ∷ words) = formed number seed (form_of name) words
 -- the line, where the script has this seed, and the next request this number
 abbrev pub line_of : ℕ → ℕ → List ℕ → Result Line BadLine
 line_of number seed line = if is_nothing line then Ok Nothing else worded number seed (words_of line)
+
+-- ---- the filter of the request that a line asks for, through which its reply is shown: that of its target
+
+abbrev pub filter_asked : List (List ℕ) → Option Expression
+filter_asked (a ∷ method ∷ target ∷ rest) = filter_at target
+filter_asked words = None
+
+abbrev pub filter_said : Form → List (List ℕ) → Option Expression
+filter_said form.Http words = filter_asked words
+filter_said other words = None
+
+abbrev pub filter_formed : Option Form → List (List ℕ) → Option Expression
+filter_formed None words = None
+filter_formed (Some form) words = filter_said form words
+
+abbrev pub filter_worded : List (List ℕ) → Option Expression
+filter_worded [] = None
+filter_worded (name ∷ words) = filter_formed (form_of name) words
+
+abbrev pub filter_of_line : List ℕ → Option Expression
+filter_of_line line = if is_nothing line then None else filter_worded (words_of line)

@@ -10,6 +10,6 @@ mod text;
 mod words;
 
 pub use bad_line::BadLine;
-pub use line::{Line, opens_cluster, read_line};
+pub use line::{Line, ReadLine, opens_cluster, read_line};
 pub use numbers::{Bounds, number_in};
 pub use text::{print_end, print_out, print_refused};

@@ -1,6 +1,8 @@
-ghost use Rattle.std.specs.Prelude.{◌≡◌, Ok, Err};
+ghost use Rattle.std.specs.Prelude.{◌≡◌, Ok, Err, None, IfOk, option_map};
 ghost use Rattle.std.specs.Option.{option_copied};
-ghost use Rattle.script_lang.specs.Answers.{UnlessMemory};
+ghost use Rattle.filter_expr.specs.Expressions.{expression_of};
+ghost use Rattle.http_routes.specs.Filters.{filter_at};
+ghost use Rattle.script_lang.specs.Answers.{UnlessMemory, line_in};
 ghost use Rattle.script_lang.specs.Lines as spec;
 ghost use Rattle.script_lang.specs.Numbers.{one_number as one_number_in};
 ghost use Rattle.script_lang.specs.Words.{words_in};
@@ -12,7 +14,8 @@ use crate::numbers::{Bounds, number_in, one_number, two_numbers};
 use crate::requests::asked_of;
 use crate::words::{cut, is_nothing, last_word, next_word};
 use cat_model::{Draw, Event, Shared};
-use http_routes::Routes;
+use filter_expr::Filter;
+use http_routes::{Routed, Routes};
 use std::alloc::Global;
 
 /// What a line of a script says.
@@ -29,6 +32,14 @@ pub enum Line {
     Event(Event),
     /// Messages are delivered and then lost, the lowest first: so many, or until none is left.
     Settle(u32),
+}
+
+/// A line as it is read.
+#[derive(Debug, Drop)]
+pub struct ReadLine {
+    pub line: Line,
+    /// The filter of the request that it asks for, if that has one.
+    pub filter: Option<Filter>,
 }
 
 const ANY_32: Bounds = Bounds {
@@ -91,18 +102,20 @@ fn asks(
     method: &[u8],
     target: &[u8],
     rest: Option<&[u8]>,
-) -> Result<Line, BadLine>
-    ensures { UnlessMemory result (spec.asks number seed agent method.now target.now (option_copied rest.entry)) }
+) -> Result<ReadLine, BadLine>
+    ensures line { UnlessMemory (line_in result) (spec.asks number seed agent method.now target.now (option_copied rest.entry)) }
+    ensures filter { IfOk result (λ r. option_map expression_of r.filter ≡ filter_at target.now) }
 {
-    let asked = asked_of(alloc, routes, method, target, rest)?;
-    Ok(Line::Event(Event::Ask {
+    let Routed { asked, filter } = asked_of(alloc, routes, method, target, rest)?;
+    let line = Line::Event(Event::Ask {
         agent,
         asked: Shared::new(alloc, asked)?,
         draw: Draw {
             hi: seed,
             lo: number,
         },
-    }))
+    });
+    Ok(ReadLine { line, filter })
 }
 
 // `http A METHOD TARGET`, with more for a body
@@ -112,8 +125,9 @@ fn asking(
     number: u64,
     seed: u64,
     words: Option<&[u8]>,
-) -> Result<Line, BadLine>
-    ensures { UnlessMemory result (spec.asking number seed (words_in (option_copied words.entry))) }
+) -> Result<ReadLine, BadLine>
+    ensures line { UnlessMemory (line_in result) (spec.asking number seed (words_in (option_copied words.entry))) }
+    ensures filter { IfOk result (λ r. option_map expression_of r.filter ≡ spec.filter_asked (words_in (option_copied words.entry))) }
 {
     let (agent, words) = next_word(words)?;
     let (method, words) = next_word(words)?;
@@ -171,6 +185,22 @@ fn agent_tick(words: Option<&[u8]>) -> Result<Line, BadLine>
     Ok(Line::Event(Event::AgentTick(agent as u32, ms)))
 }
 
+// A line that has no filter.
+fn without_filter(line: Line) -> ReadLine
+    ensures line { result.line ≡ line }
+    ensures filter { option_map expression_of result.filter ≡ None }
+{
+    ReadLine { line, filter: None }
+}
+
+// A line of an event other than a request.
+fn of_event(event: Event) -> ReadLine
+    ensures line { result.line ≡ Line.Event event }
+    ensures filter { option_map expression_of result.filter ≡ None }
+{
+    without_filter(Line::Event(event))
+}
+
 // A line of the form with these words after the first one.
 fn said(
     alloc: Global,
@@ -179,21 +209,22 @@ fn said(
     seed: u64,
     form: Form,
     words: Option<&[u8]>,
-) -> Result<Line, BadLine>
-    ensures { UnlessMemory result (spec.said number seed form (words_in (option_copied words.entry))) }
+) -> Result<ReadLine, BadLine>
+    ensures line { UnlessMemory (line_in result) (spec.said number seed form (words_in (option_copied words.entry))) }
+    ensures filter { IfOk result (λ r. option_map expression_of r.filter ≡ spec.filter_said form (words_in (option_copied words.entry))) }
 {
     match form {
-        Form::Cluster => opening(words),
-        Form::Timeout => Ok(Line::Event(Event::Timeout(one_of_32(words)?))),
-        Form::Beat => Ok(Line::Event(Event::Beat(one_of_32(words)?))),
-        Form::Restart => Ok(Line::Event(Event::Restart(one_of_32(words)?))),
-        Form::Tick => tick(words),
-        Form::AgentTick => agent_tick(words),
-        Form::Deliver => Ok(Line::Event(Event::Deliver(one_number(ANY_64, words)?))),
-        Form::Drop => Ok(Line::Event(Event::Drop(one_number(ANY_64, words)?))),
-        Form::Settle => settle(words),
-        Form::FailKeep => fail_keep(words),
-        Form::Sync => Ok(Line::Event(Event::Sync(one_of_32(words)?))),
+        Form::Cluster => Ok(without_filter(opening(words)?)),
+        Form::Timeout => Ok(of_event(Event::Timeout(one_of_32(words)?))),
+        Form::Beat => Ok(of_event(Event::Beat(one_of_32(words)?))),
+        Form::Restart => Ok(of_event(Event::Restart(one_of_32(words)?))),
+        Form::Tick => Ok(without_filter(tick(words)?)),
+        Form::AgentTick => Ok(without_filter(agent_tick(words)?)),
+        Form::Deliver => Ok(of_event(Event::Deliver(one_number(ANY_64, words)?))),
+        Form::Drop => Ok(of_event(Event::Drop(one_number(ANY_64, words)?))),
+        Form::Settle => Ok(without_filter(settle(words)?)),
+        Form::FailKeep => Ok(without_filter(fail_keep(words)?)),
+        Form::Sync => Ok(of_event(Event::Sync(one_of_32(words)?))),
         Form::Http => asking(alloc, routes, number, seed, words),
     }
 }
@@ -207,20 +238,21 @@ pub fn opens_cluster(line: &[u8]) -> bool
     name == b"cluster".as_slice()
 }
 
-/// What a line of a script with this seed says, where the next request has this number, or why it's refused: as an
-/// `UnknownLine`, a `BadNumber` or a `BadRequestLine`. The other reasons hang on the lines before it and on what the
-/// cluster takes.
+/// What a line of a script with this seed says, where the next request has this number, and the filter of its request; or
+/// why it's refused: as an `UnknownLine`, a `BadNumber` or a `BadRequestLine`. The other reasons hang on the lines before
+/// it and on what the cluster takes.
 pub fn read_line(
     alloc: Global,
     routes: &Routes,
     line: &[u8],
     number: u64,
     seed: u64,
-) -> Result<Line, BadLine>
-    ensures { UnlessMemory result (spec.line_of number seed line.now) }
+) -> Result<ReadLine, BadLine>
+    ensures line { UnlessMemory (line_in result) (spec.line_of number seed line.now) }
+    ensures filter { IfOk result (λ r. option_map expression_of r.filter ≡ spec.filter_of_line line.now) }
 {
     if is_nothing(line) {
-        return Ok(Line::Nothing);
+        return Ok(without_filter(Line::Nothing));
     }
     let (name, words) = cut(line);
     match form_of(name) {

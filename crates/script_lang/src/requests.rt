@@ -1,15 +1,17 @@
-ghost use Rattle.std.specs.Prelude.{◌≡◌, Ok, Err};
+ghost use Rattle.std.specs.Prelude.{◌≡◌, Ok, Err, IfOk, option_map};
 ghost use Rattle.std.specs.List.{list_all};
 ghost use Rattle.std.specs.Option.{option_copied};
 ghost use Rattle.hex.specs.Hex.{decode_of};
-ghost use Rattle.script_lang.specs.Answers.{UnlessMemory};
+ghost use Rattle.filter_expr.specs.Expressions.{expression_of};
+ghost use Rattle.script_lang.specs.Answers.{UnlessMemory, asked_in};
+ghost use Rattle.http_routes.specs.Filters.{filter_at};
 ghost use Rattle.http_routes.specs.Routes.{route_of};
 ghost use Rattle.script_lang.specs.Requests as spec;
 
 use crate::bad_line::BadLine;
-use cat_model::{Asked, Bytes};
+use cat_model::Bytes;
 use hex::FromHexError;
-use http_routes::Routes;
+use http_routes::{Routed, Routes};
 use std::alloc::Global;
 
 fn is_all_token_bytes(word: &[u8]) -> bool
@@ -64,21 +66,23 @@ fn routed(
     method: &[u8],
     target: &[u8],
     body: &Bytes,
-) -> Result<Asked, BadLine>
-    ensures { UnlessMemory result (Ok (route_of method.now target.now body.now)) }
+) -> Result<Routed, BadLine>
+    ensures asked { UnlessMemory (asked_in result) (Ok (route_of method.now target.now body.now)) }
+    ensures filter { IfOk result (λ r. option_map expression_of r.filter ≡ filter_at target.now) }
 {
     Ok(routes.route(alloc, method, target, body.as_slice())?)
 }
 
-/// What the request of a method, a target, and what follows it asks for.
+/// What the request of a method, a target, and what follows it asks for, and the target's filter.
 pub fn asked_of(
     alloc: Global,
     routes: &Routes,
     method: &[u8],
     target: &[u8],
     rest: Option<&[u8]>,
-) -> Result<Asked, BadLine>
-    ensures { UnlessMemory result (spec.asked_of method.now target.now (option_copied rest.entry)) }
+) -> Result<Routed, BadLine>
+    ensures asked { UnlessMemory (asked_in result) (spec.asked_of method.now target.now (option_copied rest.entry)) }
+    ensures filter { IfOk result (λ r. option_map expression_of r.filter ≡ filter_at target.now) }
 {
     if !is_token(method) || !is_token(target) {
         return Err(BadLine::BadRequestLine);

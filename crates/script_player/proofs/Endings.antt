@@ -9,12 +9,12 @@ use Rattle.script_player.specs.declared.opening.Opening.{Opening}
 use Rattle.script_player.specs.declared.refused.Refused.{Refused}
 use Rattle.script_player.specs.declared.report.Report.{Report}
 use Rattle.script_player.specs.Script.{Script, Opened, said}
-use Rattle.script_player.specs.Text.{last_text, line_of_out}
+use Rattle.script_player.specs.Text.{last_text}
 use Rattle.script_player.specs.Stage.{PlaysTo, PlaysPart, ending_of}
 use Rattle.script_player.specs.declared.found.Found.{Found}
 use Rattle.script_player.specs.Found.{found_in}
 use Rattle.script_player.specs.Run.{IsRefused, RunOf, played, WholeRun, RefusedRun, PartOfRun, WritesPart, IsReportOf}
-use Rattle.script_player.proofs.Runs.{played_from, run_from, whole_from, refused_from, part_playing, part_ending}
+use Rattle.script_player.proofs.Runs.{line_through, played_from, run_from, whole_from, refused_from, part_playing, part_ending}
 
 -- the run of a script, by whether there is a report
 abbrev pub IsRun : Script → Option (List ℕ) → Option (List ℕ) → Option Report → Type 0
@@ -22,7 +22,7 @@ IsRun script held held' r = MatchOption r (RefusedRun script held held') (WholeR
 
 ended : (opening : Opening) (next : ℕ) (lines : List (List ℕ)) (start c : Cluster) (made : ℕ) (held held' held'' : Option (List ℕ)) (refused : Option Refused) (r : Option Report) →
     IsFirstStart start → length start.servers ≡ opening.servers → length start.agents ≡ opening.agents →
-    PlaysTo line_of_out (said opening.seed) next lines start (ending_of refused) c made held held' → Appends held' held'' (last_text (ending_of refused) c) →
+    PlaysTo (line_through opening lines) (said opening.seed) next lines start (ending_of refused) c made held held' → Appends held' held'' (last_text (ending_of refused) c) →
     IfSome r (IsReportOf c made) → MatchOption r ((why : Refused) × (refused ≡ Some why)) (λ _. refused ≡ None) →
     IsRun (Opened opening next lines) held held'' r
 ended opening next lines start c made held held' held'' None None first servers agents p w reports (why, e) = absurd cc
@@ -34,7 +34,7 @@ ended opening next lines start c made held held' held'' (Some why) None first se
 
 pub run_ended : {E : Type 0} (result : Result (Option Report) E) (opening : Opening) (next : ℕ) (lines : List (List ℕ)) (start c : Cluster) (made : ℕ) (held held' held'' : Option (List ℕ)) (refused : Option Refused) →
     IsFirstStart start → length start.servers ≡ opening.servers → length start.agents ≡ opening.agents →
-    PlaysTo line_of_out (said opening.seed) next lines start (ending_of refused) c made held held' → OnOk result (Appends held' held'' (last_text (ending_of refused) c)) →
+    PlaysTo (line_through opening lines) (said opening.seed) next lines start (ending_of refused) c made held held' → OnOk result (Appends held' held'' (last_text (ending_of refused) c)) →
     IfOk result (λ r. IfSome r (IsReportOf c made)) → IfOk result (λ r. MatchOption r ((why : Refused) × (refused ≡ Some why)) (λ _. refused ≡ None)) →
     IfOk result (IsRun (Opened opening next lines) held held'')
 run_ended (Ok r) opening next lines start c made held held' held'' refused first servers agents p w reports whether =
@@ -43,7 +43,7 @@ run_ended (Err fail) opening next lines start c made held held' held'' refused f
 
 pub run_broke : {E : Type 0} (result : Result (Option Report) E) (opening : Opening) (next : ℕ) (lines : List (List ℕ)) (start c : Cluster) (made : ℕ) (held held' held'' : Option (List ℕ)) (refused : Option Refused) →
     IsFirstStart start → length start.servers ≡ opening.servers → length start.agents ≡ opening.agents →
-    PlaysTo line_of_out (said opening.seed) next lines start (ending_of refused) c made held held' → OnErr result (WritesPart held' held'' (last_text (ending_of refused) c)) →
+    PlaysTo (line_through opening lines) (said opening.seed) next lines start (ending_of refused) c made held held' → OnErr result (WritesPart held' held'' (last_text (ending_of refused) c)) →
     OnErr result (Appends held held'' [] ⊎ PartOfRun (Opened opening next lines) held held'')
 run_broke (Ok r) opening next lines start c made held held' held'' refused first servers agents p part = tt
 run_broke (Err fail) opening next lines start c made held held' held'' refused first servers agents p part =
@@ -51,7 +51,7 @@ run_broke (Err fail) opening next lines start c made held held' held'' refused f
 
 pub play_broke : (opening : Opening) (next : ℕ) (lines : List (List ℕ)) (start : Cluster) (held held' : Option (List ℕ)) →
     IsFirstStart start → length start.servers ≡ opening.servers → length start.agents ≡ opening.agents →
-    PlaysPart line_of_out (said opening.seed) next lines start held held' → Appends held held' [] ⊎ PartOfRun (Opened opening next lines) held held'
+    PlaysPart (line_through opening lines) (said opening.seed) next lines start held held' → Appends held held' [] ⊎ PartOfRun (Opened opening next lines) held held'
 play_broke opening next lines start held held' first servers agents p = inr (part_playing opening next lines start held held' first servers agents p)
 
 -- a run whose outs went to what finds reads

@@ -2,12 +2,10 @@
 use Rattle.std.proofs.Common.{◌≡◌, ◌⊎◌, inr, ℕ, suc, ◌+◌, ◌≤◌, Bool, true, false, ◌&&◌, nat_le, cond, List, [], ◌∷◌, Option, None, Some, Result, Ok, Err, IfOk, refl, subst, arith}
 use Rattle.std.proofs.lemmas.Bool.Decides.{nat_tests}
 use Rattle.cat_model.specs.declared.request.Asked.{Asked}
-use Rattle.cat_model.specs.declared.request.Asked.TheVariants.{Good, Bad}
 use Rattle.cat_model.specs.declared.request.Event.{Event}
 use Rattle.cat_model.specs.declared.request.Event.TheVariants as event
 use Rattle.script_runs.specs.declared.misfit.Misfit.{Misfit}
 use Rattle.script_runs.specs.declared.misfit.Misfit.TheVariants.{NoServer, NoAgent, NoMessage, Clock}
-use Rattle.cluster_interface.specs.Interface.{IsPlayed}
 use Rattle.cluster_rules.specs.Cluster.{Cluster}
 use Rattle.script_lang.specs.Answers.{◌>>=◌}
 use Rattle.script_lang.specs.declared.bad_line.BadLine.{BadLine}
@@ -28,7 +26,8 @@ use Rattle.script_lang.specs.Text.{reason_text}
 use Rattle.script_runs.specs.Lines.{Said, Makes, Refuses, misfit, misfit_text}
 use Rattle.script_player.specs.declared.reading.Says.{Says}
 use Rattle.script_player.specs.Script.{bad_of, said as said_by_line}
-use Rattle.script_player.specs.Stage.{IsFine, IsMisfit, IsWorded, IsRead}
+use Rattle.filter_expr.specs.Expressions.{Expression}
+use Rattle.script_player.specs.Stage.{filter_said, IsFine, IsMisfit, IsWorded, IsRead}
 
 -- a step and what follows it
 if_bind : {A B : Type 0} (r : Result A BadLine) (f : A → Result B BadLine) (Q : A → Type 0) (P : B → Type 0) → IfOk r Q → ((a : A) → Q a → IfOk (f a) P) → IfOk (r >>= f) P
@@ -139,3 +138,9 @@ pub said_as : (c : Cluster) (seed number : ℕ) (line : List ℕ) (says read : S
 said_as c seed number line says read e fitted worded =
     let next : number ≡ suc c.asked = omega (arith, e) in
     subst (λ (n : ℕ). IsRead c (said_by_line seed n line) read) next (fitted (said_by_line seed number line) worded)
+
+-- and its filter
+pub filter_as : (asked seed number : ℕ) (line : List ℕ) (f : Option Expression) → number ≡ asked + 1 → f ≡ filter_said (said_by_line seed number line) line → f ≡ filter_said (said_by_line seed (suc asked) line) line
+filter_as asked seed number line f e is =
+    let next : number ≡ suc asked = omega (arith, e) in
+    subst (λ (n : ℕ). f ≡ filter_said (said_by_line seed n line) line) next is

@@ -1,8 +1,9 @@
 pub mod Lines
 pub mod Written
 pub mod Fine
-pub mod Turning
 pub mod Progress
+pub mod Filtering
+pub mod Turning
 pub mod Runs
 pub mod Openings
 pub mod Endings

@@ -1,4 +1,5 @@
 pub mod Line
+pub mod Filters
 pub mod Script
 pub mod Text
 pub mod Found

@@ -1,6 +1,6 @@
 -- What a run did: what it wrote, and what it reports. `held` is what the sink holds before the run and, primed, after
 -- it.
-use Rattle.std.specs.Prelude.{◌≡◌, ℕ, suc, ◌+◌, ◌*◌, ◌<◌, true, List, [], ◌∷◌, ◌++◌, length, reverse, Option}
+use Rattle.std.specs.Prelude.{◌≡◌, ℕ, suc, ◌+◌, ◌*◌, ◌<◌, true, List, [], ◌∷◌, ◌++◌, length, Option}
 use Rattle.std.specs.Io.KnownBytes.{Appends}
 use Rattle.std.specs.List.{AllByRecursion as Each}
 use Rattle.cluster_rules.specs.Replies.{Out}
@@ -12,7 +12,7 @@ use Rattle.script_runs.specs.Holds.{IsFirstStart, Holds}
 use Rattle.script_runs.specs.Legal.{RunIsLegal}
 use Rattle.script_player.specs.declared.opening.Opening.{Opening}
 use Rattle.script_player.specs.declared.report.Report.{Report}
-use Rattle.script_player.specs.Script.{Script, Opened, Closed, said}
+use Rattle.script_player.specs.Script.{Script, Opened, Closed, said, filters_of}
 use Rattle.cluster_interface.specs.Interface.{held_numbers, applied_lengths}
 use Rattle.script_player.specs.Text.{outs_text, refused_text, last_text}
 
@@ -56,27 +56,26 @@ pub record IsReportOf (c : Cluster) (made : ℕ) (report : Report) : Type 0 wher
   pub agreed : report.agreed ≡ c.world.agreed
   pub applied : report.applied ≡ applied_lengths c
   pub unanswered : report.unanswered ≡ held_numbers c
-  pub marks : report.marks ≡ reverse c.past
 
--- A whole run of which this is reported, where `Shows` holds of its outs and the cluster at its end. The report's marks,
--- taken as moves, lead from the start to the end.
+-- A whole run of which this is reported, where `Shows` holds of its outs and the cluster at its end. What has happened,
+-- taken as moves, leads from the start to the end.
 pub record RunOf (script : Script) (Shows : List Out → Cluster → Type 0) (report : Report) : Type 0 where
   pub outs : List Out
   pub run : Played script outs Whole
   pub shows : Shows outs run.reached
   pub tells : IsReportOf run.reached (made_in (said run.opening.seed) run.next run.lines run.start outs Whole run.reached run.plays) report
   pub ascending : Ascend report.unanswered
-  pub leads : Reached run.start true (moves_of (reverse report.marks)) run.reached
+  pub leads : Reached run.start true (moves_of run.reached.past) run.reached
 
 -- a whole run whose text was written
 abbrev pub WholeRun : Script → Option (List ℕ) → Option (List ℕ) → Report → Type 0
 WholeRun script held held' report =
-    RunOf script (λ outs c. Appends held held' (outs_text outs ++ last_text Whole c)) report
+    RunOf script (λ outs c. Appends held held' (outs_text (filters_of script) outs ++ last_text Whole c)) report
 
 -- What a script's run writes in all, by how its lines end.
 pub data Writes (script : Script) : Ending → List ℕ → Type 0 where
   closed : (line : ℕ) (why : List ℕ) → script ≡ Closed line why → Writes script (Refused line why) (refused_text line why)
-  played : (outs : List Out) (end : Ending) (run : Played script outs end) → Writes script end (outs_text outs ++ last_text end run.reached)
+  played : (outs : List Out) (end : Ending) (run : Played script outs end) → Writes script end (outs_text (filters_of script) outs ++ last_text end run.reached)
 
 -- a line of the script is refused
 abbrev pub IsRefused : Script → Type 0

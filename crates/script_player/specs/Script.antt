@@ -1,5 +1,5 @@
 -- A script: the line that opens its cluster, and what each later line says.
-use Rattle.std.specs.Prelude.{ℕ, ◌+◌, if◌then◌else◌, List, [], ◌∷◌, Result, Ok, Err, codes}
+use Rattle.std.specs.Prelude.{ℕ, ◌+◌, if◌then◌else◌, List, [], ◌∷◌, None, Result, Ok, Err, codes}
 use Rattle.script_runs.specs.declared.misfit.Misfit.{Misfit}
 use Rattle.script_runs.specs.declared.misfit.Misfit.TheVariants.{NoServer, NoAgent, NoMessage, Clock}
 use Rattle.script_lang.specs.declared.bad_line.BadLine.{BadLine}
@@ -11,6 +11,7 @@ use Rattle.script_lang.specs.Text.{reason_text}
 use Rattle.script_runs.specs.Lines.{Said, Nothing, Makes, Settles, Refuses}
 use Rattle.script_player.specs.declared.opening.Opening.{Opening}
 use Rattle.script_player.specs.Line.{lines_of, is_nothing}
+use Rattle.script_player.specs.Filters.{Filters, filter_in}
 
 -- what a line after the opening says
 abbrev pub said_of : Result Line BadLine → Said
@@ -62,3 +63,8 @@ script_from number (line ∷ lines) =
 
 abbrev pub script_of : List ℕ → Script
 script_of bytes = script_from 1 (lines_of bytes)
+
+-- the filters of its requests, which are numbered from 1
+abbrev pub filters_of : Script → Filters
+filters_of (Opened opening next lines) = filter_in (said opening.seed) 1 lines
+filters_of (Closed line why) = λ k. None

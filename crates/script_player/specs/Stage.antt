@@ -1,6 +1,8 @@
 -- What playing a script does, line by line.
-use Rattle.std.specs.Prelude.{◌≡◌, ◌⊎◌, ◌<◌, ◌≤◌, ℕ, ◌*◌, ◌^◌, true, List, [], Option, Some, None, Result, Ok, Err}
+use Rattle.std.specs.Prelude.{◌≡◌, ◌⊎◌, ◌<◌, ◌≤◌, ℕ, ◌*◌, ◌^◌, ◌==◌, true, if◌then◌else◌, List, [], Option, Some, None, option_map, Result, Ok, Err}
 use Rattle.std.specs.List.{flat_map}
+use Rattle.std.specs.BTreeMap.{get}
+use Rattle.std.specs.Ordering.{nat_cmp}
 use Rattle.std.specs.Io.KnownBytes.{Appends}
 use Rattle.cat_outside.specs.Causes.{Rose}
 use Rattle.cat_outside.specs.declared.faults.KeepFail.{KeepFail}
@@ -15,6 +17,10 @@ use Rattle.script_lang.specs.declared.bad_line.BadLine.{BadLine}
 use Rattle.script_lang.specs.declared.line.Line.{Line}
 use Rattle.script_lang.specs.declared.line.Line.TheVariants as line
 use Rattle.script_lang.specs.Text.{reason_text}
+use Rattle.script_lang.specs.Lines.{filter_of_line}
+use Rattle.filter_expr.specs.Expressions.{Expression, expression_of}
+use Rattle.cat_model.specs.declared.reply.Mark.{Mark}
+use Rattle.cluster_rules.specs.Sound.{out_times, taken_times}
 use Rattle.script_runs.specs.Lines.{Said, Nothing, Makes, Settles, Refuses, misfit, misfit_text}
 use Rattle.script_runs.specs.Plays.{Ending, Whole, Refused, Broken, Plays, emptied, settled}
 use Rattle.script_player.specs.declared.opening.Opening.{Opening}
@@ -28,6 +34,8 @@ use Rattle.script_player.specs.declared.refused.Refused as refused
 use Rattle.script_player.specs.Script.{Script, Closed}
 use Rattle.cluster_interface.specs.Interface.{IsPlayed}
 use Rattle.script_player.specs.Run.{WritesPart, made_in}
+use Rattle.script_player.specs.Filters.{Filters, asks, filter_of}
+use Rattle.script_player.specs.declared.filters.Filters as kept_code
 
 -- the sink's count of faults rose where it failed, and nowhere else
 abbrev pub CountsWrite : KeepFail → ℕ → ℕ → Type 0
@@ -52,6 +60,46 @@ IsFine (Ok (line.Cluster servers agents seed)) = IsOpening (record { servers = s
 IsFine (Ok (line.Event made)) = IsPlayed made
 IsFine (Ok (line.Settle most)) = Unit {0}
 IsFine (Err why) = Unit {0}
+
+-- ---- the filters that are kept, by their requests' numbers
+
+abbrev pub kept_in : kept_code.Filters → Filters
+kept_in kept k = option_map expression_of (get nat_cmp kept.by_number k)
+
+-- with one more, where a request has one
+abbrev pub put_for : ℕ → Option Expression → Filters → Filters
+put_for number None kept k = kept k
+put_for number (Some f) kept k = if number == k then Some f else kept k
+
+-- the filter of a line that says a request
+abbrev pub filter_said : Said → List ℕ → Option Expression
+filter_said says line = if asks says then filter_of_line line else None
+
+-- what is taken of an out, through the filter of its request
+abbrev pub through : (Option Expression → Out → List ℕ) → Filters → Out → List ℕ
+through adds filters out = adds (filter_of filters out) out
+
+-- no two outs are of one request, and for each of their requests these filters are the same
+abbrev pub AreFor : (filters kept : Filters) → List Out → Type 0
+AreFor filters kept outs = ((k : ℕ) → out_times k outs ≤ 1) × ((k : ℕ) → 0 < out_times k outs → kept k ≡ filters k)
+
+-- where what a line says may lead
+abbrev pub LeadsTo : Cluster → Said → Cluster → Type 0
+LeadsTo c (Makes made) c' = (misfit c made ≡ None) × ClusterStep c made c' true
+LeadsTo c (Settles most) c' = (pairs : ℕ) × (mid : Cluster) × Settling pairs c mid × (c' ≡ settled pairs mid)
+LeadsTo c other c' = ⊥
+
+-- wherever it leads, the outs that wait then have the filters that are kept
+abbrev pub AreForAll : (filters kept : Filters) → Cluster → Said → Type 0
+AreForAll filters kept c says = (c' : Cluster) → LeadsTo c says c' → AreFor filters kept c'.tray
+
+-- only filters are gone whose request's out was taken
+abbrev pub KeepsWaiting : (kept kept' : Filters) → List Mark → Type 0
+KeepsWaiting kept kept' past = ((k : ℕ) → taken_times k past ≡ 0 → kept' k ≡ kept k) × ((k : ℕ) → kept k ≡ None → kept' k ≡ None)
+
+abbrev pub IfMade : Turn → Type 0 → Type 0
+IfMade (turn.Made events) P = P
+IfMade (turn.Refused bad) P = Unit {0}
 
 -- what the words of a line say, in the program's own types
 abbrev pub IsWorded : Said → Says → Type 0

@@ -5,6 +5,7 @@ ghost use Rattle.script_player.specs.Found as spec;
 use crate::taker::Taker;
 use cat_model::{List, Memory};
 use cat_outside::KeepFail;
+use filter_expr::Filter;
 use open_requests::{Content, Given, Out, Reply};
 use reply_body::written;
 use std::alloc::Global;
@@ -15,19 +16,19 @@ pub struct Found {
     pub numbers: List<u64>,
 }
 
-// It takes of an out the number of the request, if that found something.
+// It takes of an out the number of the request, if that found something. A filter changes nothing of that.
 impl Taker for Found {
     ghost use Rattle.std.specs.Prelude.{Some};
     ghost use Rattle.script_player.specs.Found.{found_in};
 
-    ghost adds = { found_in };
+    ghost adds = { λ filter out. found_in out };
 
     ghost held = { λ found. Some found.numbers };
 
     ghost faults = { λ found. 0 };
 
     #[tactic(auto, using(crate::proofs::Written::part_none))]
-    fn take(&mut self, alloc: Global, out: Out) -> Result<(), KeepFail> {
+    fn take(&mut self, alloc: Global, out: Out, _filter: Option<&Filter>) -> Result<(), KeepFail> {
         match number_found(alloc, out) {
             Ok(Some(number)) => match self.numbers.push(number) {
                 Ok(()) => Ok(()),

@@ -1,6 +1,7 @@
 //! Plays a script of requests and events on anything that holds a cluster of servers, and writes the replies.
 #![tactic(auto)]
 
+mod filters;
 mod finding;
 mod found;
 mod line;

@@ -83,7 +83,7 @@ fn opening_of(
         return Ok(Err(BadLine::ExpectedCluster));
     }
     match answer(alloc, routes, line, 0, 0)? {
-        Ok(says) => Ok(opened_by(&says)),
+        Ok(read) => Ok(opened_by(&read.line)),
         Err(why) => Ok(Err(why)),
     }
 }

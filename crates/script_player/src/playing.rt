@@ -19,7 +19,7 @@ use crate::starting::start;
 use crate::text::{end_text, refused_text};
 use cat_model::{Bytes, List, Memory};
 use cat_outside::{KeepFail, Sink};
-use cluster_interface::{ClusterInterface, History};
+use cluster_interface::ClusterInterface;
 use http_routes::Routes;
 use std::alloc::Global;
 
@@ -168,14 +168,13 @@ pub fn report_of<S: ClusterInterface>(
     let unanswered = servers.unanswered(alloc)?;
     let applied = applied_by_all(alloc, &servers)?;
     let requests = servers.asked();
-    let History { agreed, marks } = servers.into_history(alloc)?;
+    let agreed = servers.into_agreed(alloc)?;
     Ok(Report {
         events,
         requests,
         agreed,
         applied,
         unanswered,
-        marks,
     })
 }
 

@@ -1,13 +1,17 @@
-ghost use Rattle.std.specs.Prelude.{◌≡◌, suc, ◌+◌, IfOk};
-ghost use Rattle.script_lang.specs.Lines.{line_of};
+ghost use Rattle.std.specs.Prelude.{◌≡◌, suc, ◌+◌, ℕ, List, IfOk, Ok, None, option_map, if◌then◌else◌};
+ghost use Rattle.filter_expr.specs.Expressions.{expression_of};
+ghost use Rattle.script_lang.specs.Answers.{line_in};
+ghost use Rattle.script_lang.specs.Lines.{filter_of_line, line_of};
 ghost use Rattle.script_runs.specs.Lines.{Said};
-ghost use Rattle.script_player.specs.Script.{said, bad_of as bad_for};
-ghost use Rattle.script_player.specs.Stage.{IsFine, IsWorded, IsRead};
+ghost use Rattle.script_player.specs.Filters.{is_request};
+ghost use Rattle.script_player.specs.Script.{said, said_of as said_by_words, bad_of as bad_for};
+ghost use Rattle.script_player.specs.Stage.{IsFine, IsWorded, IsRead, filter_said};
 
 use cat_model::{Event, Memory};
 use cluster_interface::ClusterInterface;
+use filter_expr::Filter;
 use http_routes::Routes;
-use script_lang::{BadLine, Line, opens_cluster, read_line};
+use script_lang::{BadLine, Line, ReadLine, opens_cluster, read_line};
 use script_runs::Misfit;
 use std::alloc::Global;
 
@@ -20,6 +24,13 @@ pub enum Says {
     Refuses(BadLine),
 }
 
+/// What a line says, with the filter of its request.
+#[derive(Debug, Drop)]
+pub struct SaidLine {
+    pub says: Says,
+    pub filter: Option<Filter>,
+}
+
 /// What the line says, or why it is refused, where the next request has this number.
 #[tactic(auto, using(crate::proofs::Fine::line_fine))]
 pub fn answer(
@@ -28,14 +39,54 @@ pub fn answer(
     line: &[u8],
     number: u64,
     seed: u64,
-) -> Result<Result<Line, BadLine>, Memory>
-    ensures value { IfOk result (λ r. r ≡ line_of number seed line.now) }
-    ensures fine { IfOk result IsFine }
+) -> Result<Result<ReadLine, BadLine>, Memory>
+    ensures value { IfOk result (λ r. line_in r ≡ line_of number seed line.now) }
+    ensures fine { IfOk result (λ r. IsFine (line_in r)) }
+    ensures filter { IfOk result (λ r. IfOk r (λ read. option_map expression_of read.filter ≡ filter_of_line line.now)) }
 {
     match read_line(alloc, routes, line, number, seed) {
         Ok(says) => Ok(Ok(says)),
         Err(BadLine::Memory) => Err(Memory),
         Err(why) => Ok(Err(why)),
+    }
+}
+
+// What a line says that has no filter.
+fn unfiltered(says: Says) -> SaidLine
+    ensures says { result.says ≡ says }
+    ensures filter { option_map expression_of result.filter ≡ None }
+{
+    SaidLine { says, filter: None }
+}
+
+// The filter of an event, if that is a request.
+fn of_request(event: &Event, filter: Option<Filter>) -> Option<Filter>
+    ensures { option_map expression_of result ≡ (if is_request event.now then option_map expression_of filter else None) }
+{
+    match event {
+        Event::Ask { .. } => filter,
+        _ => None,
+    }
+}
+
+// What a line after the opening says that was read.
+fn said_of(read: ReadLine) -> SaidLine
+    requires { IsFine (Ok read.line) }
+    ensures says { IsWorded (said_by_words (Ok read.line)) result.says }
+    ensures filter { (line : List ℕ) → option_map expression_of read.filter ≡ filter_of_line line → option_map expression_of result.filter ≡ filter_said (said_by_words (Ok read.line)) line }
+{
+    let ReadLine { line, filter } = read;
+    match line {
+        Line::Nothing => unfiltered(Says::Nothing),
+        Line::Cluster { .. } => unfiltered(Says::Refuses(BadLine::UnknownLine)),
+        Line::Event(event) => {
+            let filter = of_request(&event, filter);
+            SaidLine {
+                says: Says::Makes(event),
+                filter,
+            }
+        }
+        Line::Settle(most) => unfiltered(Says::Settles(most)),
     }
 }
 
@@ -46,18 +97,16 @@ fn worded(
     line: &[u8],
     number: u64,
     seed: u64,
-) -> Result<Says, Memory>
-    ensures { IfOk result (IsWorded (said seed number line.now)) }
+) -> Result<SaidLine, Memory>
+    ensures says { IfOk result (λ s. IsWorded (said seed number line.now) s.says) }
+    ensures filter { IfOk result (λ s. option_map expression_of s.filter ≡ filter_said (said seed number line.now) line.now) }
 {
     if opens_cluster(line) {
-        return Ok(Says::Refuses(BadLine::UnknownLine));
+        return Ok(unfiltered(Says::Refuses(BadLine::UnknownLine)));
     }
     match answer(alloc, routes, line, number, seed)? {
-        Ok(Line::Nothing) => Ok(Says::Nothing),
-        Ok(Line::Cluster { .. }) => Ok(Says::Refuses(BadLine::UnknownLine)),
-        Ok(Line::Event(event)) => Ok(Says::Makes(event)),
-        Ok(Line::Settle(most)) => Ok(Says::Settles(most)),
-        Err(why) => Ok(Says::Refuses(why)),
+        Ok(read) => Ok(said_of(read)),
+        Err(why) => Ok(unfiltered(Says::Refuses(why))),
     }
 }
 
@@ -80,18 +129,22 @@ pub fn said_by<S: ClusterInterface>(
     servers: &S,
     seed: u64,
     line: &[u8],
-) -> Result<Says, Memory>
-    ensures { IfOk result (IsRead (S.state servers.now) (said seed (suc (S.state servers.now).asked) line.now)) }
+) -> Result<SaidLine, Memory>
+    ensures says { IfOk result (λ s. IsRead (S.state servers.now) (said seed (suc (S.state servers.now).asked) line.now) s.says) }
+    ensures filter { IfOk result (λ s. option_map expression_of s.filter ≡ filter_said (said seed (suc (S.state servers.now).asked) line.now) line.now) }
 {
     let number = next_number(servers)?;
     match worded(alloc, routes, line, number, seed) {
-        Ok(says) => Ok(fitted(servers, says)),
+        Ok(SaidLine { says, filter }) => Ok(SaidLine {
+            says: fitted(servers, says),
+            filter,
+        }),
         Err(Memory) => Err(Memory),
     }
 }
 
-// The number of the next request.
-fn next_number<S: ClusterInterface>(servers: &S) -> Result<u64, Memory>
+/// The number of the next request.
+pub fn next_number<S: ClusterInterface>(servers: &S) -> Result<u64, Memory>
     ensures { IfOk result (λ number. number ≡ (S.state servers.now).asked + 1) }
 {
     match servers.asked().checked_add(1) {

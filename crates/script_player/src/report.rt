@@ -1,4 +1,4 @@
-use cat_model::{Entry, List, Mark};
+use cat_model::{Entry, List};
 
 /// What a whole run did.
 #[derive(Debug, Drop)]
@@ -13,6 +13,4 @@ pub struct Report {
     pub applied: List<u64>,
     /// The numbers of the requests without a reply, in ascending order.
     pub unanswered: List<u64>,
-    /// What has happened in the cluster, the first one first.
-    pub marks: List<Mark>,
 }

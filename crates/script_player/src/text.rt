@@ -1,21 +1,24 @@
-ghost use Rattle.std.specs.Prelude.{◌≡◌, IfOk};
+ghost use Rattle.std.specs.Prelude.{◌≡◌, IfOk, option_map};
+ghost use Rattle.std.specs.Option.{option_copied};
+ghost use Rattle.filter_expr.specs.Expressions.{expression_of};
 ghost use Rattle.script_lang.specs.Text.{out_text, reason_text, end_text as end_text_of};
 ghost use Rattle.open_requests.specs.Contents.{out_of};
 ghost use Rattle.script_player.specs.Text as spec;
 
 use crate::refused::Refused;
 use cat_model::{Bytes, Memory, Out};
+use filter_expr::Filter;
 use open_requests::Given;
-use reply_body::written;
+use reply_body::written_through;
 use script_lang::{print_end, print_out, print_refused};
 use std::alloc::Global;
 
-// What the out gives, as it is given to the outside.
-fn outward(alloc: Global, given: &Given) -> Result<Out, Memory>
-    ensures { IfOk result (λ o. o ≡ spec.given (out_of given.now)) }
+// What the out gives, as it is given to the outside through a filter.
+fn outward(alloc: Global, given: &Given, filter: Option<&Filter>) -> Result<Out, Memory>
+    ensures { IfOk result (λ o. o ≡ spec.given (option_map expression_of (option_copied filter.entry)) (out_of given.now)) }
 {
     match given {
-        Given::Replied(reply) => Ok(Out::Reply(written(alloc, reply)?)),
+        Given::Replied(reply) => Ok(Out::Reply(written_through(alloc, reply, filter)?)),
         Given::Closed { number, event } => Ok(Out::Closed {
             number: *number,
             event: *event,
@@ -36,11 +39,15 @@ fn printed(alloc: Global, given: &Out) -> Result<Bytes, Memory>
     Ok(text)
 }
 
-/// The line of an out of the cluster.
-pub fn line_of_out(alloc: Global, out: &open_requests::Out) -> Result<Bytes, Memory>
-    ensures { IfOk result (λ text. text ≡ spec.line_of_out out.now) }
+/// The line of an out of the cluster, through the filter of its request.
+pub fn line_of_out(
+    alloc: Global,
+    out: &open_requests::Out,
+    filter: Option<&Filter>,
+) -> Result<Bytes, Memory>
+    ensures { IfOk result (λ text. text ≡ spec.line_of_out (option_map expression_of (option_copied filter.entry)) out.now) }
 {
-    let given = outward(alloc, out.given())?;
+    let given = outward(alloc, out.given(), filter)?;
     printed(alloc, &given)
 }
 

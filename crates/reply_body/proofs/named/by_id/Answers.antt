@@ -4,7 +4,8 @@ use Rattle.serde_json.specs.Data.{object, no_members}
 use Rattle.serde_json.specs.View.{members_view}
 use Rattle.serde_json.proofs.Views.{view-Object}
 use Rattle.cat_model.specs.declared.row.ServiceRow.{ServiceRow}
-use Rattle.reply_body.specs.Rows.{by_name, service_data, put_each}
+use Rattle.row_objects.specs.Objects.{service_data}
+use Rattle.reply_body.specs.Rows.{by_name, put_each}
 use Rattle.reply_body.proofs.Items.{next_member}
 use Rattle.reply_body.proofs.named.by_id.Goals as goal
 

@@ -2,7 +2,8 @@ use Rattle.std.proofs.Common.{◌≡◌, take}
 use Rattle.serde_json.specs.Data.{no_members}
 use Rattle.serde_json.specs.View.{members_view}
 use Rattle.cat_model.specs.declared.row.ServiceRow.{ServiceRow}
-use Rattle.reply_body.specs.Rows.{service_data, put_each}
+use Rattle.row_objects.specs.Objects.{service_data}
+use Rattle.reply_body.specs.Rows.{put_each}
 use Rattle.reply_body.proofs.named.by_id.Given as goal
 
 abbrev pub invariant-loop-row : goal.invariant-loop-row

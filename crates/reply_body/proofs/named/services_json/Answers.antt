@@ -4,7 +4,8 @@ use Rattle.serde_json.specs.Data.{object, no_members}
 use Rattle.serde_json.specs.View.{members_view}
 use Rattle.serde_json.proofs.Views.{view-Object}
 use Rattle.cat_model.specs.declared.query.NameTags.{NameTags}
-use Rattle.reply_body.specs.Rows.{by_name, names_data, services_data, put_each}
+use Rattle.row_objects.specs.Objects.{names_data}
+use Rattle.reply_body.specs.Rows.{by_name, services_data, put_each}
 use Rattle.reply_body.proofs.Items.{next_member}
 use Rattle.reply_body.proofs.named.services_json.Goals as goal
 

@@ -2,7 +2,8 @@ use Rattle.std.proofs.Common.{◌≡◌, take}
 use Rattle.serde_json.specs.Data.{no_members}
 use Rattle.serde_json.specs.View.{members_view}
 use Rattle.cat_model.specs.declared.query.NameTags.{NameTags}
-use Rattle.reply_body.specs.Rows.{names_data, put_each}
+use Rattle.row_objects.specs.Objects.{names_data}
+use Rattle.reply_body.specs.Rows.{put_each}
 use Rattle.reply_body.proofs.named.services_json.Given as goal
 
 abbrev pub invariant-loop-row : goal.invariant-loop-row

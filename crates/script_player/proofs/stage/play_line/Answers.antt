@@ -1,15 +1,14 @@
-use Rattle.script_player.proofs.Turning.{turn_made_first, turn_settled_first, turn_refused}
+use Rattle.std.proofs.Common.{suc}
+use Rattle.script_player.specs.Script.{said}
+use Rattle.script_player.specs.Stage.{GoesOn, TakesFirst, filter_said, kept_in, put_for, through}
+use Rattle.script_player.proofs.Turning.{part_same}
 use Rattle.script_player.proofs.stage.play_line.Goals as goal
 
-pub returns-in-Err-make-clause-part : goal.returns-in-Err-make-clause-part
-returns-in-Err-make-clause-part g c =
-    let read = rw c.in-Ok-Makes.field-0-is at c.in-Ok-Makes.ensures in
-    turn_made_first _ _ _ c.in-Ok-Makes.event _ _ read.0 read.2 c.in-Err-make.ensures.part
-
-pub returns-in-Err-settle-clause-part : goal.returns-in-Err-settle-clause-part
-returns-in-Err-settle-clause-part g c =
-    turn_settled_first _ _ _ c.in-Ok-Settles.most _ _ (rw c.in-Ok-Settles.field-0-is at c.in-Ok-Settles.ensures) c.in-Err-settle.ensures.part
-
-pub returns-in-Ok-Refuses-clause-turns : goal.returns-in-Ok-Refuses-clause-turns
-returns-in-Ok-Refuses-clause-turns g c =
-    turn_refused _ _ _ c.in-Ok-Refuses.why _ (rw c.in-Ok-Refuses.field-0-is at c.in-Ok-Refuses.ensures)
+pub returns-in-Ok-keep-clause-part : goal.returns-in-Ok-keep-clause-part
+returns-in-Ok-keep-clause-part g c =
+    let state = g.S.ClusterInterface.state c.args.servers.now in
+    let number = suc state.asked in
+    let says = said c.args.seed number c.args.line.now in
+    part_same c.play_said.result (kept_in c.keep.new.filters) (put_for number (filter_said says c.args.line.now) (kept_in c.args.filters.now)) state says c.in-Ok.field-0.says
+    (λ s f. TakesFirst (through g.T.Taker.adds f) (GoesOn state s) (g.T.Taker.held c.args.taker.now) (g.T.Taker.held c.play_said.new.taker))
+    (rw c.in-Ok.ensures.filter at c.in-Ok-keep.ensures) c.in-Ok.ensures.says c.play_said.ensures.part
