@@ -1,16 +1,16 @@
-//! The clocks, the pause, and the words.
+//! The clocks and the words.
 
 use cat_model::Draw;
-use serve_outside::{
-    Clock, CountWords, Gate, MachineClock, SeededWords, SetClock, SleepGate, Words,
-};
+use serve_outside::{Clock, CountWords, MachineClock, SeededWords, SetClock, Words};
+use std::thread;
+use std::time::Duration;
 
 #[test]
 fn clocks_go_on(rt: HostRuntime) {
     assert!(rt; SetClock { ms: 7 }.now_ms() == 7);
     let clock = MachineClock::new(rt);
     let before = clock.now_ms();
-    SleepGate::new(rt).idle(1);
+    thread::sleep(&rt, Duration::from_millis(20));
     let passed = clock.now_ms().saturating_sub(before);
     assert!(rt; passed >= 20 && passed < 10_000, "it slept {passed} ms");
 }

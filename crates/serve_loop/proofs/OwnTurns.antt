@@ -116,6 +116,10 @@ rests_next_or shows mine k (Err e) old new own x = rests_cut mine old new x
 pub mine_is : (old new rest : List Mark) → new ≡ old ++ rest → numbers opens (drop (length old) new) ≡ numbers opens rest
 mine_is old new rest e = ap (λ (l : List Mark). numbers opens (drop (length old) l)) e ∙ ap (numbers opens) (drop-append_seam old rest)
 
+-- who asks nothing opens nothing
+pub mine_still : (mine : List ℕ) (old new : List Mark) → AddsQuiet old new → mine ++ numbers opens (drop (length old) new) ≡ mine
+mine_still mine old new q = ap (λ (l : List ℕ). mine ++ l) (mine_is old new q.rest q.are ∙ q.opens_none) ∙ append-nil mine
+
 asked_opens : (n : ℕ) (ask : Ask) (marks : List Mark) → IsAmong (asked_mark n ask) marks → Among n (numbers opens marks)
 asked_opens n ask [] a = absurd a
 asked_opens n ask (m ∷ ms) (inl e) = subst (λ (z : Mark). Among n (ahead (opens z) (numbers opens ms))) e (inl refl)

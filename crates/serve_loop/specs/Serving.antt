@@ -9,12 +9,14 @@ use Rattle.cat_model.specs.declared.reply.Refusal.{Refusal}
 use Rattle.cat_model.specs.declared.reply.Mark.{Mark}
 use Rattle.cat_outside.specs.Causes.{Rose}
 use Rattle.cluster_rules.specs.Replies.{Reply}
+use Rattle.http_routes.specs.Filters.{filter_at}
 use Rattle.http_routes.specs.Routes.{route_of}
 use Rattle.http_wire.specs.declared.rejection.Rejection.{Rejection}
 use Rattle.http_wire.specs.Rejections.{answer_to}
 use Rattle.http_wire.specs.Replies.{continue_bytes}
 use Rattle.http_wire.specs.State.{GivesAll}
 use Rattle.http_wire.specs.Stream.{Raw, Given, go_on, whole}
+use Rattle.reply_body.specs.Filtered.{shown}
 use Rattle.serve_outside.specs.Links.{LinkState}
 use Rattle.turn_lock.specs.declared.knowledge.Knowledge.{Knowledge}
 use Rattle.serve_loop.specs.declared.cluster.Ask.{Ask}
@@ -48,9 +50,14 @@ count_of [] = 0
 count_of (continued ∷ es) = count_of es
 count_of (replied raw reply ∷ es) = count_of es + 1
 
+-- a reply as it is shown to its request, through the filter of the request's target
+abbrev pub shown_to : Raw → Reply → Reply
+shown_to raw reply = shown (filter_at raw.target) reply
+
 -- a reply as it is due to its request: behind a HEAD its head alone (RFC 9110, section 9.3.2)
 abbrev pub answer_bytes : Raw → Reply → List ℕ
-answer_bytes raw reply = if bytes_eq raw.method (codes "HEAD") then head_of reply raw.close else text_of reply raw.close
+answer_bytes raw reply =
+    if bytes_eq raw.method (codes "HEAD") then head_of (shown_to raw reply) raw.close else text_of (shown_to raw reply) raw.close
 
 -- what is due to be written for them
 abbrev pub bytes_of : List Exchange → List ℕ

@@ -1,8 +1,9 @@
 //! The cluster as the turns use it.
 
-ghost use Rattle.std.specs.Prelude.{ℕ, ◌<◌, List, IfOk, OnErr, OnOk};
+ghost use Rattle.std.specs.Prelude.{◌≡◌, ℕ, ◌<◌, List, IfOk, OnErr, OnOk, length};
 ghost use Rattle.cat_model.specs.declared.reply.Mark.{Mark as SpecMark};
-ghost use Rattle.cluster_rules.specs.Replies.{Reply as SpecReply};
+ghost use Rattle.cluster_rules.specs.Replies.{Out as SpecOut, Reply as SpecReply};
+ghost use Rattle.open_requests.specs.Taking.{IsNumberAt};
 ghost use Rattle.serve_loop.specs.declared.cluster.Ask.{Ask as SpecAsk};
 ghost use Rattle.serve_loop.specs.Collects.{Collects};
 ghost use Rattle.serve_loop.specs.Marks.{AddsAsked, AddsCut, AddsQuiet, AreKept, Delivers, TicksAll, TicksBy, TicksNone};
@@ -47,6 +48,9 @@ pub trait SharedCluster: Drop {
     /// No message is under way between servers.
     ghost idle: { Self → Type 0 };
 
+    /// The outs that wait to be taken.
+    ghost tray: { Self → List SpecOut };
+
     /// The reply to the request with this number shows what it asks for and its kind give over the log that these marks
     /// tell.
     ghost shows: { ℕ → SpecAsk → SpecReply → List SpecMark → Type 0 };
@@ -82,4 +86,13 @@ pub trait SharedCluster: Drop {
     fn collect(&mut self, number: u64) -> Collected
         ensures got { Collects shows number result (marks self.old) (marks self.new) }
         ensures idle { idle self.old → idle self.new };
+
+    /// How many outs wait to be taken.
+    fn outs(&self) -> usize
+        ensures { result ≡ length (tray self.now) };
+
+    /// The number of the request whose out stands at this place of those that wait, where it is a request's.
+    fn out_number(&self, at: usize) -> Option<u64>
+        requires { at < length (tray self.now) }
+        ensures { IsNumberAt at (tray self.now) result };
 }

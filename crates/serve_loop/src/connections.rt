@@ -14,6 +14,7 @@ use crate::finishing::finish_tasks;
 use crate::run::{Server, Stop, TaskOf};
 use crate::served::Served;
 use crate::starting::start_tasks;
+use crate::timekeeping::{finish_timekeeper, start_timekeeper};
 use serve_outside::{Clock, Gate, Listener, Spawner, Words};
 use std::sync::Wait;
 use std::thread::Threads;
@@ -47,13 +48,14 @@ fn outcome(started: Result<(), Stop>, short: bool) -> Result<(), Stop>
 }
 
 /// Accepts so many connections, serves each by a job of its own, waits for all of them, and takes a last turn for good.
+/// Beside them a timekeeper lets the clocks go on, where it can be started.
 /// Gives the cluster as it leaves it, and says what stopped it, if anything did: a connection that ended for want of
 /// memory counts as want of memory.
 pub fn serve_all<
     R: Threads + Wait + Copy + Send + Drop + 'static,
     C: SharedCluster + Send + 'static,
     Cl: Clock + Copy + Send + Drop + 'static,
-    G: Gate + Copy + Send + Drop + 'static,
+    G: Gate + Send + Sync + Drop + 'static,
     L: Listener,
     W: Words,
     Sp: Spawner,
@@ -77,11 +79,13 @@ where
     ensures port { L.listens_on listener.new ≡ L.listens_on listener.old }
 {
     let mut tasks: Vec<TaskOf<R, C, Cl, G, L::Link>> = Vec::new(server.alloc);
+    let keeping = start_timekeeper(server, &mut pass, spawner);
     let started = start_tasks(
         server, &mut pass, listener, words, spawner, &mut tasks, count,
     );
     listener.stop();
     let short = finish_tasks(server, &mut pass, listener, words, &mut tasks);
+    finish_timekeeper(server, &mut pass, keeping);
     let cluster = last_turn(server, pass);
     (cluster, outcome(started, short))
 }

@@ -48,7 +48,7 @@ fn finish_one<
     R: Threads + Wait + Copy + Send + Drop + 'static,
     C: SharedCluster + Send + 'static,
     Cl: Clock + Copy + Send + Drop + 'static,
-    G: Gate + Copy + Send + Drop + 'static,
+    G: Gate + Send + Sync + Drop + 'static,
     L: Listener,
     W: Words,
 >(
@@ -87,7 +87,7 @@ pub(crate) fn finish_tasks<
     R: Threads + Wait + Copy + Send + Drop + 'static,
     C: SharedCluster + Send + 'static,
     Cl: Clock + Copy + Send + Drop + 'static,
-    G: Gate + Copy + Send + Drop + 'static,
+    G: Gate + Send + Sync + Drop + 'static,
     L: Listener,
     W: Words,
 >(

@@ -26,7 +26,7 @@ pub struct ServeJob<R, S: History, Cl, G, L> {
     pub alloc: Global,
     pub board: Arc<Board<S>, Global>,
     pub clock: Cl,
-    pub gate: G,
+    pub gate: Arc<G, Global>,
     /// The agent that is asked for it, the first one 1.
     pub agent: u32,
     /// The words from which those of its requests are drawn.

@@ -6,11 +6,13 @@ mod cluster;
 mod connections;
 mod finishing;
 mod job;
+mod patience;
 mod replies;
 mod run;
 mod served;
 mod serving;
 mod starting;
+mod timekeeping;
 mod turning;
 mod writing;
 
@@ -21,3 +23,4 @@ pub use job::{Finished, ServeJob, serve_connection};
 pub use run::{Server, Stop};
 pub use served::{Served, Turned};
 pub use serving::Board;
+pub use timekeeping::{Timekeeper, keep_clocks};

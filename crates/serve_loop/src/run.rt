@@ -35,7 +35,7 @@ pub struct Server<R, S: History, Cl, G> {
     pub alloc: Global,
     pub board: Arc<Board<S>, Global>,
     pub clock: Cl,
-    pub gate: G,
+    pub gate: Arc<G, Global>,
     /// How many agents there are.
     pub agents: u32,
 }

@@ -8,6 +8,7 @@ ghost use Rattle.serve_loop.specs.Turns.{Asks, Exchanges, GoesOn, Makes, MayAsk,
 
 use crate::cluster::{Ask, Collected, SharedCluster};
 use cat_model::{Mark, Memory};
+use serve_outside::Gate;
 use std::alloc::Global;
 use turn_lock::History;
 
@@ -16,6 +17,9 @@ const MOST: u32 = 4096;
 
 /// The most milliseconds that a turn makes up for: a day.
 const MOST_MS: u64 = 86_400_000;
+
+/// The number by which whoever asks nothing waits. No request has it.
+pub(crate) const NOBODY: u64 = 0;
 
 /// A cluster, and the time of its clocks.
 #[derive(Drop)]
@@ -35,11 +39,19 @@ impl<C: SharedCluster> History for Served<C> {
     ghost takes = { takes };
 }
 
-/// What a turn gave: the number of its request, and what there is of it.
+/// What a turn gave: the number of its request, what there is of it, and how often the request had been woken by then.
 #[derive(Drop)]
 pub struct Turned {
     pub number: u64,
     pub got: Collected,
+    pub rings: u64,
+}
+
+// Wakes the request of this number, where it is another than the turn's own.
+fn wake_other<G: Gate>(gate: &G, number: u64, own: u64) {
+    if number != own {
+        gate.wake(number);
+    }
 }
 
 impl<C: SharedCluster> Served<C> {
@@ -125,8 +137,25 @@ impl<C: SharedCluster> Served<C> {
         }
     }
 
-    // Makes the ask and settles the messages, and then collects.
-    fn exchange(&mut self, alloc: Global, ask: Option<Ask>, number: u64) -> Result<Turned, Memory>
+    // Wakes each request, but for that of this number, whose out stands at this place of those that wait or behind it.
+    fn wake_others<G: Gate>(&self, gate: &G, from: usize, number: u64) {
+        for at in from..self.cluster.outs() {
+            if let Some(other) = self.cluster.out_number(at) {
+                wake_other(gate, other, number);
+            }
+        }
+    }
+
+    // Makes the ask and settles the messages, wakes the other requests whose outs are new since there were so many, and
+    // then collects.
+    fn exchange<G: Gate>(
+        &mut self,
+        alloc: Global,
+        gate: &G,
+        outs: usize,
+        ask: Option<Ask>,
+        number: u64,
+    ) -> Result<Turned, Memory>
         requires { ForSome ask (MayAsk C.agents) }
         ensures exchanged { MatchResult result
             (λ t. Exchanges C.marks C.idle C.shows ask number t self.old.cluster self.new.cluster)
@@ -135,18 +164,24 @@ impl<C: SharedCluster> Served<C> {
     {
         match self.ask_and_settle(alloc, ask, number) {
             Ok(number) => {
+                self.wake_others(gate, outs, number);
                 let got = self.collect(number);
-                Ok(Turned { number, got })
+                let rings = gate.rings(number);
+                Ok(Turned { number, got, rings })
             }
-            Err(Memory) => Err(Memory),
+            Err(Memory) => {
+                self.wake_others(gate, outs, number);
+                Err(Memory)
+            }
         }
     }
 
     // A turn of whose marks nothing more is said.
-    fn try_turn(
+    fn try_turn<G: Gate>(
         &mut self,
         alloc: Global,
         now: u64,
+        gate: &G,
         ask: Option<Ask>,
         number: u64,
     ) -> Result<Turned, Memory>
@@ -156,21 +191,25 @@ impl<C: SharedCluster> Served<C> {
             (λ _. AddsCut (C.marks self.old.cluster) (C.marks self.new.cluster)) }
         ensures time { GoesOn self.old.last_ms self.new.last_ms now (C.marks self.old.cluster) (C.marks self.new.cluster) }
     {
+        let outs = self.cluster.outs();
         match self.ready(alloc, now) {
-            Ok(()) => self.exchange(alloc, ask, number),
+            Ok(()) => self.exchange(alloc, gate, outs, ask, number),
             Err(Memory) => {
                 drop(ask);
+                self.wake_others(gate, outs, number);
                 Err(Memory)
             }
         }
     }
 
     /// The clocks go on by the time since the last turn, and what that brings is settled. Then the request is asked, if
-    /// there is one, and settled, and that request is collected, else the one with this number.
-    pub fn turn(
+    /// there is one, and settled, and that request is collected, else the one with this number. Each other request that
+    /// was answered meanwhile is woken.
+    pub fn turn<G: Gate>(
         &mut self,
         alloc: Global,
         now: u64,
+        gate: &G,
         ask: Option<Ask>,
         number: u64,
     ) -> Result<Turned, Memory>
@@ -183,9 +222,24 @@ impl<C: SharedCluster> Served<C> {
         ensures after { AreKept (C.marks self.new.cluster) }
     {
         self.cluster.kept();
-        let turned = self.try_turn(alloc, now, ask, number);
+        let turned = self.try_turn(alloc, now, gate, ask, number);
         self.cluster.kept();
         turned
+    }
+
+    /// A turn that asks and collects nothing: the clocks go on by the time since the last turn, what that brings is
+    /// settled, and each request that was answered is woken.
+    pub fn keep_time<G: Gate>(&mut self, alloc: Global, now: u64, gate: &G) -> Result<(), Memory>
+        ensures quiet { AddsQuiet (C.marks self.old.cluster) (C.marks self.new.cluster) }
+        ensures time { GoesOn self.old.last_ms self.new.last_ms now (C.marks self.old.cluster) (C.marks self.new.cluster) }
+        ensures readied { OnOk result (Readies C.marks C.idle C.servers C.clock self.old.last_ms now self.old.cluster self.new.cluster) }
+        ensures after { AreKept (C.marks self.new.cluster) }
+    {
+        let outs = self.cluster.outs();
+        let readied = self.ready(alloc, now);
+        self.wake_others(gate, outs, NOBODY);
+        self.cluster.kept();
+        readied
     }
 
     /// A law, which does nothing.

@@ -1,11 +1,13 @@
 //! A connection, from its first byte to its end.
 
-ghost use Rattle.std.specs.Prelude.{◌≡◌, ◌+◌, ◌<◌, ◌≤◌, [], ℕ, List, IfOk, MatchResult, OnOk, drop, false, true, length, take};
+ghost use Rattle.std.specs.Prelude.{◌≡◌, ◌+◌, ◌<◌, ◌≤◌, [], ℕ, List, IfOk, MatchResult, OnOk, drop, false, true, length, option_map, take};
 ghost use Rattle.cat_model.specs.declared.reply.Mark.{Mark};
 ghost use Rattle.turn_lock.specs.declared.knowledge.Knowledge.{Knowledge};
 ghost use Rattle.std.specs.Arc.{arc_value};
 ghost use Rattle.cat_model.specs.declared.request.Asked.TheVariants.{Good};
 ghost use Rattle.cat_model.specs.Taken.{IsTakenAsked};
+ghost use Rattle.filter_expr.specs.Expressions.{expression_of};
+ghost use Rattle.http_routes.specs.Filters.{filter_at};
 ghost use Rattle.http_wire.specs.Reader.{raw};
 ghost use Rattle.http_wire.specs.Stream.{go_on, whole};
 ghost use Rattle.serve_outside.specs.Links.{Reads};
@@ -18,15 +20,15 @@ ghost use Rattle.serve_loop.specs.declared.cause.Cause.TheVariants as cause;
 
 use crate::cause::Cause;
 use crate::cluster::{Ask, SharedCluster};
-use crate::replies::refusing;
+use crate::replies::{Response, refusing};
 use crate::served::Served;
 use crate::turning::ask_and_wait;
 use crate::writing::{send_answer, send_continue, send_refusal};
 use cat_model::{Asked, Draw, Memory, Request, Shared};
 use cat_outside::Failed;
 use crossbeam_utils::CachePadded;
-use http_routes::Routes;
 use http_routes::laws::routes_are_taken;
+use http_routes::{Routed, Routes};
 use http_wire::{Fed, Got, RawRequest, Rejection, RequestReader};
 use open_requests::Reply;
 use serve_outside::{Awaited, Clock, Gate, Link};
@@ -49,7 +51,7 @@ pub struct Service<R, S: History, Cl, G, L> {
     pub alloc: Global,
     pub board: Arc<Board<S>, Global>,
     pub clock: Cl,
-    pub gate: G,
+    pub gate: Arc<G, Global>,
     pub agent: u32,
     pub draw: Draw,
     pub first: Snapshot<L>,
@@ -126,7 +128,7 @@ fn ask<R: Wait, C: SharedCluster, Cl: Clock, G: Gate, L: Link>(
         lock,
         pass,
         &service.clock,
-        &service.gate,
+        &*service.gate,
         ask,
     )
 }
@@ -151,10 +153,11 @@ fn respond<R: Wait, C: SharedCluster, Cl: Clock, G: Gate, L: Link>(
     }
 }
 
-// What a request asks for.
-fn routed(alloc: Global, routes: &Routes, message: &RawRequest) -> Result<Asked, Memory>
-    ensures asked { IfOk result (λ asked. asked ≡ asked_by (raw message.now)) }
-    ensures taken { IfOk result IsTakenAsked }
+// What a request asks for, and its filter.
+fn routed(alloc: Global, routes: &Routes, message: &RawRequest) -> Result<Routed, Memory>
+    ensures asked { IfOk result (λ r. r.asked ≡ asked_by (raw message.now)) }
+    ensures taken { IfOk result (λ r. IsTakenAsked r.asked) }
+    ensures filter { IfOk result (λ r. option_map expression_of r.filter ≡ filter_at (raw message.now).target) }
 {
     routes_are_taken();
     routes.route(
@@ -165,22 +168,26 @@ fn routed(alloc: Global, routes: &Routes, message: &RawRequest) -> Result<Asked,
     )
 }
 
-// The reply to the n-th request.
+// The reply to the n-th request, with its filter.
 fn reply_to<R: Wait, C: SharedCluster, Cl: Clock, G: Gate, L: Link>(
     service: &Service<R, Served<C>, Cl, G, L>,
     routes: &Routes,
     pass: &mut Pass<Served<C>>,
     message: &RawRequest,
     n: u64,
-) -> Result<Reply, Memory>
+) -> Result<Response, Memory>
     requires ours { IsOurs (arc_value service.now.board) pass.old }
     requires agent { (0 < service.now.agent) × (service.now.agent ≤ C.agents) }
     ensures ours { IsOurs (arc_value service.now.board) pass.new }
     ensures grown { Grows (known pass.old) (known pass.new) }
-    ensures reply { IfOk result (λ reply. IsReply C.shows (connection L.state service.now) (raw message.now) n reply (known pass.new)) }
+    ensures reply { IfOk result (λ r. IsReply C.shows (connection L.state service.now) (raw message.now) n r.reply (known pass.new)) }
+    ensures filter { IfOk result (λ r. option_map expression_of r.filter ≡ filter_at (raw message.now).target) }
 {
     match routed(service.alloc, routes, message) {
-        Ok(asked) => respond(service, pass, asked, n),
+        Ok(Routed { asked, filter }) => match respond(service, pass, asked, n) {
+            Ok(reply) => Ok(Response { reply, filter }),
+            Err(Memory) => Err(Memory),
+        },
         Err(Memory) => Err(Memory),
     }
 }
@@ -200,17 +207,18 @@ impl<L: Link, C: SharedCluster> Serving<L, Served<C>> {
         &mut self,
         service: &Service<R, Served<C>, Cl, G, L>,
         message: &RawRequest,
-        reply: &Reply,
+        response: &Response,
         n: u64,
     ) -> Result<(), Cause>
         requires next { n ≡ self.old.requests + 1 }
         requires unshut { (L.state self.old.link).shut ≡ false }
+        requires filter { option_map expression_of response.now.filter ≡ filter_at (raw message.now).target }
         ensures pass { self.new.pass ≡ self.old.pass }
         ensures gives { (before : Knowledge Mark) (rest : List ℕ) → Owes C.shows (connection L.state service.now) (record (stage L.state self.old) { known = before }) rest (whole (raw message.now)) → Grows before (known self.old.pass)
-            → IsReply C.shows (connection L.state service.now) (raw message.now) n reply.now (known self.old.pass)
+            → IsReply C.shows (connection L.state service.now) (raw message.now) n response.now.reply (known self.old.pass)
             → GoesOn C.shows (connection L.state service.now) result (stage L.state self.new) rest }
     {
-        match send_answer(&mut self.link, service.alloc, message, reply) {
+        match send_answer(&mut self.link, service.alloc, message, response) {
             Ok(()) => {
                 self.requests = n;
                 ends_here(message.close)
@@ -253,9 +261,9 @@ impl<L: Link, C: SharedCluster> Serving<L, Served<C>> {
             return Err(Cause::Memory);
         };
         match reply_to(service, routes, &mut self.pass, message, n) {
-            Ok(reply) => {
-                let given = self.give(service, message, &reply, n);
-                drop(reply);
+            Ok(response) => {
+                let given = self.give(service, message, &response, n);
+                drop(response);
                 given
             }
             Err(Memory) => Err(Cause::Memory),

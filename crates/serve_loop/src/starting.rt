@@ -26,13 +26,14 @@ use std::thread::{Promise, Threads};
 use turn_lock::{NoShare, Pass};
 
 // What a job needs of its own.
-fn parts<R, C: SharedCluster, Cl, G>(
+fn parts<R, C: SharedCluster, Cl, G: Drop>(
     server: &Server<R, Served<C>, Cl, G>,
     pass: &mut Pass<Served<C>>,
 ) -> Result<
     (
         RequestReader,
         Arc<Board<Served<C>>, Global>,
+        Arc<G, Global>,
         Pass<Served<C>>,
     ),
     Memory,
@@ -41,13 +42,14 @@ fn parts<R, C: SharedCluster, Cl, G>(
     ensures ours { IsOurs (arc_value server.now.board) pass.new }
     ensures reader { IfOk result (λ r. (r.0.stop ≡ None) × Told [] [] r.0.held r.0.stop) }
     ensures board { IfOk result (λ r. arc_value r.1 ≡ arc_value server.now.board) }
-    ensures pass { IfOk result (λ r. IsOurs (arc_value server.now.board) r.2) }
+    ensures pass { IfOk result (λ r. IsOurs (arc_value server.now.board) r.3) }
 {
     let reader = RequestReader::new(server.alloc)?;
     let board = Arc::try_clone(&server.board)?;
+    let gate = Arc::try_clone(&server.gate)?;
     let lock = &**server.board;
     match lock.split(pass) {
-        Ok(own) => Ok((reader, board, own)),
+        Ok(own) => Ok((reader, board, gate, own)),
         Err(NoShare) => Err(Memory),
     }
 }
@@ -57,7 +59,7 @@ fn job_of<
     R: Wait + Copy + Drop,
     C: SharedCluster,
     Cl: Clock + Copy + Drop,
-    G: Gate + Copy + Drop,
+    G: Gate + Drop,
     L: Link,
 >(
     server: &Server<R, Served<C>, Cl, G>,
@@ -77,12 +79,12 @@ fn job_of<
     ensures refused { IfErr result (λ back. back ≡ link) }
 {
     match parts(server, pass) {
-        Ok((reader, board, own)) => Ok(ServeJob {
+        Ok((reader, board, gate, own)) => Ok(ServeJob {
             rt: server.rt,
             alloc: server.alloc,
             board,
             clock: server.clock,
-            gate: server.gate,
+            gate,
             agent: (n - 1) % server.agents + 1,
             draw,
             link,
@@ -107,7 +109,7 @@ fn launch<
     R: Threads + Wait + Copy + Send + Drop + 'static,
     C: SharedCluster + Send + 'static,
     Cl: Clock + Copy + Send + Drop + 'static,
-    G: Gate + Copy + Send + Drop + 'static,
+    G: Gate + Send + Sync + Drop + 'static,
     L: Listener,
     Sp: Spawner,
 >(
@@ -154,7 +156,7 @@ fn start_one<
     R: Threads + Wait + Copy + Send + Drop + 'static,
     C: SharedCluster + Send + 'static,
     Cl: Clock + Copy + Send + Drop + 'static,
-    G: Gate + Copy + Send + Drop + 'static,
+    G: Gate + Send + Sync + Drop + 'static,
     L: Listener,
     Sp: Spawner,
 >(
@@ -201,7 +203,7 @@ fn start_next<
     R: Threads + Wait + Copy + Send + Drop + 'static,
     C: SharedCluster + Send + 'static,
     Cl: Clock + Copy + Send + Drop + 'static,
-    G: Gate + Copy + Send + Drop + 'static,
+    G: Gate + Send + Sync + Drop + 'static,
     L: Listener,
     W: Words,
     Sp: Spawner,
@@ -251,7 +253,7 @@ pub(crate) fn start_tasks<
     R: Threads + Wait + Copy + Send + Drop + 'static,
     C: SharedCluster + Send + 'static,
     Cl: Clock + Copy + Send + Drop + 'static,
-    G: Gate + Copy + Send + Drop + 'static,
+    G: Gate + Send + Sync + Drop + 'static,
     L: Listener,
     W: Words,
     Sp: Spawner,

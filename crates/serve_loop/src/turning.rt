@@ -9,7 +9,8 @@ ghost use Rattle.serve_loop.specs.Turns.{MayAsk};
 ghost use Rattle.serve_loop.specs.Waiting.{Grows, IsAnswered, IsBehind, Stands, Waits};
 
 use crate::cluster::{Ask, Collected, SharedCluster};
-use crate::served::{Served, Turned};
+use crate::patience::{Patience, patience_of};
+use crate::served::{NOBODY, Served, Turned};
 use cat_model::Memory;
 use open_requests::Reply;
 use serve_outside::{Clock, Gate};
@@ -18,12 +19,13 @@ use std::sync::Wait;
 use turn_lock::{HistoryLock, Pass};
 
 /// The first turn of a request.
-pub(crate) fn first_turn<R: Wait, C: SharedCluster>(
+pub(crate) fn first_turn<R: Wait, C: SharedCluster, G: Gate>(
     rt: &R,
     alloc: Global,
     lock: &HistoryLock<Served<C>>,
     pass: &mut Pass<Served<C>>,
     now: u64,
+    gate: &G,
     ask: Ask,
 ) -> Result<Turned, Memory>
     requires own { pass.old.seat.table_id ≡ lock.now.table.shared.table_id }
@@ -36,18 +38,19 @@ pub(crate) fn first_turn<R: Wait, C: SharedCluster>(
     ensures stands { IfOk result (λ t. Stands C.shows t.number ask t.got (known pass.new)) }
 {
     let mut turn = lock.take(rt, pass);
-    let turned = turn.state().turn(alloc, now, Some(ask), 0);
+    let turned = turn.state().turn(alloc, now, gate, Some(ask), NOBODY);
     lock.give(turn, pass);
     turned
 }
 
 /// A later turn of a request that waits.
-pub(crate) fn next_turn<R: Wait, C: SharedCluster>(
+pub(crate) fn next_turn<R: Wait, C: SharedCluster, G: Gate>(
     rt: &R,
     alloc: Global,
     lock: &HistoryLock<Served<C>>,
     pass: &mut Pass<Served<C>>,
     now: u64,
+    gate: &G,
     number: u64,
 ) -> Result<Turned, Memory>
     requires own { pass.old.seat.table_id ≡ lock.now.table.shared.table_id }
@@ -59,12 +62,12 @@ pub(crate) fn next_turn<R: Wait, C: SharedCluster>(
     ensures stands { IfOk result (λ t. (ask : SpecAsk) → Waits number ask (known pass.old).seen (known pass.old).mine → Stands C.shows t.number ask t.got (known pass.new)) }
 {
     let mut turn = lock.take(rt, pass);
-    let turned = turn.state().turn(alloc, now, None, number);
+    let turned = turn.state().turn(alloc, now, gate, None, number);
     lock.give(turn, pass);
     turned
 }
 
-/// Asks, and looks again and again until the reply is there.
+/// Asks, and waits until the reply is there.
 pub(crate) fn ask_and_wait<R: Wait, C: SharedCluster, Cl: Clock, G: Gate>(
     rt: &R,
     alloc: Global,
@@ -82,13 +85,15 @@ pub(crate) fn ask_and_wait<R: Wait, C: SharedCluster, Cl: Clock, G: Gate>(
     ensures grown { Grows (known pass.old) (known pass.new) }
     ensures answered { IfOk result (λ reply. IsAnswered C.shows ask reply (known pass.new).seen (known pass.new).mine) }
 {
-    match first_turn(rt, alloc, lock, pass, clock.now_ms(), ask) {
-        Ok(turned) => wait_for(rt, alloc, lock, pass, clock, gate, turned),
+    let now = clock.now_ms();
+    let patience = patience_of(&ask, now);
+    match first_turn(rt, alloc, lock, pass, now, gate, ask) {
+        Ok(turned) => wait_for(rt, alloc, lock, pass, clock, gate, patience, turned),
         Err(Memory) => Err(Memory),
     }
 }
 
-// Looks again and again until the reply is there.
+// Looks whenever its answer may have come, until the reply is there.
 fn wait_for<R: Wait, C: SharedCluster, Cl: Clock, G: Gate>(
     rt: &R,
     alloc: Global,
@@ -96,6 +101,7 @@ fn wait_for<R: Wait, C: SharedCluster, Cl: Clock, G: Gate>(
     pass: &mut Pass<Served<C>>,
     clock: &Cl,
     gate: &G,
+    patience: Patience,
     turned: Turned,
 ) -> Result<Reply, Memory>
     requires own { pass.old.seat.table_id ≡ lock.now.table.shared.table_id }
@@ -110,6 +116,7 @@ fn wait_for<R: Wait, C: SharedCluster, Cl: Clock, G: Gate>(
     let Turned {
         mut number,
         mut got,
+        mut rings,
     } = turned;
     for _ in rt.forever() {
         match got {
@@ -117,11 +124,12 @@ fn wait_for<R: Wait, C: SharedCluster, Cl: Clock, G: Gate>(
             Collected::NotYet => {}
             Collected::Gone => unreachable!(),
         }
-        gate.idle(number);
-        match next_turn(rt, alloc, lock, pass, clock.now_ms(), number) {
+        gate.idle(number, rings, patience.left(clock.now_ms()));
+        match next_turn(rt, alloc, lock, pass, clock.now_ms(), gate, number) {
             Ok(turned) => {
                 number = turned.number;
                 got = turned.got;
+                rings = turned.rings;
             }
             Err(Memory) => return Err(Memory),
         }

@@ -1,7 +1,9 @@
 //! Writing whole pieces to a link.
 
-ghost use Rattle.std.specs.Prelude.{◌≡◌, ◌<◌, ◌≤◌, false, true, IfErr, IfOk, MatchResult, OnErr, length, take};
+ghost use Rattle.std.specs.Prelude.{◌≡◌, ◌<◌, ◌≤◌, false, true, IfErr, IfOk, MatchResult, OnErr, length, option_map, take};
 ghost use Rattle.std.specs.Io.KnownBytes.{append_known};
+ghost use Rattle.filter_expr.specs.Expressions.{expression_of};
+ghost use Rattle.http_routes.specs.Filters.{filter_at};
 ghost use Rattle.http_wire.specs.Replies.{continue_bytes};
 ghost use Rattle.http_wire.specs.Reader.{raw};
 ghost use Rattle.http_wire.specs.Rejections as rejections;
@@ -10,7 +12,7 @@ ghost use Rattle.serve_loop.specs.Serving.{answer_bytes as answer_to};
 ghost use Rattle.serve_loop.specs.Stages.{IsAfterWrite, StopsBy, Wrote};
 
 use crate::cause::Cause;
-use crate::replies::{answer_bytes, refusing, text_of};
+use crate::replies::{Response, answer_bytes, refusing, text_of};
 use cat_model::{Bytes, Memory, Refusal};
 use cat_outside::KeepFail;
 use http_wire::{RawRequest, Rejection, write_continue};
@@ -72,12 +74,13 @@ pub(crate) fn send_answer<L: Link>(
     link: &mut L,
     alloc: Global,
     message: &RawRequest,
-    reply: &Reply,
+    response: &Response,
 ) -> Result<(), Cause>
     requires unshut { (L.state link.old).shut ≡ false }
-    ensures { Wrote (L.state link.old) (answer_to (raw message.now) reply.now) result (L.state link.new) }
+    requires filter { option_map expression_of response.now.filter ≡ filter_at (raw message.now).target }
+    ensures { Wrote (L.state link.old) (answer_to (raw message.now) response.now.reply) result (L.state link.new) }
 {
-    match answer_bytes(alloc, message, reply) {
+    match answer_bytes(alloc, message, response) {
         Ok(text) => write_whole(link, text.as_slice()),
         Err(Memory) => Err(Cause::Memory),
     }

@@ -4,12 +4,12 @@ ghost use Rattle.std.specs.Prelude.{◌≡◌, [], ◌∷◌, ◌++◌, None};
 ghost use Rattle.std.specs.Option.{option_map};
 ghost use Rattle.serve_outside.specs.Drawing.{next_draw};
 
-use crate::{Clock, Gate, Words};
+use crate::{Clock, Words};
 use cat_model::Draw;
 use rand_core::Rng;
 use rand_pcg::Pcg64;
+use std::time;
 use std::time::Duration;
-use std::{thread, time};
 
 /// The milliseconds that the machine's clock has gone on since this one was made.
 #[derive(Clone, Copy, Drop)]
@@ -34,27 +34,6 @@ impl<R: time::Clock> Clock for MachineClock<R> {
     fn now_ms(&self) -> u64 {
         let passed = monotonic(&self.rt).saturating_sub(self.start);
         u64::try_from(passed.as_millis()).unwrap_or(u64::MAX)
-    }
-}
-
-/// How many milliseconds a request waits before it looks again.
-const PAUSE_MS: u64 = 20;
-
-/// Sleeps 20 milliseconds, whichever request waits.
-#[derive(Clone, Copy, Drop)]
-pub struct SleepGate<R> {
-    rt: R,
-}
-
-impl<R: time::Clock> SleepGate<R> {
-    pub fn new(rt: R) -> SleepGate<R> {
-        SleepGate { rt }
-    }
-}
-
-impl<R: time::Clock> Gate for SleepGate<R> {
-    fn idle(&self, _number: u64) {
-        thread::sleep(&self.rt, Duration::from_millis(PAUSE_MS));
     }
 }
 

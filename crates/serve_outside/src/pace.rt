@@ -20,8 +20,16 @@ impl Clock for SetClock {
     }
 }
 
-/// What lets a request wait a little before it looks again.
+/// What lets a request wait until its answer may have come. No clause speaks of waking: whoever waits looks for himself.
 pub trait Gate {
-    /// Waits a little for the request of that number.
-    fn idle(&self, number: u64);
+    /// How often the request of that number was woken. Whoever is to wait reads it before others may wake it, and tells it
+    /// to `idle`, so that no wake is lost.
+    fn rings(&self, number: u64) -> u64;
+
+    /// Waits until the request of that number was woken more often than that, or so many milliseconds have passed. It may
+    /// return before.
+    fn idle(&self, number: u64, rings: u64, most_ms: u64);
+
+    /// Wakes the request of that number. It takes no memory.
+    fn wake(&self, number: u64);
 }

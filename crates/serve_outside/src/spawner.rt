@@ -4,6 +4,7 @@ ghost use Rattle.serve_outside.specs.Tasks.{note_of, IsKept};
 
 use crate::job::{Job, NoteOf, Task};
 use std::snapshot::Snapshot;
+use std::sync::atomic::{AtomicBool, Ordering};
 use std::thread;
 use std::thread::{Promise, Threads};
 
@@ -72,6 +73,34 @@ where
     match thread::spawn_with(rt, note, move || job.run()) {
         Ok(handle) => Ok(Task::Running(handle)),
         Err(refused) => Err((refused.value)()),
+    }
+}
+
+/// Starts a job beside the caller that goes on until it is told to stop. Where it cannot be beside the caller it is told to
+/// stop, and then run here. That is no fault.
+pub fn start_beside<S: Spawner, R: Threads, J: Job + Send + 'static>(
+    spawner: &S,
+    rt: &R,
+    job: J,
+    stop: &AtomicBool,
+) -> Task<NoteOf<J>, J::Done>
+where
+    J::Done: Send + Drop + 'static,
+    requires { J.ready job }
+    ensures { ((note_of result).0.value ≡ job) × IsKept ⟦<NoteOf<J> as Promise<J::Done>>⟧.kept_by result }
+{
+    let note = NoteOf(Snapshot::of(&job));
+    if !spawner.has_threads() {
+        stop.store(true, Ordering::SeqCst);
+        return Task::Ended(note, job.run());
+    }
+    let promise = NoteOf(Snapshot::of(&job));
+    match thread::spawn_with(rt, promise, move || job.run()) {
+        Ok(handle) => Task::Running(handle),
+        Err(refused) => {
+            stop.store(true, Ordering::SeqCst);
+            Task::Ended(note, (refused.value)())
+        }
     }
 }
 

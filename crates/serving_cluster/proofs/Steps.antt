@@ -247,11 +247,7 @@ mark_quiet pairs c = quietly (mark.Settled pairs true ∷ []) c.past (mark.Settl
 
 part_quiet : (c c' : Cluster) → IsPartOfPair c c' → AddsQuiet (marks c) (marks c')
 part_quiet c c' (inl e) = subst (λ (z : Cluster). AddsQuiet (marks c) (marks z)) (sym e) (quiet_none (marks c))
-part_quiet c c' (inr (p, low, fits, inl short)) = plain_step c c' (event.Deliver p.number) false (plain_delivery c p.number) short
-part_quiet c c' (inr (p, low, fits, inr (c₁, first, fits', inl e))) =
-    subst (λ (z : Cluster). AddsQuiet (marks c) (marks z)) (sym e) (plain_step c c₁ (event.Deliver p.number) true (plain_delivery c p.number) first)
-part_quiet c c' (inr (p, low, fits, inr (c₁, first, fits', inr short))) =
-    quiet_quiet (marks c) (marks c₁) (marks c') (plain_step c c₁ (event.Deliver p.number) true (plain_delivery c p.number) first) (plain_step c₁ c' (event.Drop p.number) false (plain_loss c₁ p.number) short)
+part_quiet c c' (inr (p, low, fits, short)) = plain_step c c' (event.Deliver p.number) false (plain_delivery c p.number) short
 
 pub settles : (most : ℕ) (c c' : Cluster) (r : Result ℕ Memory) → IfOk r (SettlesTo most c c') → OnErr r (IsPartlySettled most c c') → AddsQuiet (marks c) (marks c')
 settles most c c' (Ok pairs) (mid, all, is, few, stops) cut =
@@ -269,9 +265,7 @@ mark_still pairs c = unticked_event [] (mark.Settled pairs true) c.past (mark.Se
 
 part_still : (c c' : Cluster) → IsPartOfPair c c' → TicksNone (marks c) (marks c')
 part_still c c' (inl e) = subst (λ (z : Cluster). TicksNone (marks c) (marks z)) (sym e) (ticks_none (marks c))
-part_still c c' (inr (p, low, fits, inl short)) = delivery_still c c' p.number false short
-part_still c c' (inr (p, low, fits, inr (c₁, first, fits', inl e))) = subst (λ (z : Cluster). TicksNone (marks c) (marks z)) (sym e) (delivery_still c c₁ p.number true first)
-part_still c c' (inr (p, low, fits, inr (c₁, first, fits', inr short))) = none_none (marks c) (marks c₁) (marks c') (delivery_still c c₁ p.number true first) (loss_still c₁ c' p.number false short)
+part_still c c' (inr (p, low, fits, short)) = delivery_still c c' p.number false short
 
 pub settles_still : (most : ℕ) (c c' : Cluster) (r : Result ℕ Memory) → IfOk r (SettlesTo most c c') → OnErr r (IsPartlySettled most c c') → TicksNone (marks c) (marks c')
 settles_still most c c' (Ok pairs) (mid, all, is, few, stops) cut =

@@ -1,10 +1,10 @@
 //! The cluster as its users' turns see it.
 
-ghost use Rattle.std.specs.Prelude.{◌≡◌, IfOk, OnErr, OnOk, length, reverse};
+ghost use Rattle.std.specs.Prelude.{◌≡◌, [], IfOk, OnErr, OnOk, length, reverse};
 ghost use Rattle.cluster_interface.specs.Taking.{DropsSyncs};
 ghost use Rattle.cluster_rules.specs.Cluster.{clock_of};
 ghost use Rattle.serve_loop.specs.Collects.{Collects};
-ghost use Rattle.serve_loop.specs.Marks.{AddsAsked, AddsCut, AddsQuiet, TicksAll, TicksBy, TicksNone};
+ghost use Rattle.serve_loop.specs.Marks.{AddsAsked, AddsCut, AddsQuiet, Delivers, TicksAll, TicksBy, TicksNone};
 ghost use Rattle.serve_loop.specs.Turns.{MayAsk};
 ghost use Rattle.serving_cluster.specs.Shown.{Shows};
 ghost use Rattle.serving_cluster.specs.Shared.{IsOpen, shared_of};
@@ -120,7 +120,16 @@ impl<J: ClusterSize, S: ClusterInterface> ServingCluster<J, S> {
         self.cluster.ask(alloc, ask.agent, &ask.asked, ask.draw)
     }
 
-    // Lets go of the outs of syncs, which nobody takes here.
+    // Delivers the messages between servers.
+    fn deliver(&mut self, alloc: Global, most: u32) -> Result<u32, Memory>
+        ensures quiet { AddsQuiet (reverse self.old.past) (reverse self.new.past) }
+        ensures unticked { TicksNone (reverse self.old.past) (reverse self.new.past) }
+        ensures delivered { IfOk result (λ count. Delivers most (self.new.world.bag.packets ≡ []) count (reverse self.old.past) (reverse self.new.past)) }
+    {
+        self.cluster.settle(alloc, most)
+    }
+
+    // Lets go of the outs of syncs, which nobody takes here: so none of them waits at the start of a turn.
     fn drop_syncs(&mut self)
         ensures { DropsSyncs self.old self.new }
     {
@@ -152,6 +161,8 @@ impl<J: ClusterSize, S: ClusterInterface> SharedCluster for ServingCluster<J, S>
 
     ghost idle = { λ c. c.world.bag.packets ≡ [] };
 
+    ghost tray = { λ c. c.tray };
+
     ghost shows = { Shows };
 
     fn kept(&self) {
@@ -173,11 +184,20 @@ impl<J: ClusterSize, S: ClusterInterface> SharedCluster for ServingCluster<J, S>
     }
 
     fn settle(&mut self, alloc: Global, most: u32) -> Result<u32, Memory> {
-        self.cluster.settle(alloc, most)
+        let settled = self.deliver(alloc, most);
+        self.drop_syncs();
+        settled
     }
 
     fn collect(&mut self, number: u64) -> Collected {
-        self.drop_syncs();
         self.take_reply(number)
+    }
+
+    fn outs(&self) -> usize {
+        self.cluster.outs()
+    }
+
+    fn out_number(&self, at: usize) -> Option<u64> {
+        self.cluster.out_number(at)
     }
 }

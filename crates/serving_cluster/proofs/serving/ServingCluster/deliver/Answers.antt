@@ -1,5 +1,5 @@
 use Rattle.serving_cluster.proofs.Steps.{settle_serves, settles, settles_all, settles_still}
-use Rattle.serving_cluster.proofs.sharing.ServingClusterSharedCluster.settle.Goals as goal
+use Rattle.serving_cluster.proofs.serving.ServingCluster.deliver.Goals as goal
 
 pub invariant_of-self : goal.invariant_of-self
 invariant_of-self g c = settle_serves _ c.args.most _ _ c.settle.result c.self.invariant c.settle.ensures.whole c.settle.ensures.cut
