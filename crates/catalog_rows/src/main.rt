@@ -71,7 +71,7 @@ fn main(rt: HostRuntime) -> Result<ExitCode> {
 }
 
 // Plays the scripts, and counts them.
-fn play_rows<R: Threads + Wait + time::Clock + Copy + Send + Drop + 'static>(
+fn play_rows<R: Threads + Wait + time::Clock + Copy + Send + Sync + Drop + 'static>(
     files: &HostRuntime,
     rt: R,
     counts: &mut Counts,
@@ -84,7 +84,7 @@ fn play_rows<R: Threads + Wait + time::Clock + Copy + Send + Drop + 'static>(
 }
 
 // Plays the scripts that are written short, and counts them.
-fn play_long_rows<R: Threads + Wait + time::Clock + Copy + Send + Drop + 'static>(
+fn play_long_rows<R: Threads + Wait + time::Clock + Copy + Send + Sync + Drop + 'static>(
     files: &HostRuntime,
     rt: R,
     counts: &mut Counts,
@@ -97,7 +97,7 @@ fn play_long_rows<R: Threads + Wait + time::Clock + Copy + Send + Drop + 'static
 }
 
 // Serves the connections of the rows, and counts the lines that name them.
-fn serve_rows<R: Threads + Wait + time::Clock + Copy + Send + Drop + 'static>(
+fn serve_rows<R: Threads + Wait + time::Clock + Copy + Send + Sync + Drop + 'static>(
     files: &HostRuntime,
     rt: R,
     counts: &mut Counts,
@@ -114,7 +114,7 @@ fn read_list(files: &HostRuntime, path: &'static str) -> Result<String> {
 }
 
 // Serves the connections that a line names, prints its line, and says whether all is as written.
-fn is_served_right<R: Threads + Wait + time::Clock + Copy + Send + Drop + 'static>(
+fn is_served_right<R: Threads + Wait + time::Clock + Copy + Send + Sync + Drop + 'static>(
     files: &HostRuntime,
     rt: R,
     line: &str,
@@ -126,7 +126,7 @@ fn is_served_right<R: Threads + Wait + time::Clock + Copy + Send + Drop + 'stati
 }
 
 // Plays the row of this name, prints its line, and says whether it is as written.
-fn is_as_written<R: Threads + Wait + time::Clock + Copy + Send + Drop + 'static>(
+fn is_as_written<R: Threads + Wait + time::Clock + Copy + Send + Sync + Drop + 'static>(
     files: &HostRuntime,
     rt: R,
     name: &str,

@@ -2,7 +2,7 @@ use anyhow::Result;
 use cat_model::{Bytes, List};
 use cat_outside::{SureSink, SureSource};
 use catalog_top::{Machine, run};
-use serve_outside::{CountWords, MemListener, MemSpawner, SetClock, SleepGate, SureKeepers};
+use serve_outside::{Bells, CountWords, MemListener, MemSpawner, SetClock, SureKeepers};
 use std::alloc::Global;
 use std::sync::Wait;
 use std::thread::Threads;
@@ -23,7 +23,7 @@ impl Played {
 }
 
 /// Plays the script from a source and into a sink in memory.
-pub fn play<R: Threads + Wait + time::Clock + Copy + Send + Drop + 'static>(
+pub fn play<R: Threads + Wait + time::Clock + Copy + Send + Sync + Drop + 'static>(
     rt: R,
     alloc: Global,
     script: Vec<u8>,
@@ -31,7 +31,7 @@ pub fn play<R: Threads + Wait + time::Clock + Copy + Send + Drop + 'static>(
     let mut listener = MemListener::new(alloc, Vec::new(alloc), List::new(alloc))?;
     let mut sink = SureSink::new(alloc);
     let outcome = run(
-        machine(rt, alloc),
+        machine(rt, alloc)?,
         &["script"],
         &mut SureSource::new(Bytes::from(script)),
         &mut sink,
@@ -47,11 +47,11 @@ pub fn play<R: Threads + Wait + time::Clock + Copy + Send + Drop + 'static>(
 }
 
 /// The machine, with a clock that stands still.
-pub fn machine<R: time::Clock + Copy>(rt: R, alloc: Global) -> Machine<R, SetClock, SleepGate<R>> {
-    Machine {
+pub fn machine<R: Copy + Drop>(rt: R, alloc: Global) -> Result<Machine<R, SetClock, Bells<R>>> {
+    Ok(Machine {
         rt,
         alloc,
         clock: SetClock { ms: 0 },
-        gate: SleepGate::new(rt),
-    }
+        gate: Bells::new(rt, alloc)?,
+    })
 }

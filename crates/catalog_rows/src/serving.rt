@@ -7,7 +7,7 @@ use cat_model::{Bytes, List};
 use cat_outside::{SureSink, SureSource};
 use catalog_top::{Machine, run};
 use serve_outside::{
-    Clock, CountWords, Gate, MachineClock, MemListener, MemSpawner, Script, SleepGate, Spawner,
+    Bells, Clock, CountWords, Gate, MachineClock, MemListener, MemSpawner, Script, Spawner,
     SureKeepers, ThreadSpawner,
 };
 use std::alloc::Global;
@@ -51,7 +51,7 @@ fn script(alloc: Global, connection: &Connection, most: usize, fault: u64) -> Re
 
 /// Serves the connections of the row one after the other, by a clock that stands still: each read gives so many bytes at
 /// most, and this read or write of each connection fails, if it is not 0.
-pub fn serve<R: Threads + Wait + time::Clock + Copy + Send + Drop + 'static>(
+pub fn serve<R: Threads + Wait + time::Clock + Copy + Send + Sync + Drop + 'static>(
     rt: R,
     alloc: Global,
     row: &ServedRow,
@@ -59,11 +59,11 @@ pub fn serve<R: Threads + Wait + time::Clock + Copy + Send + Drop + 'static>(
     fault: u64,
 ) -> Result<Ended> {
     let mut spawner = MemSpawner::new(failing(alloc, row.refused)?);
-    serve_by(machine(rt, alloc), row, most, fault, &mut spawner)
+    serve_by(machine(rt, alloc)?, row, most, fault, &mut spawner)
 }
 
 /// Serves the connections of the row at once, each in a thread of its own, by the machine's clock.
-pub fn serve_at_once<R: Threads + Wait + time::Clock + Copy + Send + Drop + 'static>(
+pub fn serve_at_once<R: Threads + Wait + time::Clock + Copy + Send + Sync + Drop + 'static>(
     rt: R,
     alloc: Global,
     row: &ServedRow,
@@ -72,16 +72,16 @@ pub fn serve_at_once<R: Threads + Wait + time::Clock + Copy + Send + Drop + 'sta
         rt,
         alloc,
         clock: MachineClock::new(rt),
-        gate: SleepGate::new(rt),
+        gate: Bells::new(rt, alloc)?,
     };
     serve_by(machine, row, usize::MAX, 0, &mut ThreadSpawner::new())
 }
 
 // Serves the connections of the row on this machine, as jobs that this spawner starts.
 fn serve_by<
-    R: Threads + Wait + Copy + Send + Drop + 'static,
+    R: Threads + Wait + Copy + Send + Sync + Drop + 'static,
     C: Clock + Copy + Send + Drop + 'static,
-    G: Gate + Copy + Send + Drop + 'static,
+    G: Gate + Send + Sync + Drop + 'static,
     S: Spawner,
 >(
     machine: Machine<R, C, G>,

@@ -12,7 +12,7 @@ use std::time;
 const MOST_CALLS: u64 = 64;
 
 /// Whether all is as it should be of a row that a line names.
-pub fn is_served_as_written<R: Threads + Wait + time::Clock + Copy + Send + Drop + 'static>(
+pub fn is_served_as_written<R: Threads + Wait + time::Clock + Copy + Send + Sync + Drop + 'static>(
     files: &HostRuntime,
     rt: R,
     line: &str,
@@ -57,7 +57,7 @@ fn is_partly_answered(ended: &Ended, row: &ServedRow) -> bool {
             && wanted(row, link.number()).starts_with(link.said()))
 }
 
-fn is_served<R: Threads + Wait + time::Clock + Copy + Send + Drop + 'static>(
+fn is_served<R: Threads + Wait + time::Clock + Copy + Send + Sync + Drop + 'static>(
     rt: R,
     alloc: Global,
     row: &ServedRow,
@@ -68,7 +68,7 @@ fn is_served<R: Threads + Wait + time::Clock + Copy + Send + Drop + 'static>(
 }
 
 // Whether all is as it should be where the connections are served at once.
-fn is_served_together<R: Threads + Wait + time::Clock + Copy + Send + Drop + 'static>(
+fn is_served_together<R: Threads + Wait + time::Clock + Copy + Send + Sync + Drop + 'static>(
     rt: R,
     alloc: Global,
     row: &ServedRow,
@@ -77,7 +77,7 @@ fn is_served_together<R: Threads + Wait + time::Clock + Copy + Send + Drop + 'st
     Ok(is_ended(&ended, row) && is_answered(&ended, row))
 }
 
-fn is_served_in_pieces<R: Threads + Wait + time::Clock + Copy + Send + Drop + 'static>(
+fn is_served_in_pieces<R: Threads + Wait + time::Clock + Copy + Send + Sync + Drop + 'static>(
     rt: R,
     alloc: Global,
     row: &ServedRow,
@@ -96,7 +96,7 @@ fn is_served_in_pieces<R: Threads + Wait + time::Clock + Copy + Send + Drop + 's
     Ok(true)
 }
 
-fn is_served_with_faults<R: Threads + Wait + time::Clock + Copy + Send + Drop + 'static>(
+fn is_served_with_faults<R: Threads + Wait + time::Clock + Copy + Send + Sync + Drop + 'static>(
     rt: R,
     alloc: Global,
     row: &ServedRow,

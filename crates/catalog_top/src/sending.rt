@@ -18,7 +18,6 @@ ghost use Rattle.session_ttl.specs.contracts.timers.SessionTimers as timers;
 ghost use Rattle.replica.specs.contracts.replica.Replica as replica;
 ghost use Rattle.agent_state.specs.contracts.agent.Agent as agent;
 ghost use Rattle.open_requests.specs.contracts.content.Content as content;
-ghost use Rattle.open_requests.specs.contracts.note.Note as note;
 ghost use Rattle.open_requests.specs.contracts.out.Out as out;
 ghost use Rattle.open_requests.specs.contracts.requests.Requests as requests;
 ghost use Rattle.cat_outside.specs.contracts.mem_keeper.MemKeeper as mem_keeper;
@@ -39,7 +38,7 @@ use cluster::Cluster;
 use cluster_servers::Servers;
 use kv_table::KvTable;
 use lock_delay::LockDelay;
-use open_requests::{Content, Note, Out, Requests};
+use open_requests::{Content, Out, Requests};
 use query_table::QueryTable;
 use raft_world::World;
 use read_watch::Watch;
@@ -170,20 +169,11 @@ fn outs_send()
     sends::<Out>();
 }
 
-fn notes_send()
-    ensures { IsSend note.the_row }
-{
-    asked_sends();
-    commands_send();
-    sends::<Note>();
-}
-
 fn requests_send()
     ensures { IsSend requests.the_row }
 {
     asked_sends();
     outs_send();
-    notes_send();
     sends::<Requests>();
 }
 

@@ -192,7 +192,7 @@ static PAST_A_LIMIT: Ending = Ending {
 };
 
 // Runs over this script, and expects this ending, which has a report only at status 0.
-fn expect_ending<R: Abort + Threads + Wait + time::Clock + Copy + Send + Drop + 'static>(
+fn expect_ending<R: Abort + Threads + Wait + time::Clock + Copy + Send + Sync + Drop + 'static>(
     rt: R,
     alloc: Global,
     script: Bytes,
@@ -225,7 +225,7 @@ fn wrong_words_and_faults(rt: HostRuntime) -> Result<(), Fail> {
 }
 
 // Runs a server of three for a connection that sends nothing, and expects that its stores are made so.
-fn expect_stores<R: Abort + Threads + Wait + time::Clock + Copy + Send + Drop + 'static>(
+fn expect_stores<R: Abort + Threads + Wait + time::Clock + Copy + Send + Sync + Drop + 'static>(
     rt: R,
     alloc: Global,
     wanted: &Stores,

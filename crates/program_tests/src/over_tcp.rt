@@ -3,7 +3,7 @@
 use cat_model::{Bytes, List};
 use cat_outside::{MemSink, MemSource};
 use catalog_top::{Machine, run};
-use serve_outside::{MachineClock, SeededWords, SleepGate, SureKeepers, TcpLinks, ThreadSpawner};
+use serve_outside::{Bells, MachineClock, SeededWords, SureKeepers, TcpLinks, ThreadSpawner};
 use std::alloc::Global;
 use std::io::Read;
 use std::net::{Ipv4Addr, Net, SocketAddr, TcpListener, TcpStream};
@@ -74,6 +74,7 @@ pub fn serve<
         + Net<Listener = TcpListener, Stream = TcpStream>
         + Copy
         + Send
+        + Sync
         + Drop
         + 'static,
 >(rt: R, alloc: Global, port: u16, connections: u32) -> Option<bool> {
@@ -91,6 +92,7 @@ fn serve_words<
         + Net<Listener = TcpListener, Stream = TcpStream>
         + Copy
         + Send
+        + Sync
         + Drop
         + 'static,
 >(rt: R, alloc: Global, text: &str) -> Option<bool> {
@@ -101,7 +103,7 @@ fn serve_words<
         rt,
         alloc,
         clock: MachineClock::new(rt),
-        gate: SleepGate::new(rt),
+        gate: Bells::new(rt, alloc).ok()?,
     };
     let outcome = run(
         machine,

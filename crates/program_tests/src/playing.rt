@@ -3,7 +3,7 @@
 use cat_model::{Bytes, List, Memory};
 use cat_outside::{MemSink, MemSource};
 use catalog_top::{Machine, Outcome, run};
-use serve_outside::{CountWords, MemKeepers, MemListener, MemSpawner, Script, SetClock, SleepGate};
+use serve_outside::{Bells, CountWords, MemKeepers, MemListener, MemSpawner, Script, SetClock};
 use std::alloc::{AllocError, Global};
 use std::sync::Wait;
 use std::thread::Threads;
@@ -52,7 +52,7 @@ fn words_of(alloc: Global, words: &str) -> Result<Vec<&str>, AllocError> {
 }
 
 /// Runs these words over a script, and with no connection.
-pub(crate) fn play<R: Threads + Wait + time::Clock + Copy + Send + Drop + 'static>(
+pub(crate) fn play<R: Threads + Wait + time::Clock + Copy + Send + Sync + Drop + 'static>(
     rt: R,
     alloc: Global,
     words: &str,
@@ -64,7 +64,7 @@ pub(crate) fn play<R: Threads + Wait + time::Clock + Copy + Send + Drop + 'stati
 }
 
 /// Runs these words over a script, and with these connections.
-pub(crate) fn play_with<R: Threads + Wait + time::Clock + Copy + Send + Drop + 'static>(
+pub(crate) fn play_with<R: Threads + Wait + time::Clock + Copy + Send + Sync + Drop + 'static>(
     rt: R,
     alloc: Global,
     words: &str,
@@ -78,7 +78,7 @@ pub(crate) fn play_with<R: Threads + Wait + time::Clock + Copy + Send + Drop + '
     let mut keepers = MemKeepers::new(alloc, listed(alloc, failing.make)?);
     let words = words_of(alloc, words)?;
     let outcome = run(
-        machine(rt, alloc),
+        machine(rt, alloc)?,
         &words,
         &mut source,
         &mut sink,
@@ -96,11 +96,11 @@ pub(crate) fn play_with<R: Threads + Wait + time::Clock + Copy + Send + Drop + '
 }
 
 // The machine, with a clock that stands still.
-fn machine<R: time::Clock + Copy>(rt: R, alloc: Global) -> Machine<R, SetClock, SleepGate<R>> {
-    Machine {
+fn machine<R: Copy + Drop>(rt: R, alloc: Global) -> Result<Machine<R, SetClock, Bells<R>>, Memory> {
+    Ok(Machine {
         rt,
         alloc,
         clock: SetClock { ms: 0 },
-        gate: SleepGate::new(rt),
-    }
+        gate: Bells::new(rt, alloc)?,
+    })
 }

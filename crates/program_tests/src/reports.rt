@@ -95,10 +95,9 @@ fn expect_numbers(rt: &impl Abort, report: &Report, wanted: &Reported) {
     assert_eq!(rt; report.agreed.len() as u64, wanted.agreed);
     assert_eq!(rt; report.applied.as_slice(), wanted.applied);
     assert_eq!(rt; report.unanswered.as_slice(), wanted.unanswered);
-    assert!(rt; !report.marks.as_slice().is_empty());
 }
 
-fn expect_report<R: Abort + Threads + Wait + time::Clock + Copy + Send + Drop + 'static>(
+fn expect_report<R: Abort + Threads + Wait + time::Clock + Copy + Send + Sync + Drop + 'static>(
     rt: R,
     alloc: Global,
     wanted: &Reported,

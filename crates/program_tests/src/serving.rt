@@ -110,6 +110,7 @@ impl Part {
             + Net<Listener = TcpListener, Stream = TcpStream>
             + Copy
             + Send
+            + Sync
             + Drop
             + 'static,
     >(self, rt: R, alloc: Global, port: u16) -> Option<bool> {

@@ -5,6 +5,7 @@ use Rattle.std.specs.Io.KnownBytes.{Appends}
 use Rattle.std.proofs.KnownBytes.{Appends-trans}
 use Rattle.cat_model.specs.declared.request.Draw.{Draw}
 use Rattle.cluster_rules.specs.Cluster.{Cluster}
+use Rattle.cluster_rules.specs.Step.{events_in}
 use Rattle.script_runs.specs.Plays.{Whole}
 use Rattle.script_player.specs.declared.report.Report.{Report}
 use Rattle.script_player.specs.Run.{IsReportOf, WritesPart}
@@ -19,7 +20,7 @@ use Rattle.serving_cluster.specs.Shown.{Shows}
 use Rattle.server.specs.declared.options.Options.{Options}
 use Rattle.server.specs.declared.running.Stop.{Stop}
 use Rattle.server.specs.declared.running.Stop.TheVariants as stops
-use Rattle.server.specs.Served.{GivesBack, Serve, Served, WritesFront, WritesWhole, all_back, events_in, none_given, of_first, size_of}
+use Rattle.server.specs.Served.{GivesBack, Serve, Served, WritesFront, WritesWhole, all_back, none_given, of_first, size_of}
 use Rattle.server.specs.Text.{listening_text}
 use Rattle.server.proofs.Texts.{front_all, part_whole, whole_all}
 
@@ -38,7 +39,7 @@ module _ (o : Options) (size : Size) (e : size ≡ size_of o) (draws : Option (L
 
   pub served_of : (port : Option ℕ) → port ≡ Some o.port → (held mid held' : Option (List ℕ)) (r : Result Report Stop) → Serves size c
       → HandsBack Shows size.agents draws (λ seen. IsFront seen (reverse c.past)) closed₁ closed' faults faults' given ended
-      → OnOk ended (given ≡ o.connections) → Appends held mid (listening_text o.port) → OnOk r (Appends mid held' (last_text Whole c)) → IfOk r (IsReportOf c (events_in (reverse c.past))) → OnOk r (ended ≡ Ok tt)
+      → OnOk ended (given ≡ o.connections) → Appends held mid (listening_text o.port) → OnOk r (Appends mid held' (last_text Whole c)) → IfOk r (IsReportOf c (events_in c.past)) → OnOk r (ended ≡ Ok tt)
       → IfOk r (Served o draws closed closed' faults faults' given port held held')
   served_of port at held mid held' (Ok report) serves links count first text tells whole = record {
     reached = c;

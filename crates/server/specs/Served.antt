@@ -1,14 +1,13 @@
 -- What a server did.
-use Rattle.std.specs.Prelude.{◌≡◌, ℕ, ◌+◌, Bool, true, false, List, [], ◌∷◌, reverse, Option, Some, Result, Ok, Err}
+use Rattle.std.specs.Prelude.{◌≡◌, ℕ, List, [], reverse, Option, Some, Result, Ok, Err}
 use Rattle.std.specs.List.{range_with_len}
 use Rattle.std.specs.Io.KnownBytes.{Appends}
 use Rattle.cat_model.specs.declared.request.Draw.{Draw}
-use Rattle.cat_model.specs.declared.reply.Mark.{Mark}
-use Rattle.cat_model.specs.declared.reply.Mark.TheVariants as mark
 use Rattle.cat_outside.specs.Causes.{Rose}
 use Rattle.cat_outside.specs.declared.faults.KeepFail.{KeepFail}
 use Rattle.cat_outside.specs.declared.faults.KeepFail.TheVariants as keep_fail
 use Rattle.cluster_rules.specs.Cluster.{Cluster}
+use Rattle.cluster_rules.specs.Step.{events_in}
 use Rattle.script_player.specs.declared.report.Report.{Report}
 use Rattle.script_player.specs.Run.{IsReportOf, WritesPart}
 use Rattle.serve_outside.specs.Links.{LinkState}
@@ -26,21 +25,6 @@ use Rattle.server.specs.Text.{listening_text, served_text}
 abbrev pub size_of : Options → Size
 size_of options = record { servers = options.servers; agents = options.agents }
 
--- the mark is that of an event
-abbrev pub is_event : Mark → Bool
-is_event (mark.Asked number agent asked draw) = true
-is_event (mark.Made made) = true
-is_event other = false
-
-abbrev pub one_if : Bool → ℕ
-one_if true = 1
-one_if false = 0
-
--- how many of the marks are
-unfoldable pub events_in : List Mark → ℕ
-events_in [] = 0
-events_in (m ∷ marks) = one_if (is_event m) + events_in marks
-
 -- Each connection that was given came back: it was served over this cluster's one log, or turned away.
 abbrev pub Serve : Options → Option (List Draw) → Cluster → List LinkState → List LinkState → ℕ → ℕ → ℕ → Result Unit loop.Stop → Type 0
 Serve options draws c closed closed' faults faults' given result =
@@ -56,7 +40,7 @@ pub record Served (options : Options) (draws : Option (List Draw)) (closed close
   pub count : given ≡ options.connections
   pub listens : port ≡ Some options.port
   pub written : Appends held held' (served_text options.port reached)
-  pub tells : IsReportOf reached (events_in (reverse reached.past)) report
+  pub tells : IsReportOf reached (events_in reached.past) report
 
 -- Nothing was given yet, or each connection that was given came back.
 pub data GivesBack (options : Options) (draws : Option (List Draw)) (closed closed' : List LinkState) (faults faults' given : ℕ) : Type 0 where

@@ -1,8 +1,8 @@
 use serve_outside::{Clock, Gate};
 use std::alloc::Global;
 
-/// What threads have of the machine, each of them a copy.
-#[derive(Clone, Copy, Drop)]
+/// What a server has of the machine. Its threads have copies of the clock, and share the gate.
+#[derive(Drop)]
 pub struct Machine<R, Cl, G> {
     pub rt: R,
     pub alloc: Global,

@@ -1,9 +1,10 @@
 //! A server, from its options to its last line.
 
-ghost use Rattle.std.specs.Prelude.{◌≡◌, ◌+◌, ◌-◌, ◌^◌, ◌<◌, [], All, Err, IfErr, IfOk, MatchResult, Ok, OnErr, OnOk, length, reverse};
+ghost use Rattle.std.specs.Prelude.{◌≡◌, ◌<◌, [], All, Err, IfErr, IfOk, MatchResult, Ok, OnErr, OnOk, length};
 ghost use Rattle.std.specs.Arc.{arc_value};
 ghost use Rattle.std.specs.Io.KnownBytes.{Appends};
 ghost use Rattle.cat_outside.specs.Causes.{Rose};
+ghost use Rattle.cluster_rules.specs.Step.{events_in};
 ghost use Rattle.script_player.specs.Run.{IsReportOf, WritesPart};
 ghost use Rattle.script_player.specs.Text.{last_text};
 ghost use Rattle.script_runs.specs.Plays.{Whole};
@@ -20,7 +21,7 @@ ghost use Rattle.server.specs.Text.{listening_text as listening_text_of};
 use crate::machine::Machine;
 use crate::options::Options;
 use crate::stores::make_stores;
-use cat_model::{List, Mark, Memory};
+use cat_model::{List, Memory};
 use cat_outside::{Failed, KeepFail, MemKeeper, Sink};
 use cluster_interface::ClusterInterface;
 use crossbeam_utils::CachePadded;
@@ -141,7 +142,7 @@ fn serve_over<
     C: SharedCluster + Send + 'static,
     R: Threads + Wait + Copy + Send + Drop + 'static,
     Cl: Clock + Copy + Send + Drop + 'static,
-    G: Gate + Copy + Send + Drop + 'static,
+    G: Gate + Send + Sync + Drop + 'static,
     L: Listener,
     W: Words,
     Sp: Spawner,
@@ -163,28 +164,27 @@ where
     ensures port { IfOk result (λ r. L.listens_on listener.new ≡ L.listens_on listener.old) }
     ensures none { OnErr result ((listener.new ≡ listener.old) × (words.new ≡ words.old) × (spawner.new ≡ spawner.old)) }
 {
-    let now = machine.clock.now_ms();
-    let (board, pass) = board_over(machine.alloc, cluster, now)?;
+    let Machine {
+        rt,
+        alloc,
+        clock,
+        gate,
+    } = machine;
+    let (board, pass) = board_over(alloc, cluster, clock.now_ms())?;
+    let gate = Arc::new(alloc, gate)?;
     let server = Server {
-        rt: machine.rt,
-        alloc: machine.alloc,
+        rt,
+        alloc,
         board,
-        clock: machine.clock,
-        gate: machine.gate,
+        clock,
+        gate,
         agents: options.agents,
     };
     Ok(serve_all(&server, pass, listener, words, spawner, options.connections))
 }
 
-// The report with the number of its events, which its marks tell.
-fn counted(report: Report) -> Report
-    ensures { result ≡ record report { events = spec.events_in report.marks } }
-{
-    let events = events_in(report.marks.as_slice());
-    Report { events, ..report }
-}
-
-// Writes the last line, and reports what the cluster was led to.
+// Writes the last line, and reports what the cluster was led to. A count of events that fits no number is told as want of
+// memory.
 fn report<J: ClusterSize, S: ClusterInterface, Si: Sink>(
     alloc: Global,
     sink: &mut Si,
@@ -192,42 +192,20 @@ fn report<J: ClusterSize, S: ClusterInterface, Si: Sink>(
 ) -> Result<Report, Stop>
     ensures text { OnOk result (Appends (Si.held sink.old) (Si.held sink.new) (last_text Whole cluster)) }
     ensures part { OnErr result (WritesPart (Si.held sink.old) (Si.held sink.new) (last_text Whole cluster)) }
-    ensures report { IfOk result (IsReportOf cluster (spec.events_in (reverse cluster.past))) }
+    ensures report { IfOk result (IsReportOf cluster (events_in cluster.past)) }
     ensures serves { Serves J.size cluster }
     ensures other { IfErr result (λ why. why ≡ Stop.Listener → ⊥) }
     ensures cause { MatchResult result (λ _. Si.faults sink.new ≡ Si.faults sink.old) (λ why. spec.CountsSink why (Si.faults sink.old) (Si.faults sink.new)) }
 {
     let servers = cluster.into_cluster();
-    match write_report(alloc, sink, servers, 0) {
-        Ok(report) => Ok(counted(report)),
+    let Some(events) = servers.events() else {
+        drop(servers);
+        return Err(Stop::Memory);
+    };
+    match write_report(alloc, sink, servers, events) {
+        Ok(report) => Ok(report),
         Err(fail) => Err(Stop::from(fail)),
     }
-}
-
-// Whether the mark is that of an event.
-fn is_event(mark: &Mark) -> bool
-    ensures { result ≡ spec.is_event mark.now }
-{
-    matches!(mark, Mark::Asked { .. } | Mark::Made(_))
-}
-
-// How many events the marks tell.
-fn events_in(marks: &[Mark]) -> u64
-    ensures { result ≡ spec.events_in marks.now }
-{
-    let mut events = 0;
-    for mark in marks {
-        events = more(events, is_event(mark));
-    }
-    events
-}
-
-// One more, if it is one.
-fn more(events: u64, is: bool) -> u64
-    requires { events < 2 ^ 64 - 1 }
-    ensures { result ≡ events + spec.one_if is }
-{
-    if is { events + 1 } else { events }
 }
 
 fn discard(_: Report) {}
@@ -242,7 +220,7 @@ fn end<J: ClusterSize, S: ClusterInterface, Si: Sink>(
     ensures text { OnOk result (Appends (Si.held sink.old) (Si.held sink.new) (last_text Whole cluster)) }
     ensures part { OnErr result (WritesPart (Si.held sink.old) (Si.held sink.new) (last_text Whole cluster)) }
     ensures lined { IfErr result (λ why. why ≡ Stop.Listener → Appends (Si.held sink.old) (Si.held sink.new) (last_text Whole cluster)) }
-    ensures report { IfOk result (IsReportOf cluster (spec.events_in (reverse cluster.past))) }
+    ensures report { IfOk result (IsReportOf cluster (events_in cluster.past)) }
     ensures whole { OnOk result (ended ≡ Ok tt) }
     ensures failed { IfErr result (λ why. why ≡ Stop.Listener → ended ≡ Err loop.Listener) }
     ensures serves { Serves J.size cluster }
@@ -267,7 +245,7 @@ fn serve_sized<
     S: ClusterInterface + Send + 'static,
     R: Threads + Wait + Copy + Send + Drop + 'static,
     Cl: Clock + Copy + Send + Drop + 'static,
-    G: Gate + Copy + Send + Drop + 'static,
+    G: Gate + Send + Sync + Drop + 'static,
     Si: Sink,
     L: Listener,
     W: Words,
@@ -295,13 +273,13 @@ where
     ensures cause { MatchResult result (λ _. Si.faults sink.new ≡ Si.faults sink.old)
         (λ why. spec.CountsServing why (L.faults listener.old) (L.faults listener.new) (Si.faults sink.old) (Si.faults sink.new)) }
 {
-    let Ok(cluster) = ServingCluster::<J, S>::begin(machine.alloc, stores, options.agents, MOST)
-    else {
+    let alloc = machine.alloc;
+    let Ok(cluster) = ServingCluster::<J, S>::begin(alloc, stores, options.agents, MOST) else {
         return Err(Stop::Memory);
     };
-    match listen(machine.alloc, sink, listener, options.port) {
+    match listen(alloc, sink, listener, options.port) {
         Ok(()) => match serve_over(machine, cluster, options, listener, words, spawner) {
-            Ok((cluster, ended)) => end(machine.alloc, sink, cluster, ended),
+            Ok((cluster, ended)) => end(alloc, sink, cluster, ended),
             Err(Memory) => Err(Stop::Memory),
         },
         Err(why) => Err(why),
@@ -316,7 +294,7 @@ pub fn serve<
     S: ClusterInterface + Send + 'static,
     R: Threads + Wait + Copy + Send + Drop + 'static,
     Cl: Clock + Copy + Send + Drop + 'static,
-    G: Gate + Copy + Send + Drop + 'static,
+    G: Gate + Send + Sync + Drop + 'static,
     Si: Sink,
     L: Listener,
     W: Words,
