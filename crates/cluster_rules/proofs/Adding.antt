@@ -19,7 +19,7 @@ use Rattle.cluster_rules.specs.Due.{Work, Replies, Holds, Closes, Applies, did, 
 use Rattle.cluster_rules.specs.Requests.{entries_past, halts_past, joined, moved_with, halted_now, moved, Handles, unready, full, proposes, stops, delays, probes, reads, renews}
 use Rattle.cluster_rules.specs.Proposals.{Proposals, none_left, breaks, enters, refuses, over_rows, with_ends, looked, Tends, idles, in_turn, cut_off, told, agent_did, adopted, Syncs, finds_none, plans, breaks_off, cut_first, did_own}
 use Rattle.cluster_rules.specs.Step.{Acts, takes, ticks, arms, restarts, handles, tends, syncs, Does, over, act, cut, cut_between, Passes, loses, replies, stays, leaderless, noted, marked, ClusterStep, done, passed, cut_early}
-use Rattle.cluster_rules.specs.Reached.{Move, Makes, Takes, Settles, moves_of}
+use Rattle.cluster_rules.specs.Reached.{moves_of}
 use Rattle.cluster_rules.specs.Past.{Adds, AddsEvent, event_mark}
 
 moves_append : (xs ys : List Mark) → moves_of xs ≡ [] → moves_of ys ≡ [] → moves_of (xs ++ ys) ≡ []

@@ -16,7 +16,8 @@ use Rattle.raft_model.proofs.Theorems.{grows_far}
 use Rattle.cluster_rules.specs.Replies.{Question, came, entered}
 use Rattle.cluster_rules.specs.Lasting.{IsWrite, IsEntered, LastsFor, Lasting}
 use Rattle.cluster_rules.specs.Cluster.{Cluster}
-use Rattle.cluster_rules.specs.Sound.{IsAmong, NeverEnters, entries_before, LookedBefore, LostFor, one_if, found, Sound}
+use Rattle.cluster_rules.specs.Sound.{IsAmong, NeverEnters, NoneLost, entries_before, LookedBefore, LostFor, one_if, found, Sound}
+use Rattle.cluster_rules.specs.Booked.{Booked}
 use Rattle.cluster_rules.proofs.Grows.{lasting_grows}
 use Rattle.cluster_rules.proofs.Reached.{Told, told_in}
 
@@ -49,17 +50,20 @@ pub default_fresh : (c : Cluster) → Sound c → (number prefix index clock dea
 default_fresh c s number prefix index clock deadline known contact m = (told c s number (At Default prefix index clock deadline) known contact m).fresh
 
 -- where a request is
-pub found_once : (c : Cluster) → Sound c → (k : ℕ) → 0 < k → k ≤ c.asked → found k c ≡ 1
+pub found_once : (c : Cluster) → Booked c → (k : ℕ) → 0 < k → k ≤ c.asked → found k c ≡ 1
 found_once c s k p l = s.none_lost k ∙ ap one_if (within k c.asked p l)
   where
     within : (k n : ℕ) → 0 < k → k ≤ n → (nat_lt 0 k && nat_le k n) ≡ true
     within k n p l = grind (arith, nat_tests)
 
-pub found_none : (c : Cluster) → Sound c → (k : ℕ) → c.asked < k → found k c ≡ 0
-found_none c s k l = s.none_lost k ∙ ap one_if (beyond k c.asked l)
+pub none_beyond : (c : Cluster) → NoneLost c.asked c → (k : ℕ) → c.asked < k → found k c ≡ 0
+none_beyond c n k l = n k ∙ ap one_if (beyond k c.asked l)
   where
     beyond : (k n : ℕ) → n < k → (nat_lt 0 k && nat_le k n) ≡ false
     beyond k n l = grind (arith, nat_tests)
+
+pub found_none : (c : Cluster) → Sound c → (k : ℕ) → c.asked < k → found k c ≡ 0
+found_none c s k l = none_beyond c s.none_lost k l
 
 pub run_fresh : (c : Cluster) → Sound c → (number prefix : ℕ) (known : Bool) (contact : ℕ) → IsAmong (mark.Answered number (Seen Consistent prefix) known contact) c.past → entries_before number c.past ≤ prefix
 run_fresh c s number prefix known contact m = (told c s number (Seen Consistent prefix) known contact m).fresh

@@ -1,5 +1,5 @@
 -- A request that was just asked, and its way.
-use Rattle.std.proofs.Common.{◌≡◌, ◌≢◌, ℕ, ◌<◌, inr, Bool, true, false, cond, List, length, refl, sym, subst, arith, Option, Some, None}
+use Rattle.std.proofs.Common.{◌≡◌, ◌≢◌, ℕ, ◌<◌, inr, Bool, true, false, cond, List, length, refl, sym, ◌∙◌, ap, subst, arith, Option, Some, None}
 use Rattle.std.specs.Prelude.{◌||◌}
 use Rattle.std.specs.List.{AllByRecursion as Each}
 use Rattle.cat_model.specs.Role.{leads as is_leading}
@@ -24,12 +24,16 @@ use Rattle.cluster_rules.proofs.Tools.{neither}
 use Rattle.cluster_rules.proofs.Works.{each_kept, each_with}
 
 -- before its event has held or answered it
-pub record AskIsNew (c : Cluster) (q : Question) : Type 0 where
+pub record IsJustAsked (c : Cluster) (q : Question) : Type 0 where
   pub was : IsAmong (came q) c.past
   pub open_ : IsOpen q.number c.past
   pub above : Each (λ (h : Pending). h.question.number < q.number) c.held
-  pub before : entries_before q.number c.past ≡ length c.world.agreed
   pub number : q.number ≡ c.asked
+
+-- in a sound cluster
+pub record AskIsNew (c : Cluster) (q : Question) : Type 0 where
+  pub now : IsJustAsked c q
+  pub before : entries_before q.number c.past ≡ length c.world.agreed
   pub numbers : c.world.greatest < q.number
 
 -- a work for another request
@@ -59,16 +63,34 @@ due_not n c i a w e = due_cases c i (WorkIsNot n) (λ (h : Pending). h.question.
         other = λ e. omega arith
 
 -- what is done for others leaves a new request new
-did_new : (c : Cluster) (q : Question) → AskIsNew c q → (i : ℕ) (w : Work) → WorkIsNot q.number w → AskIsNew (did i w c) q
+did_asked : (c : Cluster) (q : Question) → IsJustAsked c q → (i : ℕ) (w : Work) → WorkIsNot q.number w → IsJustAsked (did i w c) q
 unfolding did
-did_new c q a i (Replies r kind) d = record { was = inr a.was; open_ = (d, a.open_); above = each_kept (λ (h : Pending). h.question.number < q.number) r.number c.held a.above; before = a.before; number = a.number; numbers = a.numbers }
-did_new c q a i (Holds h) d = record { was = a.was; open_ = a.open_; above = each_with (λ (h : Pending). h.question.number < q.number) h c.held d a.above; before = a.before; number = a.number; numbers = a.numbers }
-did_new c q a i (Closes number event) d = record { was = a.was; open_ = a.open_; above = each_kept (λ (h : Pending). h.question.number < q.number) number c.held a.above; before = a.before; number = a.number; numbers = a.numbers }
-did_new c q a i Applies d = record { was = a.was; open_ = a.open_; above = a.above; before = a.before; number = a.number; numbers = a.numbers }
+did_asked c q a i (Replies r kind) d = record { was = inr a.was; open_ = (d, a.open_); above = each_kept (λ (h : Pending). h.question.number < q.number) r.number c.held a.above; number = a.number }
+did_asked c q a i (Holds h) d = record { was = a.was; open_ = a.open_; above = each_with (λ (h : Pending). h.question.number < q.number) h c.held d a.above; number = a.number }
+did_asked c q a i (Closes number event) d = record { was = a.was; open_ = a.open_; above = each_kept (λ (h : Pending). h.question.number < q.number) number c.held a.above; number = a.number }
+did_asked c q a i Applies d = record { was = a.was; open_ = a.open_; above = a.above; number = a.number }
+
+pub works_asked : (i : ℕ) (c c' : Cluster) → Works i c c' → (q : Question) → IsJustAsked c q → IsJustAsked c' q
+works_asked i c c' none q a = a
+works_asked i c c' (work w e more) q a = works_asked i (did i w c) c' more q (did_asked c q a i w (due_not q.number c i a.above w e))
+
+did_before : (c : Cluster) (n : ℕ) (i : ℕ) (w : Work) → (entries_before n (did i w c).past ≡ entries_before n c.past) × ((did i w c).world ≡ c.world)
+unfolding did
+did_before c n i (Replies r kind) = (refl, refl)
+did_before c n i (Holds h) = (refl, refl)
+did_before c n i (Closes number event) = (refl, refl)
+did_before c n i Applies = (refl, refl)
+
+did_new : (c : Cluster) (q : Question) → AskIsNew c q → (i : ℕ) (w : Work) → WorkIsNot q.number w → AskIsNew (did i w c) q
+did_new c q a i w d = let e = did_before c q.number i w in record {
+  now = did_asked c q a.now i w d;
+  before = e.0 ∙ a.before ∙ sym (ap (λ (z : World). length z.agreed) e.1);
+  numbers = subst (λ (z : World). z.greatest < q.number) (sym e.1) a.numbers;
+}
 
 pub works_new : (i : ℕ) (c c' : Cluster) → Works i c c' → (q : Question) → AskIsNew c q → AskIsNew c' q
 works_new i c c' none q a = a
-works_new i c c' (work w e more) q a = works_new i (did i w c) c' more q (did_new c q a i w (due_not q.number c i a.above w e))
+works_new i c c' (work w e more) q a = works_new i (did i w c) c' more q (did_new c q a i w (due_not q.number c i a.now.above w e))
 
 -- Ways.
 some_goes : (i j : ℕ) → Some (Goes i) ≡ Some (Goes j) → i ≡ j

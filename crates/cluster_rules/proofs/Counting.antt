@@ -1,5 +1,5 @@
 -- No request is lost, and none is in two places.
-use Rattle.std.proofs.Common.{◌≡◌, ◌≢◌, ℕ, suc, ◌+◌, ◌≤◌, inl, inr, Bool, true, false, cond, not, List, [], ◌∷◌, ◌++◌, length, map, refl, sym, ◌∙◌, ap, subst, arith, Option, Some}
+use Rattle.std.proofs.Common.{◌≡◌, ◌≢◌, ℕ, suc, ◌+◌, ◌≤◌, inl, inr, Bool, true, false, cond, not, List, [], ◌∷◌, ◌++◌, map, refl, sym, ◌∙◌, ap, subst, arith, Option, Some}
 use Rattle.std.specs.Prelude.{◌==◌, nat_lt, nat_le, ◌&&◌}
 use Rattle.std.specs.List.{AllByRecursion as Each}
 use Rattle.std.proofs.lemmas.Bool.Decides.{nat_tests}
@@ -11,7 +11,7 @@ use Rattle.raft_model.specs.World.{World}
 use Rattle.raft_model.proofs.Tests.{at_bool, eq_tells}
 use Rattle.cluster_rules.specs.Replies.{Question, Out, Replied, Synced, number_of, reply_of}
 use Rattle.cluster_rules.specs.Proposals.{synced}
-use Rattle.cluster_rules.specs.Cluster.{Stand, ForIndex, Ended, Pending, Start, Cluster, applied_of}
+use Rattle.cluster_rules.specs.Cluster.{Stand, ForIndex, Ended, Pending, Start, Cluster}
 use Rattle.cluster_rules.specs.Due.{Work, Replies, Holds, Closes, Applies, without, with_held, is_before, put_out, answered, did, IsDue, Works, none, work}
 use Rattle.cluster_rules.specs.Requests.{entries_past, halts_past, joined, moved_with, holding}
 use Rattle.cluster_rules.specs.Step.{events_in, ended, begun_anew}

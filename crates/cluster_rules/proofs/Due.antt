@@ -1,5 +1,5 @@
 -- What is due is right, so doing it leaves the cluster sound.
-use Rattle.std.proofs.Common.{◌≡◌, ◌≢◌, ℕ, ◌<◌, ◌≤◌, ◌⊎◌, inl, inr, Bool, true, false, cond, List, [], ◌∷◌, length, take, refl, sym, ◌∙◌, ap, subst, arith}
+use Rattle.std.proofs.Common.{◌≡◌, ◌≢◌, ℕ, ◌<◌, ◌≤◌, ◌⊎◌, inl, inr, Bool, true, false, cond, List, length, take, refl, sym, ◌∙◌, ap, subst, arith}
 use Rattle.std.specs.Prelude.{◌==◌}
 use Rattle.std.proofs.lemmas.List.{take_all, length-take}
 use Rattle.cat_model.specs.declared.query.Query.{Query}
@@ -11,8 +11,6 @@ use Rattle.cat_model.specs.declared.request.Request.TheVariants.{Read, Execute, 
 use Rattle.cat_model.specs.declared.request.Asked.{Asked}
 use Rattle.cat_model.specs.declared.request.Asked.TheVariants.{Good, Bad}
 use Rattle.cat_model.specs.declared.reply.Kind.TheVariants.{Acked, At, Seen, Refused}
-use Rattle.cat_model.specs.declared.reply.Mark.{Mark}
-use Rattle.cat_model.specs.declared.reply.Mark.TheVariants as mark
 use Rattle.cat_model.specs.declared.reply.Refusal.{Refusal}
 use Rattle.cat_model.specs.declared.reply.Refusal.TheVariants as refusal
 use Rattle.cat_model.specs.Indexes.{index_of}
@@ -26,39 +24,17 @@ use Rattle.raft_model.specs.World.{World, here, IsServer}
 use Rattle.raft_model.proofs.Logs.{agree_term}
 use Rattle.raft_model.proofs.Tests.{at_bool, eq_tells}
 use Rattle.raft_model.proofs.Theorems.{grows_far}
-use Rattle.cluster_rules.specs.Replies.{Question, came, entered}
+use Rattle.cluster_rules.specs.Replies.{Question, entered}
 use Rattle.cluster_rules.specs.Lasting.{IsWrite, IsRead, IsLook, IsSeen, RefusesLook, RefusesRead, RefusesWrite, IsRefused, HasLostRound, LastsFor, IsAnswerAt}
 use Rattle.cluster_rules.specs.Cluster.{Stand, AtPlace, InRound, ForIndex, Ended, Pending, Start, Proposed, Probed, Cluster, node_of, server_of, applied_of, clock_of}
 use Rattle.cluster_rules.specs.Due.{Work, landed, waiting, is_ended, did, IsDue, Works, none, work}
-use Rattle.cluster_rules.specs.Sound.{IsAmong, NeverEnters, asked_in, entries_before, IsFresh, StartIsSound, LookedBelow, StandIsSound, PendingIsSound, LostFor, PastIsSound, ServerIsSound, IsSoundAtWork}
+use Rattle.cluster_rules.specs.Sound.{IsAmong, NeverEnters, entries_before, IsFresh, StartIsSound, LookedBelow, StandIsSound, PendingIsSound, LostFor, ServerIsSound, IsSoundAtWork}
 use Rattle.cluster_rules.proofs.Tools.{eq_tells_not, there_or_none, each_among}
 use Rattle.cluster_rules.proofs.Entries.{agree_entry}
 use Rattle.cluster_rules.proofs.Grows.{write_map, look_map}
+use Rattle.cluster_rules.proofs.Numbered.{numbered_of, was_numbered}
 use Rattle.cluster_rules.proofs.Works.{IsRight, WorkIsRight, did_sound}
 use Rattle.cluster_rules.proofs.Cases.{Leaves, due_cases}
-
--- the number of a request that was asked
-pub was_numbered : (w : World) (starts : List Start) (past : List Mark) → PastIsSound w starts past → (q : Question) → IsAmong (came q) past → (0 < q.number) × (q.number ≤ asked_in past)
-was_numbered w starts [] x q y = absurd y
-was_numbered w starts (mark.Asked number agent asked draw ∷ past) x q (inl e) = (let k = numbers e in let n = x.0 in omega arith, let k = numbers e in let n = x.0 in omega arith)
-  where
-    numbers : came q ≡ mark.Asked number agent asked draw → q.number ≡ number
-    numbers p = cc p
-was_numbered w starts (mark.Asked number agent asked draw ∷ past) x q (inr y) = let k = was_numbered w starts past x.1 q y in (k.0, omega (arith, k.1))
-was_numbered w starts (mark.Made event ∷ past) x q (inl e) = absurd (cc e)
-was_numbered w starts (mark.Made event ∷ past) x q (inr y) = was_numbered w starts past x q y
-was_numbered w starts (mark.Advanced ms made ∷ past) x q (inl e) = absurd (cc e)
-was_numbered w starts (mark.Advanced ms made ∷ past) x q (inr y) = was_numbered w starts past x q y
-was_numbered w starts (mark.Settled pairs whole ∷ past) x q (inl e) = absurd (cc e)
-was_numbered w starts (mark.Settled pairs whole ∷ past) x q (inr y) = was_numbered w starts past x q y
-was_numbered w starts (mark.Halted server ∷ past) x q (inl e) = absurd (cc e)
-was_numbered w starts (mark.Halted server ∷ past) x q (inr y) = was_numbered w starts past x q y
-was_numbered w starts (mark.Entry entry ∷ past) x q (inl e) = absurd (cc e)
-was_numbered w starts (mark.Entry entry ∷ past) x q (inr y) = was_numbered w starts past x q y
-was_numbered w starts (mark.Answered number kind known contact ∷ past) x q (inl e) = absurd (cc e)
-was_numbered w starts (mark.Answered number kind known contact ∷ past) x q (inr y) = was_numbered w starts past x.1 q y
-was_numbered w starts (mark.Taken number ∷ past) x q (inl e) = absurd (cc e)
-was_numbered w starts (mark.Taken number ∷ past) x q (inr y) = was_numbered w starts past x q y
 
 pub write_refused : (asked : Asked) (P : Command → Type 0) (why : Refusal) → IsWrite asked P → RefusesWrite why → IsRefused asked why
 write_refused (Good (Write command)) P why x r = r
@@ -131,7 +107,7 @@ module _ (c : Cluster) (s : IsSoundAtWork c) (i : ℕ) where
         (subst (λ z. StandIsSound (server_of c.servers h.server).applied c.past c.starts h.server h.question z) e x.stand)
 
     number_above : 0 < h.question.number
-    number_above = (was_numbered c.world c.starts c.past s.marks h.question x.asked).0
+    number_above = (was_numbered c.past (numbered_of c.world c.starts c.past s.marks) h.question x.asked).0
 
     -- the place of a write's proposal
     module _ (index term : ℕ) (l : index ≤ length (applied_of c i)) where

@@ -20,7 +20,7 @@ use Rattle.raft_model.specs.Log.{Log, term_at}
 use Rattle.raft_model.specs.World.{World, Move, WorldStep, Reaches, here, next, IsReached}
 use Rattle.raft_model.proofs.Logs.{front_take, agree_term}
 use Rattle.raft_model.proofs.Theorems.{grows}
-use Rattle.cluster_rules.specs.Replies.{Question, entered, Shows, Tells, Runs, Renews, id_in, shown_write, shown_read, shown_seen, shown, reply_of, index_shown}
+use Rattle.cluster_rules.specs.Replies.{Question, entered, Shows, Tells, Runs, Renews, id_in, shown_entry, shown_write, shown_read, shown_seen, shown, reply_of, index_shown}
 use Rattle.cluster_rules.specs.Lasting.{IsWrite, IsRead, IsLook, IsSeen, IsEntered, IsAnswerAt, LastsFor, Lasting}
 use Rattle.cluster_rules.specs.Sound.{NeverEnters, IsFreshRound}
 use Rattle.cluster_rules.proofs.Entries.{entry_within, agree_entry}
@@ -104,9 +104,11 @@ module _ (a a' : Log) (front : take (length a) a' ≡ a) where
   pub lasting_grows : (q : Question) (kind : Kind) → Lasting q kind a → Lasting q kind a'
   lasting_grows q kind x = lasts_grows q q.asked kind x
 
-  write_same : (q : Question) (asked : Asked) (position : ℕ) → IsWrite asked (λ command. IsEntered position q.number (entered q command) a) → shown_write q asked position a' ≡ shown_write q asked position a
+  write_same : (q : Question) (asked : Asked) (position : ℕ) → IsWrite asked (λ command. IsEntered position q.number (entered q command) a) → shown_write asked position a' ≡ shown_write asked position a
   write_same q (Good (Write command)) position x =
-      ap (λ z. Tells (entered q command) (reply_to (commands_of z) (entered q command))) (prefix_same (position - 1) (let k = (entry_within position a x.entry x.there).1 in omega arith))
+      ap (λ o. shown_entry o position a') (agree_entry position (length a) a' a (entry_within position a x.entry x.there).1 same_front ∙ x.there)
+      ∙ ap (λ z. Tells x.entry.command (reply_to (commands_of z) x.entry.command)) (prefix_same (position - 1) (let k = (entry_within position a x.entry x.there).1 in omega arith))
+      ∙ sym (ap (λ o. shown_entry o position a) x.there)
   write_same q (Good (Read query mode least wait raw)) position x = refl
   write_same q (Good (Execute name limit mode)) position x = refl
   write_same q (Good (Renew id)) position x = refl

@@ -28,7 +28,8 @@ use Rattle.cluster_rules.specs.Due.{due}
 use Rattle.cluster_rules.specs.Sound.{IsAmong, IsSoundAtWork, Sound}
 use Rattle.cluster_rules.specs.Guards.{IsOver, EndsOver, EndsNone, AllProposed, HandleIsGuarded, TendIsGuarded, SyncIsGuarded, ActIsGuarded, DoesGuardedly, StepIsGuarded}
 use Rattle.cluster_rules.proofs.Asking.{AskIsNew}
-use Rattle.cluster_rules.proofs.Due.{was_numbered, works_sound}
+use Rattle.cluster_rules.proofs.Due.{works_sound}
+use Rattle.cluster_rules.proofs.Numbered.{numbered_of, was_numbered}
 use Rattle.cluster_rules.proofs.Steps.{Facts, acts_sound, all_applied, marked_sound, facts_marked, facts_worked}
 use Rattle.cluster_rules.proofs.Tools.{both, not_tells_not, eq_tells_not, each_append, all_among}
 
@@ -153,7 +154,7 @@ syncs_guarded i a own c c' whole (cut_first mine r e) = tt
 
 -- a request that was just asked has a number
 new_above : (c : Cluster) → IsSoundAtWork c → (q : Question) → AskIsNew c q → 0 < q.number
-new_above c s q a = (was_numbered c.world c.starts c.past s.marks q a.was).0
+new_above c s q a = (was_numbered c.past (numbered_of c.world c.starts c.past s.marks) q a.now.was).0
 
 acts_guarded : (n : ℕ) (c : Cluster) → IsSoundAtWork c → (i : ℕ) (made : Event) → (n ≡ 0 → Facts c made) → (c' : Cluster) (a : Acts n c i made c') → ActIsGuarded n c i made c' a
 acts_guarded n c s i made f c' (takes input w' z is a e) = tt

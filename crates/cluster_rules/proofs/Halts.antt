@@ -24,7 +24,7 @@ use Rattle.cluster_rules.specs.Proposals.{Proposals, none_left, breaks, enters, 
 use Rattle.cluster_rules.specs.Due.{Work, Replies, Holds, Closes, Applies, did, Works as Made, none, work}
 use Rattle.cluster_rules.specs.Requests.{entries_past, halts_past, joined, moved_with, moved, halted_now, Handles, unready, full, proposes, stops, delays, probes, reads, renews}
 use Rattle.cluster_rules.specs.Step.{Acts, takes, ticks, arms as arms_it, restarts, handles, tends, syncs, Does, over, act, cut, cut_between, Passes, loses, replies, stays, leaderless, noted, marked, ClusterStep, done as whole_step, passed, cut_early}
-use Rattle.cluster_rules.specs.Reached.{IsStart, Move, Reached, at_start, by_event, by_taking, by_handing, by_settling, by_advancing}
+use Rattle.cluster_rules.specs.Reached.{IsBegun, Move, Reached, at_start, by_event, by_taking, by_handing, by_settling, by_advancing}
 use Rattle.cluster_rules.specs.Sound.{halts_in}
 use Rattle.cluster_rules.proofs.Running.{done_up}
 use Rattle.cluster_rules.proofs.Tools.{both, not_tells_not, eq_tells_not, at_item, item_same, item_other, is_node, is_place}
@@ -212,10 +212,10 @@ step_counts c c' made whole (whole_step i c₁ c₂ m d e) f = subst Counted (sy
 step_counts c c' made whole (passed c₁ w p e) f = subst Counted (sym e) (passes_count (marked made c) made c₁ p (marked_counts made c f))
 step_counts c c' made whole (cut_early i w c₁ short for d more e) f = subst Counted (sym e) (works_count i (noted made c) c₁ (work w d more) f)
 
-pub halts_counted : (start : Cluster) → IsStart start → (whole : Bool) (moves : List Move) (c : Cluster) → Reached start whole moves c → Counted c
-halts_counted start i whole moves c at_start = subst Counted (sym i.is) (λ j. omega arith)
-halts_counted start i whole moves c (by_event {whole = w} {moves = ms} {c = b} made all r fits s) = step_counts b c made all s (halts_counted start i w ms b r)
-halts_counted start i whole moves c (by_taking {whole = w} {moves = ms} {c = b} number out before after r is e) = halts_counted start i w ms b r
-halts_counted start i whole moves c (by_handing {whole = w} {moves = ms} {c = b} out before after r is e) = halts_counted start i w ms b r
-halts_counted start i whole moves c (by_settling {whole = w} {moves = ms} {c = b} pairs all r ends) = halts_counted start i w ms b r
-halts_counted start i whole moves c (by_advancing {whole = w} {moves = ms} {c = b} time made r ends) = halts_counted start i w ms b r
+pub halts_counted : (stores : List Store) (start : Cluster) → IsBegun stores start → (whole : Bool) (moves : List Move) (c : Cluster) → Reached start whole moves c → Counted c
+halts_counted stores start i whole moves c at_start = subst Counted (sym i.is) (λ j. omega arith)
+halts_counted stores start i whole moves c (by_event {whole = w} {moves = ms} {c = b} made all r fits s) = step_counts b c made all s (halts_counted stores start i w ms b r)
+halts_counted stores start i whole moves c (by_taking {whole = w} {moves = ms} {c = b} number out before after r is e) = halts_counted stores start i w ms b r
+halts_counted stores start i whole moves c (by_handing {whole = w} {moves = ms} {c = b} out before after r is e) = halts_counted stores start i w ms b r
+halts_counted stores start i whole moves c (by_settling {whole = w} {moves = ms} {c = b} pairs all r ends) = halts_counted stores start i w ms b r
+halts_counted stores start i whole moves c (by_advancing {whole = w} {moves = ms} {c = b} time made r ends) = halts_counted stores start i w ms b r

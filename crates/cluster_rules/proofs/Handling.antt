@@ -1,5 +1,5 @@
 -- A request's part at the server to which it went leaves the cluster sound.
-use Rattle.std.proofs.Common.{◌≡◌, ◌≢◌, ℕ, suc, ◌<◌, ◌≤◌, ◌⊎◌, inl, inr, Bool, true, false, List, [], ◌∷◌, ◌++◌, length, take, refl, sym, ◌∙◌, ap, subst, cond, arith, Option, Some, None}
+use Rattle.std.proofs.Common.{◌≡◌, ◌≢◌, ℕ, suc, ◌<◌, ◌≤◌, ◌⊎◌, inl, inr, Bool, true, false, List, [], ◌∷◌, length, take, refl, sym, ◌∙◌, ap, subst, cond, arith, Option, Some, None}
 use Rattle.std.specs.Prelude.{nat_lt, nat_le, ◌&&◌}
 use Rattle.std.specs.List.{AllByRecursion as Each}
 use Rattle.std.proofs.lemmas.List.{take_all}
@@ -29,7 +29,7 @@ use Rattle.cat_model.specs.declared.command.TxnOp.{TxnOp}
 use Rattle.cat_model.specs.declared.command.Command.TheVariants.{KvLock, Txn}
 use Rattle.cluster_rules.specs.Cluster.{Stand, Pending, Start, Proposed, Probed, Looked, Cluster, node_of, server_of, applied_of, clock_of, runs_leading, until_at, office_of, with_office}
 use Rattle.cluster_rules.specs.Requests.{Goes, way, is_ready, is_stale_read, MayGo, moved, halted_now, holding, refused, log_with, Handles, unready, full, proposes, stops, delays, probes, reads, renews, look_of, delayed_at, session_of}
-use Rattle.cluster_rules.specs.Sound.{IsAmong, ServerIsSound, IsOpen, IsFresh, IsFreshRound, StartIsSound, PendingIsSound, Ascends, RestsOn, IsSoundAtWork}
+use Rattle.cluster_rules.specs.Sound.{IsAmong, ServerIsSound, IsOpen, IsFresh, IsFreshRound, StartIsSound, PendingIsSound, RestsOn, IsSoundAtWork}
 use Rattle.cluster_rules.proofs.Asking.{AskIsNew, goes_leading, unready_refused}
 use Rattle.cluster_rules.proofs.Boundary.{acts_rise, acts_greatest, leader_there, leading_tells, term_bound, commit_within, proposed, probed}
 use Rattle.cluster_rules.proofs.Grows.{goes_nowhere}
@@ -37,14 +37,10 @@ use Rattle.cluster_rules.proofs.Later.{Later, pending_later, past_later, same_pa
 use Rattle.cluster_rules.proofs.Moved.{plain_moved, moved_sound}
 use Rattle.cluster_rules.proofs.Terms.{reached_has}
 use Rattle.cluster_rules.proofs.Tools.{both, le_tells_not, not_tells, not_tells_not, each_map, each_append}
-use Rattle.cluster_rules.proofs.Works.{answered_sound, commit_agrees, office_sound}
+use Rattle.cluster_rules.proofs.Works.{answered_sound, ascends_more, commit_agrees, office_sound}
 use Rattle.cluster_rules.proofs.Due.{new_below}
 
 -- One more held request, behind all others, with its start.
-ascends_more : (h : Pending) (hs : List Pending) → Each (λ (g : Pending). g.question.number < h.question.number) hs → Ascends hs → Ascends (hs ++ h ∷ [])
-ascends_more h [] d a = (tt, tt)
-ascends_more h (x ∷ hs) d a = (each_append (λ (g : Pending). x.question.number < g.question.number) hs (h ∷ []) a.0 (d.0, tt), ascends_more h hs d.1 a.1)
-
 -- one more start
 pub started_sound : (c : Cluster) → IsSoundAtWork c → (start : Start) → StartIsSound c.world c.past start → IsSoundAtWork (record c { starts = start ∷ c.starts })
 started_sound c s start x =
@@ -191,7 +187,7 @@ module _ (c : Cluster) (s : IsSoundAtWork c) (i : ℕ) (q : Question) (a : AskIs
   unfolding LastsFor
   delayed_sound command key ask d =
       let t = delayed_tells (until_at c i) (clock_of c.world i) command key d in
-      answered_sound c s q (Delayed key (until_at c i key) (clock_of c.world i)) false 0 [] refl (record { asked = a.was; open_ = a.open_; lasts = (as_write q command (λ z. IsWrite z (LocksKey key)) ask t.0, t.1); fresh = tt; rests = tt })
+      answered_sound c s q (Delayed key (until_at c i key) (clock_of c.world i)) false 0 [] refl (record { asked = a.now.was; open_ = a.now.open_; lasts = (as_write q command (λ z. IsWrite z (LocksKey key)) ask t.0, t.1); fresh = tt; rests = tt })
 
   -- the cluster with a session renewed
   abbrev renewed : ℕ → Cluster
@@ -200,10 +196,10 @@ module _ (c : Cluster) (s : IsSoundAtWork c) (i : ℕ) (q : Question) (a : AskIs
   renewed_sound : (id : ℕ) → q.asked ≡ Good (Renew id) → IsSoundAtWork (answered q (Seen Default (length (applied_of c i))) false 0 (applied_of c i) (renewed id))
   unfolding LastsFor
   renewed_sound id ask = answered_sound (renewed id)
-      (office_sound (record c { starts = Looked q.number i (length (applied_of c i)) ∷ c.starts }) (started_sound c s (Looked q.number i (length (applied_of c i))) (q, a.was, refl)) i (renew_in (session_of c i id) (clock_of c.world i) (office_of c i)))
+      (office_sound (record c { starts = Looked q.number i (length (applied_of c i)) ∷ c.starts }) (started_sound c s (Looked q.number i (length (applied_of c i))) (q, a.now.was, refl)) i (renew_in (session_of c i id) (clock_of c.world i) (office_of c i)))
       q (Seen Default (length (applied_of c i))) false 0 (applied_of c i) (sym own.front) (record {
-        asked = a.was;
-        open_ = a.open_;
+        asked = a.now.was;
+        open_ = a.now.open_;
         lasts = (subst (λ z. IsSeen z Default) (sym ask) refl, omega arith);
         fresh = (i, length (applied_of c i), inl refl, omega arith);
         rests = tt;
@@ -211,38 +207,38 @@ module _ (c : Cluster) (s : IsSoundAtWork c) (i : ℕ) (q : Question) (a : AskIs
 
   pub handles_sound : (c' : Cluster) → Handles c i q c' → IsSoundAtWork c'
   handles_sound c' (unready st r e) = subst IsSoundAtWork (sym e)
-      (refused_sound c s q _ a.was a.open_ (unready_refused c.world from i q.asked _ _ goes st (lt_tells (last_term (applied_of c i)) (node_of c.world i).term (not_tells _ r))) tt)
+      (refused_sound c s q _ a.now.was a.now.open_ (unready_refused c.world from i q.asked _ _ goes st (lt_tells (last_term (applied_of c i)) (node_of c.world i).term (not_tells _ r))) tt)
   handles_sound c' (full command w' ask free go room b e) = subst IsSoundAtWork (sym e)
       (let p = plain_moved (halted_now c.world w' i) i w' c in
-      refused_sound (moved i w' c) (moved_sound c s (halted_now c.world w' i) i w' (Proposes i q.number (entered q command)) b (acts_rise c.world i _ w' s.world b) (let k = acts_greatest c.world i _ w' b in let n = a.number in let l = a.numbers in omega arith)) q _
-      (p.was (came q) a.was) (p.open_ q.number a.open_)
+      refused_sound (moved i w' c) (moved_sound c s (halted_now c.world w' i) i w' (Proposes i q.number (entered q command)) b (acts_rise c.world i _ w' s.world b) (let k = acts_greatest c.world i _ w' b in let n = a.now.number in let l = a.numbers in omega arith)) q _
+      (p.was (came q) a.now.was) (p.open_ q.number a.now.open_)
       (as_write q command (λ z. IsRefused z (refusal.LogFull (length (log_with (node_of c.world i) q command)) (log_bytes (log_with (node_of c.world i) q command)))) ask (past_limits (log_with (node_of c.world i) q command) room)) tt)
   handles_sound c' (stops command w' ask free go room b down e) = subst IsSoundAtWork (sym e)
       (let p = plain_moved (halted_now c.world w' i) i w' c in
-      refused_sound (moved i w' c) (moved_sound c s (halted_now c.world w' i) i w' (Proposes i q.number (entered q command)) b (acts_rise c.world i _ w' s.world b) (let k = acts_greatest c.world i _ w' b in let n = a.number in let l = a.numbers in omega arith)) q _
-      (p.was (came q) a.was) (p.open_ q.number a.open_) (as_write q command (λ z. IsRefused z (refusal.Halted i)) ask tt) tt)
+      refused_sound (moved i w' c) (moved_sound c s (halted_now c.world w' i) i w' (Proposes i q.number (entered q command)) b (acts_rise c.world i _ w' s.world b) (let k = acts_greatest c.world i _ w' b in let n = a.now.number in let l = a.numbers in omega arith)) q _
+      (p.was (came q) a.now.was) (p.open_ q.number a.now.open_) (as_write q command (λ z. IsRefused z (refusal.Halted i)) ask tt) tt)
   handles_sound c' (proposes command w' ask free go room b up e) = subst IsSoundAtWork (sym e)
       (let p = plain_moved (halted_now c.world w' i) i w' c in
-      holding_sound (moved i w' c) (moved_sound c s (halted_now c.world w' i) i w' (Proposes i q.number (entered q command)) b (acts_rise c.world i _ w' s.world b) (let k = acts_greatest c.world i _ w' b in let n = a.number in let l = a.numbers in omega arith)) q i _ _ (
+      holding_sound (moved i w' c) (moved_sound c s (halted_now c.world w' i) i w' (Proposes i q.number (entered q command)) b (acts_rise c.world i _ w' s.world b) (let k = acts_greatest c.world i _ w' b in let n = a.now.number in let l = a.numbers in omega arith)) q i _ _ (
         omega arith,
         proposed c.world s.world i q.number (entered q command) w' b (goes_leading c.world from i q.asked goes (as_write q command (λ z. is_stale_read z ≡ false) ask refl)) room up,
-        (q, p.was (came q) a.was, refl, as_write q command (λ z. IsWrite z (λ command'. entered q command ≡ entered q command')) ask refl),
+        (q, p.was (came q) a.now.was, refl, as_write q command (λ z. IsWrite z (λ command'. entered q command ≡ entered q command')) ask refl),
       )
       (record {
-        asked = p.was (came q) a.was;
-        open_ = p.open_ q.number a.open_;
+        asked = p.was (came q) a.now.was;
+        open_ = p.open_ q.number a.now.open_;
         stand = as_write q command (λ z. IsWrite z (λ command'. IsAmong (Proposed (suc (length (node_of c.world i).log)) (record { term = (node_of c.world i).term; number = q.number; command = entered q command' })) (Proposed (suc (length (node_of c.world i).log)) (proposal (node_of c.world i) q.number (entered q command)) ∷ c.starts))) ask (inl refl);
-      }) a.above)
+      }) a.now.above)
   handles_sound c' (delays command key ask go d e) = subst IsSoundAtWork (sym e) (delayed_sound command key ask d)
   handles_sound c' (probes wait w' look go b e) = subst IsSoundAtWork (sym e)
       (let p = plain_moved (halted_now c.world w' i) i w' c in
-      holding_sound (moved i w' c) (moved_sound c s (halted_now c.world w' i) i w' (Probes i) b (acts_rise c.world i _ w' s.world b) (let k = acts_greatest c.world i _ w' b in let n = a.number in let l = a.numbers in omega arith)) q i _ _
-      (subst (λ z. IsFreshRound w' z (next_round (node_of c.world i))) (sym (p.before q.number ∙ a.before)) (round lead (ready go) w' b), (q, p.was (came q) a.was, refl))
+      holding_sound (moved i w' c) (moved_sound c s (halted_now c.world w' i) i w' (Probes i) b (acts_rise c.world i _ w' s.world b) (let k = acts_greatest c.world i _ w' b in let n = a.now.number in let l = a.numbers in omega arith)) q i _ _
+      (subst (λ z. IsFreshRound w' z (next_round (node_of c.world i))) (sym (p.before q.number ∙ a.before)) (round lead (ready go) w' b), (q, p.was (came q) a.now.was, refl))
       (record {
-        asked = p.was (came q) a.was;
-        open_ = p.open_ q.number a.open_;
+        asked = p.was (came q) a.now.was;
+        open_ = p.open_ q.number a.now.open_;
         stand = as_look q.asked Consistent wait (λ mode. (mode ≡ Consistent) × IsAmong (Probed q.number i (next_round (node_of c.world i))) (Probed q.number i (next_round (node_of c.world i)) ∷ c.starts)) look (refl, inl refl);
-      }) a.above)
+      }) a.now.above)
     where
       fresh : is_stale_read q.asked ≡ false
       fresh = fresh_look q.asked wait look
@@ -254,14 +250,14 @@ module _ (c : Cluster) (s : IsSoundAtWork c) (i : ℕ) (q : Question) (a : AskIs
       ready (inl z) = absurd (cc (z, fresh))
       ready (inr z) = z
   handles_sound c' (reads mode wait look d go e) = subst IsSoundAtWork (sym e)
-      (holding_sound c s q i _ _ (q, a.was, refl)
+      (holding_sound c s q i _ _ (q, a.now.was, refl)
       (record {
-        asked = a.was;
-        open_ = a.open_;
+        asked = a.now.was;
+        open_ = a.now.open_;
         stand = (
           as_look q.asked mode wait (λ mode'. IsFresh mode' q.number c.past (Looked q.number i (length (applied_of c i)) ∷ c.starts) (length (applied_of c i))) look
               (fresh_looked mode q.number c.past c.starts i (length (applied_of c i)) d),
           new_below q.asked (applied_of c i),
         );
-      }) a.above)
+      }) a.now.above)
   handles_sound c' (renews id ask go e) = subst IsSoundAtWork (sym e) (renewed_sound id ask)

@@ -186,7 +186,7 @@ does_places i made m n c c' whole (cut_between l k) before after = after l
 shelved_places : (c : Cluster) → NoneLost c.asked c → NoneLost c.asked (shelved c)
 shelved_places c l k = let e = outs_times k c.tray c.fresh in let f = l k in omega (arith, e, f)
 
-step_places : (c c' : Cluster) (made : Event) (whole : Bool) → ClusterStep c made c' whole → NoneLost c.asked c → NoneLost c'.asked c'
+pub step_places : (c c' : Cluster) (made : Event) (whole : Bool) → ClusterStep c made c' whole → NoneLost c.asked c → NoneLost c'.asked c'
 step_places c c' made whole (done i c₁ c₂ m d e) l =
     let p = marked_places made c l in
     let a = asked_same made c.asked (marked made c) c₁ (works_asked i (marked made c) c₁ m.0) p.0 in
@@ -196,7 +196,7 @@ step_places c c' made whole (passed c₁ w p e) l =
 step_places c c' made whole (cut_early i w c₁ short for d more e) l =
     subst (λ (z : Cluster). NoneLost z.asked z) (sym e) (shelved_places c₁ (made_up_keep i (noted made c) c₁ (work w d more) l))
 
-step_shelves : (c c' : Cluster) (made : Event) (whole : Bool) → ClusterStep c made c' whole → c'.fresh ≡ []
+pub step_shelves : (c c' : Cluster) (made : Event) (whole : Bool) → ClusterStep c made c' whole → c'.fresh ≡ []
 step_shelves c c' made whole (done i c₁ c₂ m d e) = ap (λ (z : Cluster). z.fresh) e
 step_shelves c c' made whole (passed c₁ w p e) = ap (λ (z : Cluster). z.fresh) e
 step_shelves c c' made whole (cut_early i w c₁ short for d more e) = ap (λ (z : Cluster). z.fresh) e

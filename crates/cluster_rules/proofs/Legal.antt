@@ -98,14 +98,14 @@ applied_within c s i = let k = ap length (s.servers.each i).front in omega (arit
 handles_legal : (c : Cluster) → IsSoundAtWork c → (i : ℕ) (q : Question) → AskIsNew c q → way c.world (asked_server (length c.servers) q.agent) q.asked ≡ Some (Goes i) → (c' : Cluster) (p : Handles c i q c') → HandleIsLegal c i q c' p
 unfolding LastsFor
 handles_legal c s i q a goes c' (unready st r e) = record {
-  asked = a.was;
+  asked = a.now.was;
   lasts = unready_refused c.world (asked_server (length c.servers) q.agent) i q.asked _ _ goes st (lt_tells (last_term (applied_of c i)) (node_of c.world i).term (not_tells _ r));
   cause = not_ready refl goes st r;
   known_is = refl;
   contact_is = refl;
 }
 handles_legal c s i q a goes c' (full command w' ask free go room b e) = record {
-  asked = a.was;
+  asked = a.now.was;
   lasts = as_write q command (λ z. IsRefused z (refusal.LogFull (length (log_with (node_of c.world i) q command)) (log_bytes (log_with (node_of c.world i) q command)))) ask (past_limits (log_with (node_of c.world i) q command) room);
   cause = no_room command refl goes ask (is_ready_for c i q (as_write q command (λ z. is_stale_read z ≡ false) ask refl) go) room;
   known_is = refl;
@@ -113,14 +113,14 @@ handles_legal c s i q a goes c' (full command w' ask free go room b e) = record 
 }
 handles_legal c s i q a goes c' (proposes command w' ask free go room b up e) = tt
 handles_legal c s i q a goes c' (stops command w' ask free go room b down e) = record {
-  asked = (plain_moved (halted_now c.world w' i) i w' c).was (came q) a.was;
+  asked = (plain_moved (halted_now c.world w' i) i w' c).was (came q) a.now.was;
   lasts = as_write q command (λ z. IsRefused z (refusal.Halted i)) ask tt;
   cause = stopped command refl ask down;
   known_is = refl;
   contact_is = refl;
 }
 handles_legal c s i q a goes c' (delays command key ask go d e) = record {
-  asked = a.was;
+  asked = a.now.was;
   lasts = let t = delayed_tells (until_at c i) (clock_of c.world i) command key d in (as_write q command (λ z. IsWrite z (LocksKey key)) ask t.0, t.1);
   cause = delay command key refl goes ask (is_ready_for c i q (as_write q command (λ z. is_stale_read z ≡ false) ask refl) go) d;
   known_is = refl;
@@ -129,7 +129,7 @@ handles_legal c s i q a goes c' (delays command key ask go d e) = record {
 handles_legal c s i q a goes c' (probes wait w' look go b e) = tt
 handles_legal c s i q a goes c' (reads mode wait look d go e) = tt
 handles_legal c s i q a goes c' (renews id ask go e) = record {
-  asked = a.was;
+  asked = a.now.was;
   lasts = (subst (λ z. IsSeen z Default) (sym ask) refl, applied_within c s i);
   cause = renewed id refl goes ask (is_ready_for c i q (subst (λ z. is_stale_read z ≡ false) (sym ask) refl) go);
   known_is = refl;
@@ -148,8 +148,8 @@ told_legal c (event.Ask a (Good (OfAgent op)) draw) f = by (change a op (agent_o
     new = f.asked a (Good (OfAgent op)) draw refl
 
     by : (g : Option Agent) → change a op (agent_of c a) ≡ g → IsLegal c (asked_server (length c.servers) a) (record { number = c.asked; agent = a; asked = Good (OfAgent op); draw = draw }) (kind_told a op g) false 0
-    by None e = record { asked = new.was; lasts = tt; cause = unknown_there op refl e refl; known_is = refl; contact_is = refl }
-    by (Some g) e = record { asked = new.was; lasts = tt; cause = by_agent op g refl e refl; known_is = refl; contact_is = refl }
+    by None e = record { asked = new.now.was; lasts = tt; cause = unknown_there op refl e refl; known_is = refl; contact_is = refl }
+    by (Some g) e = record { asked = new.now.was; lasts = tt; cause = by_agent op g refl e refl; known_is = refl; contact_is = refl }
 told_legal c other f = tt
 
 acts_legal : (n : ℕ) (c : Cluster) → IsSoundAtWork c → (i : ℕ) (made : Event) → (n ≡ 0 → Facts c made) → (c' : Cluster) (p : Acts n c i made c') → ActIsLegal n c i made c' p
@@ -165,7 +165,7 @@ passes_legal : (c : Cluster) → IsSoundAtWork c → (made : Event) → Facts c 
 unfolding LastsFor
 passes_legal c s made f c' (loses k w' is st e) = tt
 passes_legal c s made f c' (replies agent asked draw why is goes e) = record {
-  asked = (f.asked agent asked draw is).was;
+  asked = (f.asked agent asked draw is).now.was;
   lasts = (now_refused c.world s.world (asked_server (length c.servers) agent) (record { number = c.asked; agent = agent; asked = asked; draw = draw }) asked why goes).0;
   cause = at_once why refl goes;
   known_is = refl;

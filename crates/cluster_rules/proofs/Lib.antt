@@ -2,6 +2,7 @@ pub mod PlainSteps
 pub mod Playing
 pub mod Tools
 pub mod Entries
+pub mod Numbered
 pub mod Cases
 pub mod Grows
 pub mod Later
@@ -15,6 +16,8 @@ pub mod Handling
 pub mod Steps
 pub mod Counting
 pub mod Keeping
+pub mod Booking
+pub mod Booked
 pub mod Reached
 pub mod Answers
 pub mod Waiting

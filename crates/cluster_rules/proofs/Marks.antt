@@ -8,6 +8,7 @@ use Rattle.cat_model.specs.declared.request.Event.TheVariants as event
 use Rattle.cat_model.specs.declared.reply.Mark.{Mark}
 use Rattle.cat_model.specs.declared.reply.Mark.TheVariants as mark
 use Rattle.raft_model.specs.Log.{Log}
+use Rattle.raft_model.specs.Node.{Store}
 use Rattle.raft_model.specs.World.{World}
 use Rattle.cluster_rules.specs.Replies.{Question}
 use Rattle.cluster_rules.specs.Cluster.{Cluster, node_of, clock_of, agent_of, with_office, took_office, seated}
@@ -18,7 +19,8 @@ use Rattle.raft_model.proofs.Tests.{at_bool}
 use Rattle.cluster_rules.specs.Due.{Work, Replies, Holds, Closes, Applies, did, Works, none, work}
 use Rattle.cluster_rules.specs.Requests.{entries_past, halts_past, joined, moved_with, moved, halted_now, Handles, unready, full, proposes, stops, delays, probes, reads, renews}
 use Rattle.cluster_rules.specs.Step.{Acts, takes, ticks, arms, restarts, handles, tends, syncs, Does, over, act, cut, cut_between, Passes, loses, replies, stays, leaderless, noted, marked, ClusterStep, done, passed, cut_early}
-use Rattle.cluster_rules.specs.Reached.{IsStart, Move, Makes, Takes, Settles, Advances, moves_of, Reached, at_start, by_event, by_taking, by_handing, by_settling, by_advancing}
+use Rattle.cluster_rules.specs.Reached.{IsBegun, IsStart, Move, Makes, Takes, Settles, Advances, moves_of, Reached, at_start, by_event, by_taking, by_handing, by_settling, by_advancing}
+use Rattle.cluster_rules.proofs.Starting.{begun_of}
 
 abbrev Same : Cluster → Cluster → Type 0
 Same c c' = moves_of c'.past ≡ moves_of c.past
@@ -125,13 +127,13 @@ step_moves c c' made whole (done i c₁ c₂ m d e) = ap (λ (z : Cluster). move
 step_moves c c' made whole (passed c₁ w p e) = ap (λ (z : Cluster). moves_of z.past) e ∙ passes_same (marked made c) made c₁ p ∙ marked_moves made c
 step_moves c c' made whole (cut_early i w c₁ short for d more e) = ap (λ (z : Cluster). moves_of z.past) e ∙ works_same i (noted made c) c₁ (work w d more)
 
-started_moves : (c : Cluster) → IsStart c → moves_of c.past ≡ []
-started_moves c s = ap (λ (z : Cluster). moves_of z.past) s.is
+pub begun_marks : (stores : List Store) (start c : Cluster) (whole : Bool) (moves : List Move) → IsBegun stores start → Reached start whole moves c → moves_of c.past ≡ moves
+begun_marks stores start c whole moves i at_start = ap (λ (z : Cluster). moves_of z.past) i.is
+begun_marks stores start c whole moves i (by_event {whole = w} {moves = ms} {c = b} made all r fits s) = step_moves b c made all s ∙ ap (λ z. Makes made ∷ z) (begun_marks stores start b w ms i r)
+begun_marks stores start c whole moves i (by_taking {whole = w} {moves = ms} {c = b} number out before after r is e) = ap (λ z. Takes number ∷ z) (begun_marks stores start b w ms i r)
+begun_marks stores start c whole moves i (by_handing {whole = w} {moves = ms} {c = b} out before after r is e) = begun_marks stores start b w ms i r
+begun_marks stores start c whole moves i (by_settling {whole = w} {moves = ms} {c = b} pairs all r ends) = ap (λ z. Settles pairs all ∷ z) (begun_marks stores start b w ms i r)
+begun_marks stores start c whole moves i (by_advancing {whole = w} {moves = ms} {c = b} time made r ends) = ap (λ z. Advances time made ∷ z) (begun_marks stores start b w ms i r)
 
 pub marks_are_moves : (start : Cluster) → IsStart start → (whole : Bool) (moves : List Move) (c : Cluster) → Reached start whole moves c → moves_of c.past ≡ moves
-marks_are_moves start i whole moves c at_start = started_moves start i
-marks_are_moves start i whole moves c (by_event {whole = w} {moves = ms} {c = b} made all r fits s) = step_moves b c made all s ∙ ap (λ z. Makes made ∷ z) (marks_are_moves start i w ms b r)
-marks_are_moves start i whole moves c (by_taking {whole = w} {moves = ms} {c = b} number out before after r is e) = ap (λ z. Takes number ∷ z) (marks_are_moves start i w ms b r)
-marks_are_moves start i whole moves c (by_handing {whole = w} {moves = ms} {c = b} out before after r is e) = marks_are_moves start i w ms b r
-marks_are_moves start i whole moves c (by_settling {whole = w} {moves = ms} {c = b} pairs all r ends) = ap (λ z. Settles pairs all ∷ z) (marks_are_moves start i w ms b r)
-marks_are_moves start i whole moves c (by_advancing {whole = w} {moves = ms} {c = b} time made r ends) = ap (λ z. Advances time made ∷ z) (marks_are_moves start i w ms b r)
+marks_are_moves start i whole moves c r = begun_marks i.stores start c whole moves (begun_of start i) r

@@ -17,6 +17,7 @@ use Rattle.cluster_rules.specs.Cluster.{Server, Ended, Pending, Start, Cluster, 
 use Rattle.cluster_rules.specs.Requests.{entries_past, halts_past, joined, moved_with}
 use Rattle.cluster_rules.specs.Step.{events_in, ended, begun_anew}
 use Rattle.cluster_rules.specs.Sound.{IsAmong, ServerIsSound, ServersAreSound, IsOpen, asked_in, entered_in, entries_before, RestartedAt, StartIsSound, PendingIsSound, Ascends, PastIsSound, OutIsSound, IsSoundAtWork}
+use Rattle.cluster_rules.specs.Booked.{IsNumbered}
 use Rattle.cluster_rules.proofs.Tools.{eq_tells_not, at_item, item_same, item_other, length_set_server, is_node, is_place, each_map}
 use Rattle.cluster_rules.proofs.Grows.{GoesTo, goes_by}
 use Rattle.cluster_rules.proofs.Later.{Same, Later, pending_later, start_later, out_later, past_later}
@@ -30,9 +31,10 @@ pub record Plain (past past' : List Mark) : Type 0 where
   pub before : (n : ℕ) → entries_before n past' ≡ entries_before n past
   pub asked : asked_in past' ≡ asked_in past
   pub sound : (w : World) (starts : List Start) → PastIsSound w starts past → PastIsSound w starts past'
+  pub numbered : IsNumbered past → IsNumbered past'
 
 pub plain_same : (past : List Mark) → Plain past past
-plain_same past = record { was = λ m x. x; restarted = λ e s x. x; open_ = λ n x. x; before = λ n. refl; asked = refl; sound = λ w starts x. x }
+plain_same past = record { was = λ m x. x; restarted = λ e s x. x; open_ = λ n x. x; before = λ n. refl; asked = refl; sound = λ w starts x. x; numbered = λ x. x }
 
 plain_on : (a b c : List Mark) → Plain a b → Plain b c → Plain a c
 plain_on a b c p q = record {
@@ -42,25 +44,26 @@ plain_on a b c p q = record {
   before = λ n. q.before n ∙ p.before n;
   asked = q.asked ∙ p.asked;
   sound = λ w starts x. q.sound w starts (p.sound w starts x);
+  numbered = λ x. q.numbered (p.numbered x);
 }
 
 plain_entry : (e : Entry) (past : List Mark) → Plain past (mark.Entry e ∷ past)
-plain_entry e past = record { was = λ m x. inr x; restarted = λ e s x. inr x; open_ = λ n x. x; before = λ n. refl; asked = refl; sound = λ w starts x. x }
+plain_entry e past = record { was = λ m x. inr x; restarted = λ e s x. inr x; open_ = λ n x. x; before = λ n. refl; asked = refl; sound = λ w starts x. x; numbered = λ x. x }
 
 plain_halted : (i : ℕ) (past : List Mark) → Plain past (mark.Halted i ∷ past)
-plain_halted i past = record { was = λ m x. inr x; restarted = λ e s x. inr x; open_ = λ n x. x; before = λ n. refl; asked = refl; sound = λ w starts x. x }
+plain_halted i past = record { was = λ m x. inr x; restarted = λ e s x. inr x; open_ = λ n x. x; before = λ n. refl; asked = refl; sound = λ w starts x. x; numbered = λ x. x }
 
 pub plain_made : (made : Event) (past : List Mark) → Plain past (mark.Made made ∷ past)
-plain_made made past = record { was = λ m x. inr x; restarted = λ e s x. inr x; open_ = λ n x. x; before = λ n. refl; asked = refl; sound = λ w starts x. x }
+plain_made made past = record { was = λ m x. inr x; restarted = λ e s x. inr x; open_ = λ n x. x; before = λ n. refl; asked = refl; sound = λ w starts x. x; numbered = λ x. x }
 
 pub plain_taken : (number : ℕ) (past : List Mark) → Plain past (mark.Taken number ∷ past)
-plain_taken number past = record { was = λ m x. inr x; restarted = λ e s x. inr x; open_ = λ n x. x; before = λ n. refl; asked = refl; sound = λ w starts x. x }
+plain_taken number past = record { was = λ m x. inr x; restarted = λ e s x. inr x; open_ = λ n x. x; before = λ n. refl; asked = refl; sound = λ w starts x. x; numbered = λ x. x }
 
 pub plain_settled : (pairs : ℕ) (whole : Bool) (past : List Mark) → Plain past (mark.Settled pairs whole ∷ past)
-plain_settled pairs whole past = record { was = λ m x. inr x; restarted = λ e s x. inr x; open_ = λ n x. x; before = λ n. refl; asked = refl; sound = λ w starts x. x }
+plain_settled pairs whole past = record { was = λ m x. inr x; restarted = λ e s x. inr x; open_ = λ n x. x; before = λ n. refl; asked = refl; sound = λ w starts x. x; numbered = λ x. x }
 
 pub plain_advanced : (ms made : ℕ) (past : List Mark) → Plain past (mark.Advanced ms made ∷ past)
-plain_advanced ms made past = record { was = λ m x. inr x; restarted = λ e s x. inr x; open_ = λ n x. x; before = λ n. refl; asked = refl; sound = λ w starts x. x }
+plain_advanced ms made past = record { was = λ m x. inr x; restarted = λ e s x. inr x; open_ = λ n x. x; before = λ n. refl; asked = refl; sound = λ w starts x. x; numbered = λ x. x }
 
 plain_entries : (es : Log) (past : List Mark) → Plain past (entries_past es past)
 plain_entries [] past = plain_same past
@@ -194,7 +197,7 @@ above_ended : (i event n : ℕ) (hs : List Pending) → Each (λ (g : Pending). 
 above_ended i event n [] x = x
 above_ended i event n (h ∷ hs) x = (let k = x.0 in let e = ended_number i event h in omega arith, above_ended i event n hs x.1)
 
-ascends_ended : (i event : ℕ) (hs : List Pending) → Ascends hs → Ascends (map (ended i event) hs)
+pub ascends_ended : (i event : ℕ) (hs : List Pending) → Ascends hs → Ascends (map (ended i event) hs)
 ascends_ended i event [] a = a
 ascends_ended i event (h ∷ hs) a = (
   subst (λ z. Each (λ (g : Pending). z < g.question.number) (map (ended i event) hs)) (sym (ended_number i event h)) (above_ended i event h.question.number hs a.0),

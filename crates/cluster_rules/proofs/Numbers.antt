@@ -1,5 +1,5 @@
--- Numbers in the marks of a sound cluster.
-use Rattle.std.proofs.Common.{◌≡◌, ◌≢◌, ℕ, zero, suc, ◌+◌, ◌<◌, ◌≤◌, ◌⊎◌, inl, inr, ⊎_elim, Bool, true, false, cond, List, [], ◌∷◌, ◌++◌, refl, sym, ◌∙◌, ap, subst, arith, append_assoc}
+-- Numbers in the marks of a cluster whose books hold.
+use Rattle.std.proofs.Common.{◌≡◌, ℕ, suc, ◌+◌, ◌<◌, ◌≤◌, ◌⊎◌, inl, inr, ⊎_elim, Bool, true, false, List, [], ◌∷◌, ◌++◌, refl, sym, ◌∙◌, ap, subst, arith, append_assoc}
 use Rattle.std.specs.Prelude.{◌==◌, nat_lt, nat_le, ◌&&◌}
 use Rattle.std.specs.List.{AllByRecursion as Each}
 use Rattle.std.proofs.lemmas.Bool.Decides.{nat_tests}
@@ -7,52 +7,52 @@ use Rattle.cat_model.specs.declared.request.Event.{Event}
 use Rattle.cat_model.specs.declared.request.Event.TheVariants as event
 use Rattle.cat_model.specs.declared.reply.Mark.{Mark}
 use Rattle.cat_model.specs.declared.reply.Mark.TheVariants as mark
-use Rattle.raft_model.specs.World.{World}
-use Rattle.cluster_rules.specs.Cluster.{Cluster, Start}
+use Rattle.cluster_rules.specs.Cluster.{Cluster}
 use Rattle.cluster_rules.specs.Step.{ClusterStep}
 use Rattle.cluster_rules.specs.Reached.{moves_of, Settling, none, pair, Making, no_more, one}
-use Rattle.cluster_rules.specs.Sound.{IsOpen, PastIsSound, Sound, asked_in, found, one_if, taken_times}
-use Rattle.cluster_rules.specs.Past.{AddsQuiet, AddsEvent, AsksNothing, Among, AreKept, EachOnce, event_mark, answered_of, asked_of, taken_of}
+use Rattle.cluster_rules.specs.Sound.{IsOpen, asked_in, one_if, taken_times}
+use Rattle.cluster_rules.specs.Booked.{Booked, IsNumbered}
+use Rattle.cluster_rules.specs.Past.{AddsQuiet, AsksNothing, Among, AreKept, EachOnce, event_mark, answered_of, asked_of, taken_of}
 use Rattle.cluster_rules.proofs.Adding.{step_adds}
 
 -- the numbers that were asked are those up to their count
-pub asked_low : (w : World) (starts : List Start) (past : List Mark) → PastIsSound w starts past → (n : ℕ) → Among n (asked_of past) → (0 < n) × (n ≤ asked_in past)
-asked_low w starts [] s n a = absurd a
-asked_low w starts (mark.Asked number agent asked draw ∷ past) s n (inl e) = let f = s.0 in (omega (arith, e, f), omega (arith, e, f))
-asked_low w starts (mark.Asked number agent asked draw ∷ past) s n (inr a) = let i = asked_low w starts past s.1 n a in (i.0, omega (arith, i.1))
-asked_low w starts (mark.Answered number kind known contact ∷ past) s n a = asked_low w starts past s.1 n a
-asked_low w starts (mark.Made made ∷ past) s n a = asked_low w starts past s n a
-asked_low w starts (mark.Advanced ms made ∷ past) s n a = asked_low w starts past s n a
-asked_low w starts (mark.Settled pairs whole ∷ past) s n a = asked_low w starts past s n a
-asked_low w starts (mark.Halted server ∷ past) s n a = asked_low w starts past s n a
-asked_low w starts (mark.Entry entry ∷ past) s n a = asked_low w starts past s n a
-asked_low w starts (mark.Taken number ∷ past) s n a = asked_low w starts past s n a
+pub asked_low : (past : List Mark) → IsNumbered past → (n : ℕ) → Among n (asked_of past) → (0 < n) × (n ≤ asked_in past)
+asked_low [] s n a = absurd a
+asked_low (mark.Asked number agent asked draw ∷ past) s n (inl e) = let f = s.0 in (omega (arith, e, f), omega (arith, e, f))
+asked_low (mark.Asked number agent asked draw ∷ past) s n (inr a) = let i = asked_low past s.1 n a in (i.0, omega (arith, i.1))
+asked_low (mark.Answered number kind known contact ∷ past) s n a = asked_low past s.1 n a
+asked_low (mark.Made made ∷ past) s n a = asked_low past s n a
+asked_low (mark.Advanced ms made ∷ past) s n a = asked_low past s n a
+asked_low (mark.Settled pairs whole ∷ past) s n a = asked_low past s n a
+asked_low (mark.Halted server ∷ past) s n a = asked_low past s n a
+asked_low (mark.Entry entry ∷ past) s n a = asked_low past s n a
+asked_low (mark.Taken number ∷ past) s n a = asked_low past s n a
 
-pub asked_once : (w : World) (starts : List Start) (past : List Mark) → PastIsSound w starts past → EachOnce (asked_of past)
-asked_once w starts [] s = tt
-asked_once w starts (mark.Asked number agent asked draw ∷ past) s = (λ a. let l = (asked_low w starts past s.1 number a).1 in let f = s.0 in absurd (omega (arith, l, f)), asked_once w starts past s.1)
-asked_once w starts (mark.Answered number kind known contact ∷ past) s = asked_once w starts past s.1
-asked_once w starts (mark.Made made ∷ past) s = asked_once w starts past s
-asked_once w starts (mark.Advanced ms made ∷ past) s = asked_once w starts past s
-asked_once w starts (mark.Settled pairs whole ∷ past) s = asked_once w starts past s
-asked_once w starts (mark.Halted server ∷ past) s = asked_once w starts past s
-asked_once w starts (mark.Entry entry ∷ past) s = asked_once w starts past s
-asked_once w starts (mark.Taken number ∷ past) s = asked_once w starts past s
+pub asked_once : (past : List Mark) → IsNumbered past → EachOnce (asked_of past)
+asked_once [] s = tt
+asked_once (mark.Asked number agent asked draw ∷ past) s = (λ a. let l = (asked_low past s.1 number a).1 in let f = s.0 in absurd (omega (arith, l, f)), asked_once past s.1)
+asked_once (mark.Answered number kind known contact ∷ past) s = asked_once past s.1
+asked_once (mark.Made made ∷ past) s = asked_once past s
+asked_once (mark.Advanced ms made ∷ past) s = asked_once past s
+asked_once (mark.Settled pairs whole ∷ past) s = asked_once past s
+asked_once (mark.Halted server ∷ past) s = asked_once past s
+asked_once (mark.Entry entry ∷ past) s = asked_once past s
+asked_once (mark.Taken number ∷ past) s = asked_once past s
 
 last_or : (n number count : ℕ) (rest : List ℕ) → 0 < n → n ≤ suc count → number ≡ suc count → (b : Bool) → (n == number) ≡ b → (n ≤ count → Among n rest) → (number ≡ n) ⊎ Among n rest
 last_or n number count rest l k e true t f = inl (grind (arith, nat_tests, t))
 last_or n number count rest l k e false t f = inr (f (grind (arith, nat_tests, t, e, k)))
 
-all_asked : (w : World) (starts : List Start) (past : List Mark) → PastIsSound w starts past → (n : ℕ) → 0 < n → n ≤ asked_in past → Among n (asked_of past)
-all_asked w starts [] s n l k = absurd (omega (arith, l, k))
-all_asked w starts (mark.Asked number agent asked draw ∷ past) s n l k = last_or n number (asked_in past) (asked_of past) l k s.0 (n == number) refl (all_asked w starts past s.1 n l)
-all_asked w starts (mark.Answered number kind known contact ∷ past) s n l k = all_asked w starts past s.1 n l k
-all_asked w starts (mark.Made made ∷ past) s n l k = all_asked w starts past s n l k
-all_asked w starts (mark.Advanced ms made ∷ past) s n l k = all_asked w starts past s n l k
-all_asked w starts (mark.Settled pairs whole ∷ past) s n l k = all_asked w starts past s n l k
-all_asked w starts (mark.Halted server ∷ past) s n l k = all_asked w starts past s n l k
-all_asked w starts (mark.Entry entry ∷ past) s n l k = all_asked w starts past s n l k
-all_asked w starts (mark.Taken number ∷ past) s n l k = all_asked w starts past s n l k
+all_asked : (past : List Mark) → IsNumbered past → (n : ℕ) → 0 < n → n ≤ asked_in past → Among n (asked_of past)
+all_asked [] s n l k = absurd (omega (arith, l, k))
+all_asked (mark.Asked number agent asked draw ∷ past) s n l k = last_or n number (asked_in past) (asked_of past) l k s.0 (n == number) refl (all_asked past s.1 n l)
+all_asked (mark.Answered number kind known contact ∷ past) s n l k = all_asked past s.1 n l k
+all_asked (mark.Made made ∷ past) s n l k = all_asked past s n l k
+all_asked (mark.Advanced ms made ∷ past) s n l k = all_asked past s n l k
+all_asked (mark.Settled pairs whole ∷ past) s n l k = all_asked past s n l k
+all_asked (mark.Halted server ∷ past) s n l k = all_asked past s n l k
+all_asked (mark.Entry entry ∷ past) s n l k = all_asked past s n l k
+all_asked (mark.Taken number ∷ past) s n l k = all_asked past s n l k
 
 open_not : (n : ℕ) (past : List Mark) → IsOpen n past → Among n (answered_of past) → ⊥
 open_not n [] o a = a
@@ -66,16 +66,16 @@ open_not n (mark.Halted server ∷ past) o a = open_not n past o a
 open_not n (mark.Entry entry ∷ past) o a = open_not n past o a
 open_not n (mark.Taken number ∷ past) o a = open_not n past o a
 
-answered_once : (w : World) (starts : List Start) (past : List Mark) → PastIsSound w starts past → EachOnce (answered_of past)
-answered_once w starts [] s = tt
-answered_once w starts (mark.Answered number kind known contact ∷ past) s = (open_not number past s.0.once, answered_once w starts past s.1)
-answered_once w starts (mark.Asked number agent asked draw ∷ past) s = answered_once w starts past s.1
-answered_once w starts (mark.Made made ∷ past) s = answered_once w starts past s
-answered_once w starts (mark.Advanced ms made ∷ past) s = answered_once w starts past s
-answered_once w starts (mark.Settled pairs whole ∷ past) s = answered_once w starts past s
-answered_once w starts (mark.Halted server ∷ past) s = answered_once w starts past s
-answered_once w starts (mark.Entry entry ∷ past) s = answered_once w starts past s
-answered_once w starts (mark.Taken number ∷ past) s = answered_once w starts past s
+answered_once : (past : List Mark) → IsNumbered past → EachOnce (answered_of past)
+answered_once [] s = tt
+answered_once (mark.Answered number kind known contact ∷ past) s = (open_not number past s.0.1, answered_once past s.1)
+answered_once (mark.Asked number agent asked draw ∷ past) s = answered_once past s.1
+answered_once (mark.Made made ∷ past) s = answered_once past s
+answered_once (mark.Advanced ms made ∷ past) s = answered_once past s
+answered_once (mark.Settled pairs whole ∷ past) s = answered_once past s
+answered_once (mark.Halted server ∷ past) s = answered_once past s
+answered_once (mark.Entry entry ∷ past) s = answered_once past s
+answered_once (mark.Taken number ∷ past) s = answered_once past s
 
 pub one_true : (n : ℕ) → one_if (n == n) ≡ 1
 one_true n = let t : (n == n) ≡ true = grind (arith, nat_tests) in ap one_if t
@@ -95,17 +95,18 @@ taken_some n (mark.Entry entry ∷ past) a = taken_some n past a
 pub counted : (n asked : ℕ) → 0 < one_if (nat_lt 0 n && nat_le n asked) → (0 < n) × (n ≤ asked)
 counted n asked l = grind (arith, nat_tests, l)
 
-pub sound_kept : (c : Cluster) → Sound c → AreKept c.past
-sound_kept c s =
+-- whatever the stores held
+pub booked_kept : (c : Cluster) → Booked c → AreKept c.past
+booked_kept c s =
     let m = s.parts.marks in
-    let e = s.parts.counts.asked_is in record {
-      once = asked_once c.world c.starts c.past m;
-      only = answered_once c.world c.starts c.past m;
+    let e = s.parts.asked_is in record {
+      once = asked_once c.past m;
+      only = answered_once c.past m;
       taken = λ n a.
           let some = taken_some n c.past a in
           let whole = s.none_lost n in
           let k = counted n c.asked (omega (arith, some, whole)) in
-          all_asked c.world c.starts c.past m n k.0 (omega (arith, k.1, e));
+          all_asked c.past m n k.0 (omega (arith, k.1, e));
     }
 
 -- Deliveries and losses.

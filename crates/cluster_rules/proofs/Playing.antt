@@ -24,7 +24,7 @@ use Rattle.cluster_rules.specs.Due.{Work, Replies, Holds, Closes, Applies, answe
 use Rattle.cluster_rules.specs.Requests.{Goes, way, way_of, asked_server, is_ready, look_of, wait_of, delayed_at, session_of, holding, moved, moved_with, proposes, delays, reads, renews}
 use Rattle.agent_rules.specs.Agents.{Agent, change}
 use Rattle.cluster_rules.specs.Proposals.{Tends, Syncs, did_own, sync_of, agent_did, is_agents, told}
-use Rattle.cluster_rules.specs.Step.{Acts, takes, ticks, restarts, begun_anew, handles, tends, syncs, Remembers, acts_of, Does, over, act, Passes, stays, marked, shelved, ClusterStep, done as whole_step, passed, input_of}
+use Rattle.cluster_rules.specs.Step.{Acts, takes, ticks, restarts, begun_anew, handles, tends, syncs, Remembers, acts_of, over, act, stays, marked, shelved, ClusterStep, done as whole_step, passed, input_of}
 use Rattle.raft_model.proofs.Tests.{at_bool}
 use Rattle.cluster_rules.proofs.PlainSteps.{IsPlain, plain_step}
 use Rattle.cluster_rules.proofs.Tools.{get_default, set_same, set_other, length_set_server}

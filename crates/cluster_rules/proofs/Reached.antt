@@ -1,23 +1,23 @@
 -- What holds in every cluster of a run.
-use Rattle.std.proofs.Common.{◌≡◌, ℕ, zero, suc, ◌+◌, inl, inr, Bool, true, false, cond, List, [], ◌∷◌, ◌++◌, length, get_or, replicate, refl, sym, ◌∙◌, ap, subst, arith}
-use Rattle.std.specs.Prelude.{◌==◌, nat_lt, nat_le, ◌&&◌}
+use Rattle.std.proofs.Common.{◌≡◌, ℕ, zero, suc, inl, inr, Bool, true, cond, List, [], ◌∷◌, ◌++◌, length, get_or, replicate, refl, sym, ◌∙◌, subst, arith}
+use Rattle.std.specs.Prelude.{◌==◌}
 use Rattle.std.specs.List.{AllByRecursion as Each}
-use Rattle.std.proofs.lemmas.Bool.Decides.{nat_tests}
 use Rattle.std.proofs.lemmas.List.{length-replicate}
 use Rattle.cat_model.specs.declared.reply.Kind.{Kind}
 use Rattle.cat_model.specs.declared.reply.Mark.{Mark}
 use Rattle.cat_model.specs.declared.reply.Mark.TheVariants as mark
 use Rattle.raft_model.specs.World.{World, IsReached, empty, again}
 use Rattle.raft_model.proofs.Tests.{at_bool, eq_tells}
-use Rattle.cluster_rules.specs.Replies.{Question, came, Out, number_of}
+use Rattle.cluster_rules.specs.Replies.{Question, came, Out}
 use Rattle.cluster_rules.specs.Lasting.{Lasting}
 use Rattle.cluster_rules.specs.Cluster.{Server, Start, Cluster, no_server, node_of, server_of, started}
 use Rattle.cluster_rules.specs.Reached.{IsStart, Move, Reached, at_start, by_event, by_taking, by_handing, by_settling, by_advancing}
-use Rattle.cluster_rules.specs.Sound.{IsAmong, ServerIsSound, entered_in, entries_before, IsFreshKind, RestsOn, PastIsSound, OutIsSound, one_if, is_of, out_times, IsSoundAtWork, Sound}
-use Rattle.cluster_rules.proofs.Counting.{outs_times}
-use Rattle.cluster_rules.proofs.Due.{was_numbered}
+use Rattle.cluster_rules.specs.Sound.{IsAmong, ServerIsSound, entered_in, entries_before, IsFreshKind, RestsOn, PastIsSound, OutIsSound, IsSoundAtWork, Sound}
+use Rattle.cluster_rules.proofs.Booked.{run_books}
+use Rattle.cluster_rules.proofs.Numbered.{numbered_of, was_numbered}
 use Rattle.cluster_rules.proofs.Grows.{goes_nowhere}
-use Rattle.cluster_rules.proofs.Keeping.{step_keeps}
+use Rattle.cluster_rules.proofs.Starting.{begun_of}
+use Rattle.cluster_rules.proofs.Steps.{step_sound}
 use Rattle.cluster_rules.proofs.Later.{fresh_kind_later}
 use Rattle.cluster_rules.proofs.Moved.{Plain, plain_taken, plain_settled, plain_advanced, turned, held_as_before}
 use Rattle.cluster_rules.proofs.Tools.{each_but}
@@ -32,34 +32,24 @@ pub fresh_server : (n i : ℕ) → server_of (replicate n no_server) i ≡ no_se
 fresh_server n zero = refl
 fresh_server n (suc i) = get_replicate n i no_server
 
-none_asked : (k : ℕ) → one_if (nat_lt 0 k && nat_le k 0) ≡ 0
-none_asked k = at_bool (λ b. nat_lt 0 k ≡ b → one_if (b && nat_le k 0) ≡ 0) (nat_lt 0 k) (λ _ e. ap one_if (above k e)) (λ _ _. refl) refl
-  where
-    above : (k : ℕ) → nat_lt 0 k ≡ true → nat_le k 0 ≡ false
-    above k e = grind (arith, nat_tests)
-
-started_sound : (w : World) (agents : ℕ) → IsReached w → w.agreed ≡ [] → w.greatest ≡ 0 → Sound (started w agents)
+started_sound : (w : World) (agents : ℕ) → IsReached w → w.agreed ≡ [] → w.greatest ≡ 0 → IsSoundAtWork (started w agents)
 started_sound w agents r a g = record {
-  parts = record {
-    world = r;
-    servers = record {
-      count = length-replicate (length w.nodes) no_server;
-      each = λ i. subst (λ (s : Server). ServerIsSound w.agreed (node_of w i).commit s) (sym (fresh_server (length w.nodes) i)) (record { front = refl; within = omega arith; clocks = refl });
-    };
-    starts = tt;
-    held = tt;
-    ascends = tt;
-    marks = tt;
-    fresh = tt;
-    tray = tt;
-    counts = record { asked_is = refl; proposed = omega (arith, g); entries = sym a };
+  world = r;
+  servers = record {
+    count = length-replicate (length w.nodes) no_server;
+    each = λ i. subst (λ (s : Server). ServerIsSound w.agreed (node_of w i).commit s) (sym (fresh_server (length w.nodes) i)) (record { front = refl; within = omega arith; clocks = refl });
   };
-  none_lost = λ k. sym (none_asked k);
-  shelved = refl;
+  starts = tt;
+  held = tt;
+  ascends = tt;
+  marks = tt;
+  fresh = tt;
+  tray = tt;
+  counts = record { asked_is = refl; proposed = omega (arith, g); entries = sym a };
 }
 
-pub start_sound : (c : Cluster) → IsStart c → Sound c
-start_sound c s = subst Sound (sym s.is) (started_sound s.world s.agents reached s.begins.agreed s.begins.greatest)
+start_parts : (c : Cluster) → IsStart c → IsSoundAtWork c
+start_parts c s = subst IsSoundAtWork (sym s.is) (started_sound s.world s.agents reached s.begins.agreed s.begins.greatest)
   where
     reached : IsReached s.world
     reached = elim s.kept [
@@ -85,34 +75,21 @@ less_tray c s out before after e = record {
   counts = s.counts;
 }
 
-tray_times : (k : ℕ) (tray before : List Out) (out : Out) (after : List Out) → tray ≡ before ++ out ∷ after → out_times k tray ≡ one_if (is_of k (number_of out)) + out_times k (before ++ after)
-tray_times k tray before out after e =
-    let a = ap (out_times k) e in let b = outs_times k before (out ∷ after) in let d = outs_times k before after in omega (arith, a, b, d)
-
 -- Each cluster of a run is sound.
+run_parts : (start : Cluster) → IsStart start → (whole : Bool) (moves : List Move) (c : Cluster) → Reached start whole moves c → IsSoundAtWork c
+run_parts start i whole moves c at_start = start_parts start i
+run_parts start i whole moves c (by_event {whole = w} {moves = ms} {c = b} made all r fits s) = step_sound b c made all s (run_parts start i w ms b r)
+run_parts start i whole moves c (by_taking {whole = w} {moves = ms} {c = b} number out before after r is e) =
+    marks_sound (record b { tray = before ++ after }) (less_tray b (run_parts start i w ms b r) out before after e) (mark.Taken number ∷ b.past) (plain_taken number b.past) refl
+run_parts start i whole moves c (by_handing {whole = w} {moves = ms} {c = b} out before after r is e) = less_tray b (run_parts start i w ms b r) out before after e
+run_parts start i whole moves c (by_settling {whole = w} {moves = ms} {c = b} pairs all r ends) = marks_sound b (run_parts start i w ms b r) (mark.Settled pairs all ∷ b.past) (plain_settled pairs all b.past) refl
+run_parts start i whole moves c (by_advancing {whole = w} {moves = ms} {c = b} time made r ends) = marks_sound b (run_parts start i w ms b r) (mark.Advanced time made ∷ b.past) (plain_advanced time made b.past) refl
+
 pub run_sound : (start : Cluster) → IsStart start → (whole : Bool) (moves : List Move) (c : Cluster) → Reached start whole moves c → Sound c
-run_sound start i whole moves c at_start = start_sound start i
-run_sound start i whole moves c (by_event {whole = w} {moves = ms} {c = b} made all r fits s) = step_keeps b c made all s (run_sound start i w ms b r)
-run_sound start i whole moves c (by_taking {whole = w} {moves = ms} {c = b} number out before after r is e) =
-    let s = run_sound start i w ms b r in
-    record {
-      parts = marks_sound (record b { tray = before ++ after }) (less_tray b s.parts out before after e) (mark.Taken number ∷ b.past) (plain_taken number b.past) refl;
-      none_lost = λ k. let t = tray_times k b.tray before out after e in let n = ap (λ z. one_if (is_of k z)) is in let f = s.none_lost k in omega (arith, t, n, f);
-      shelved = s.shelved;
-    }
-run_sound start i whole moves c (by_handing {whole = w} {moves = ms} {c = b} out before after r is e) =
-    let s = run_sound start i w ms b r in
-    record {
-      parts = less_tray b s.parts out before after e;
-      none_lost = λ k. let t = tray_times k b.tray before out after e in let n = ap (λ z. one_if (is_of k z)) is in let f = s.none_lost k in omega (arith, t, n, f);
-      shelved = s.shelved;
-    }
-run_sound start i whole moves c (by_settling {whole = w} {moves = ms} {c = b} pairs all r ends) =
-    let s = run_sound start i w ms b r in
-    record { parts = marks_sound b s.parts (mark.Settled pairs all ∷ b.past) (plain_settled pairs all b.past) refl; none_lost = s.none_lost; shelved = s.shelved }
-run_sound start i whole moves c (by_advancing {whole = w} {moves = ms} {c = b} time made r ends) =
-    let s = run_sound start i w ms b r in
-    record { parts = marks_sound b s.parts (mark.Advanced time made ∷ b.past) (plain_advanced time made b.past) refl; none_lost = s.none_lost; shelved = s.shelved }
+run_sound start i whole moves c r = let b = run_books i.stores start c whole moves (begun_of start i) r in record { parts = run_parts start i whole moves c r; none_lost = b.none_lost; shelved = b.shelved }
+
+pub start_sound : (c : Cluster) → IsStart c → Sound c
+start_sound c i = run_sound c i true [] c at_start
 
 -- What a mark of an answer says.
 pub record Told (w : World) (past : List Mark) (starts : List Start) (number : ℕ) (kind : Kind) : Type 0 where
@@ -151,7 +128,7 @@ told_in w starts (mark.Asked n agent asked draw ∷ past) x number kind known co
 told_in w starts (mark.Asked n agent asked draw ∷ past) x number kind known contact (inr y) =
     let t = told_in w starts past x.1 number kind known contact y in
     told_on w past starts number kind (mark.Asked n agent asked draw) (at_bool (λ b. (n == number) ≡ b → cond b (length (entered_in past)) (entries_before number past) ≡ entries_before number past) (n == number)
-    (λ _ q. absurd (let k = eq_tells n number q in let l = (was_numbered w starts past x.1 t.question t.asked).1 in let z = x.0 in let r = t.number_is in omega arith)) (λ _ _. refl) refl) t
+    (λ _ q. absurd (let k = eq_tells n number q in let l = (was_numbered past (numbered_of w starts past x.1) t.question t.asked).1 in let z = x.0 in let r = t.number_is in omega arith)) (λ _ _. refl) refl) t
 told_in w starts (mark.Made made ∷ past) x number kind known contact (inl e) = absurd (cc e)
 told_in w starts (mark.Made made ∷ past) x number kind known contact (inr y) = told_on w past starts number kind (mark.Made made) refl (told_in w starts past x number kind known contact y)
 told_in w starts (mark.Advanced ms made ∷ past) x number kind known contact (inl e) = absurd (cc e)

@@ -1,6 +1,6 @@
 -- Reaps, computed step by step.
-use Rattle.std.proofs.Common.{◌≡◌, ◌≢◌, arith, refl, Option, Some, None, inl, inr, true, false, List, [], ◌∷◌}
-use Rattle.std.specs.Prelude.{ℕ, codes}
+use Rattle.std.proofs.Common.{arith, refl, inl, true, []}
+use Rattle.std.specs.Prelude.{codes}
 use Rattle.cat_model.specs.Tables.{put}
 use Rattle.cat_model.specs.Same.{same_node, same_service, same_check, same_kv, same_session, same_query}
 use Rattle.cat_model.specs.Catalog.{same_catalog}
@@ -11,13 +11,9 @@ use Rattle.cat_model.specs.Indexes.{some_vanishes, touches, past_index}
 use Rattle.cat_model.specs.Identifiers.{identifier}
 use Rattle.cat_model.specs.Spelling.{number_within, id_bytes, service_bytes, check_bytes, op_bytes}
 use Rattle.cat_model.specs.Delays.{past_delay, ttl_start}
-use Rattle.cat_model.specs.Syncs.{merged, plan_of}
-use Rattle.cat_model.specs.declared.command.Command.{Command}
 use Rattle.cat_model.specs.declared.command.Command.TheVariants as command
-use Rattle.cat_model.specs.declared.request.Mode.TheVariants.{Default}
 use Rattle.cat_model.specs.declared.request.Event.TheVariants as event
-use Rattle.cat_model.specs.declared.request.Request.TheVariants.{Read, Execute, Write, Renew, Agent}
-use Rattle.cat_model.specs.declared.request.Asked.{Asked}
+use Rattle.cat_model.specs.declared.request.Request.TheVariants.{Write}
 use Rattle.cat_model.specs.declared.request.Asked.TheVariants.{Good}
 use Rattle.raft_model.specs.Rules.{Timeout, Propose, done, does, timed_out, candidate, leads, proposes}
 use Rattle.raft_model.specs.Runs.{fresh, given}
@@ -25,12 +21,10 @@ use Rattle.cluster_rules.specs.Replies.{entered, shown}
 use Rattle.cluster_rules.specs.Cluster.{Cluster, started}
 use Rattle.cluster_rules.specs.Due.{did}
 use Rattle.cluster_rules.specs.Requests.{moved}
-use Rattle.cluster_rules.specs.Proposals.{none_left, enters, refuses, idles, in_turn, with_ends, looked, over_rows, adopted, agent_did, synced, plans}
-use Rattle.cluster_rules.specs.Step.{marked, shelved, ClusterStep}
+use Rattle.cluster_rules.specs.Proposals.{none_left, enters, in_turn, with_ends, looked}
+use Rattle.cluster_rules.specs.Step.{marked, ClusterStep}
 use Rattle.cluster_rules.specs.Reached.{at_start, by_event}
-use Rattle.cluster_rules.proofs.Playing.{made_up, plain_acts, after_act, input_step, times_out, after_write, writes, after_delay, is_delayed, after_look, looks, after_renewal, is_renewed, ticked_world, ticks_on, GoesOn, at_on, given_on, after_on, seated_on, acts_on, look_on, agent_on, marked_on, begun, restarts_at, restarted_on, wrote, next_question, stays_on, syncs_on}
-use Rattle.raft_model.specs.Runs.{server}
-use Rattle.std.specs.Prelude.{take}
+use Rattle.cluster_rules.proofs.Playing.{after_act, input_step, times_out, after_write, writes, ticked_world, ticks_on, GoesOn, at_on, given_on, after_on, seated_on, acts_on, wrote, next_question}
 use Rattle.cluster_rules.specs.SessionRuns.{ReapRun, set_x, draw_of}
 
 s0 : Cluster

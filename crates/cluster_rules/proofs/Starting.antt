@@ -1,10 +1,11 @@
--- Servers with empty stores are a start.
-use Rattle.std.proofs.Common.{◌≡◌, ℕ, zero, suc, ◌<◌, ◌≤◌, inl, inr, length, replicate, refl, sym, ap, subst, arith, None}
+-- Beginnings. Servers with empty stores are a start, and so are those with stores such as an earlier run left.
+use Rattle.std.proofs.Common.{◌≡◌, ℕ, zero, suc, ◌<◌, ◌≤◌, inl, inr, List, [], ◌∷◌, length, replicate, refl, sym, ◌∙◌, ap, subst, arith, None}
 use Rattle.std.proofs.lemmas.List.{length-replicate}
+use Rattle.raft_model.specs.Node.{Node, Store}
 use Rattle.raft_model.specs.Runs.{empty_store, fresh, fresh_nodes}
 use Rattle.raft_model.specs.World.{AreEmpty, StartAll, nothing_kept}
-use Rattle.cluster_rules.specs.Cluster.{started}
-use Rattle.cluster_rules.specs.Reached.{AreUnarmed, IsStart}
+use Rattle.cluster_rules.specs.Cluster.{Cluster, no_server, started}
+use Rattle.cluster_rules.specs.Reached.{AreUnarmed, IsBegun, IsStart, MayBegin}
 
 empty_stores : (n : ℕ) → AreEmpty (replicate n empty_store)
 empty_stores zero = tt
@@ -41,3 +42,19 @@ fresh_start servers agents some few under =
       kept = inl (empty_stores servers);
       is = refl;
     }
+
+pub begun_of : (c : Cluster) (s : IsStart c) → IsBegun s.stores c
+begun_of c s = record { world = s.world; agents = s.agents; some = s.some; few = s.few; unarmed = s.unarmed; begins = s.begins; is = s.is }
+
+pub kept_start : (stores : List Store) (c : Cluster) → IsBegun stores c → MayBegin stores → IsStart c
+kept_start stores c s kept = record { stores = stores; world = s.world; agents = s.agents; some = s.some; few = s.few; unarmed = s.unarmed; begins = s.begins; kept = kept; is = s.is }
+
+-- a server for each store
+node_each : (servers id : ℕ) (stores : List Store) (nodes : List Node) → StartAll servers id stores nodes → length nodes ≡ length stores
+node_each servers id [] [] s = refl
+node_each servers id [] (n ∷ nodes) s = absurd s
+node_each servers id (x ∷ stores) [] s = absurd s
+node_each servers id (x ∷ stores) (n ∷ nodes) s = ap suc (node_each servers (suc id) stores nodes s.1)
+
+pub begun_servers : (stores : List Store) (c : Cluster) → IsBegun stores c → length c.servers ≡ length stores
+begun_servers stores c s = ap (λ (z : Cluster). length z.servers) s.is ∙ length-replicate (length s.world.nodes) no_server ∙ node_each (length stores) 1 stores s.world.nodes s.begins.nodes

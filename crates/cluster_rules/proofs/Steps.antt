@@ -1,5 +1,5 @@
 -- Each step of the cluster keeps it sound at work.
-use Rattle.std.proofs.Common.{◌≡◌, ℕ, suc, ◌<◌, ◌≤◌, inl, inr, Bool, cond, List, [], ◌∷◌, length, take, refl, sym, ◌∙◌, ap, subst, arith, true, false, Option, Some, None}
+use Rattle.std.proofs.Common.{◌≡◌, ℕ, suc, ◌≤◌, inl, Bool, cond, List, [], ◌∷◌, length, take, refl, sym, ◌∙◌, ap, subst, arith, true, false, Option, Some, None}
 use Rattle.std.specs.Prelude.{◌==◌, nat_lt}
 use Rattle.std.proofs.lemmas.List.{take_all}
 use Rattle.cat_model.specs.declared.command.Command.{Command}
@@ -17,18 +17,20 @@ use Rattle.cat_model.specs.declared.reply.Mark.TheVariants as mark
 use Rattle.raft_model.specs.World.{World, Drops, Ticks, Arms, Proposes, step as world_step}
 use Rattle.raft_model.proofs.Tests.{at_bool, eq_tells, lt_tells_not}
 use Rattle.cluster_rules.specs.Replies.{Question, came}
-use Rattle.cluster_rules.specs.Cluster.{Pending, Start, Cluster, node_of, applied_of, clock_of, agent_of, with_office, took_office, seated}
+use Rattle.cluster_rules.specs.Cluster.{Cluster, node_of, applied_of, clock_of, agent_of, with_office, took_office, seated}
 use Rattle.agent_rules.specs.Agents.{Agent, change, unknown}
 use Rattle.cluster_rules.specs.Lasting.{IsAgents, IsRefused, LastsFor}
 use Rattle.office_rules.specs.Offices.{office_from}
 use Rattle.cluster_rules.specs.Proposals.{Proposals, none_left, breaks, enters, refuses, over_rows, with_ends, Tends, idles, in_turn, cut_off, kind_told, with_change, told, agent_did, Syncs, finds_none, plans, breaks_off, cut_first, did_own}
-use Rattle.cluster_rules.specs.Due.{Work, Replies, Holds, Closes, Applies, or_work, first_work, early_work, next_work, due, did, Works, none, work}
+use Rattle.cluster_rules.specs.Due.{Work, Applies, or_work, first_work, early_work, next_work, due, Works, work}
 use Rattle.cluster_rules.specs.Requests.{asked_server, halted_now, moved}
 use Rattle.cluster_rules.specs.Step.{events_in, Acts, takes, ticks, arms, restarts, handles, tends, syncs, Does, over, act, cut, cut_between, Passes, loses, replies, stays, leaderless, noted, marked, shelved, ClusterStep, done, passed, cut_early}
-use Rattle.cluster_rules.specs.Sound.{IsAmong, IsOpen, asked_in, entered_in, entries_before, RestartedAt, StartIsSound, PendingIsSound, PastIsSound, OutIsSound, IsSoundAtWork}
+use Rattle.cluster_rules.specs.Sound.{IsAmong, entered_in, entries_before, RestartedAt, StartIsSound, PendingIsSound, OutIsSound, IsSoundAtWork}
 use Rattle.cluster_rules.proofs.Asking.{AskIsNew, works_new, now_refused}
 use Rattle.cluster_rules.proofs.Boundary.{acts_rise, acts_greatest, input_is}
-use Rattle.cluster_rules.proofs.Due.{was_numbered, works_sound}
+use Rattle.cluster_rules.proofs.Due.{works_sound}
+use Rattle.cluster_rules.proofs.Numbered.{numbered_of, was_numbered}
+use Rattle.cluster_rules.proofs.Booking.{booked_at_work, just_asked, works_events}
 use Rattle.cluster_rules.proofs.Grows.{goes_by, goes_nowhere}
 use Rattle.cluster_rules.proofs.Handling.{handles_sound, refused_sound}
 use Rattle.cluster_rules.proofs.Later.{Later, pending_later, start_later, out_later, later_mark}
@@ -67,8 +69,8 @@ change_sound c s a (Some g) = agents_sound c s (set_server c.agents a g)
 
 told_right : (c : Cluster) (q : Question) (op : AgentOp) (g : Option Agent) → q.asked ≡ Good (OfAgent op) → AskIsNew c q → IsRight (with_change q.agent g c) [] q (kind_told q.agent op g)
 unfolding LastsFor
-told_right c q op None ask a = record { asked = a.was; open_ = a.open_; lasts = subst (λ z. IsRefused z (refusal.NotFound (unknown op))) (sym ask) tt; fresh = tt; rests = tt }
-told_right c q op (Some g) ask a = record { asked = a.was; open_ = a.open_; lasts = subst IsAgents (sym ask) tt; fresh = tt; rests = tt }
+told_right c q op None ask a = record { asked = a.now.was; open_ = a.now.open_; lasts = subst (λ z. IsRefused z (refusal.NotFound (unknown op))) (sym ask) tt; fresh = tt; rests = tt }
+told_right c q op (Some g) ask a = record { asked = a.now.was; open_ = a.now.open_; lasts = subst IsAgents (sym ask) tt; fresh = tt; rests = tt }
 
 told_sound : (c : Cluster) → IsSoundAtWork c → (q : Question) (op : AgentOp) (g : Option Agent) → q.asked ≡ Good (OfAgent op) → AskIsNew c q → IsSoundAtWork (told q op g c)
 told_sound c s q op g ask a = answered_sound (with_change q.agent g c) (change_sound c s q.agent g) q (kind_told q.agent op g) false 0 [] refl (told_right c q op g ask a)
@@ -109,23 +111,11 @@ passes_sound c s made f c' (replies agent asked draw why is goes e) = subst IsSo
     (let q : Question = record { number = c.asked; agent = agent; asked = asked; draw = draw } in
     let a = f.asked agent asked draw is in
     let r = now_refused c.world s.world (asked_server (length c.servers) agent) q asked why goes in
-    refused_sound c s q why a.was a.open_ r.0 (r.1 c.world c.starts refl))
+    refused_sound c s q why a.now.was a.now.open_ r.0 (r.1 c.world c.starts refl))
 passes_sound c s made f c' (stays own free e) = subst IsSoundAtWork (sym e) (agent_sound c s made f)
 passes_sound c s made f c' (leaderless a why own is goes e) = subst IsSoundAtWork (sym e) (synced_sound (agent_did made c) (agent_sound c s made f) a None)
 
 -- The mark of an event.
-open_new : (w : World) (starts : List Start) (past : List Mark) → PastIsSound w starts past → (n : ℕ) → asked_in past < n → IsOpen n past
-open_new w starts [] x n l = tt
-open_new w starts (mark.Asked number agent asked draw ∷ past) x n l = open_new w starts past x.1 n (omega arith)
-open_new w starts (mark.Made event ∷ past) x n l = open_new w starts past x n l
-open_new w starts (mark.Advanced ms made ∷ past) x n l = open_new w starts past x n l
-open_new w starts (mark.Settled pairs whole ∷ past) x n l = open_new w starts past x n l
-open_new w starts (mark.Halted server ∷ past) x n l = open_new w starts past x n l
-open_new w starts (mark.Entry entry ∷ past) x n l = open_new w starts past x n l
-open_new w starts (mark.Answered number kind known contact ∷ past) x n l =
-    (λ e. let a = x.0 in let k = (was_numbered w starts past x.1 a.question a.asked).1 in let z = a.number_is in omega arith, open_new w starts past x.1 n l)
-open_new w starts (mark.Taken number ∷ past) x n l = open_new w starts past x n l
-
 pub noted_sound : (c : Cluster) → IsSoundAtWork c → (made : Event) → IsSoundAtWork (noted made c)
 noted_sound c s made =
     turned c s c.world s.world (goes_nowhere c.world) (mark.Made made ∷ c.past) (plain_made made c.past) s.counts.entries s.counts.proposed
@@ -153,17 +143,13 @@ asks_sound c s agent asked draw = record {
 
     before : (q : Question) → IsAmong (came q) c.past → entries_before q.number (mark.Asked (suc c.asked) agent asked draw ∷ c.past) ≡ entries_before q.number c.past
     before q m = at_bool (λ b. (suc c.asked == q.number) ≡ b → cond b (length (entered_in c.past)) (entries_before q.number c.past) ≡ entries_before q.number c.past) (suc c.asked == q.number)
-        (λ _ e. absurd (let k = eq_tells (suc c.asked) q.number e in let l = (was_numbered c.world c.starts c.past s.marks q m).1 in let z = s.counts.asked_is in omega arith))
+        (λ _ e. absurd (let k = eq_tells (suc c.asked) q.number e in let l = (was_numbered c.past (numbered_of c.world c.starts c.past s.marks) q m).1 in let z = s.counts.asked_is in omega arith))
         (λ _ _. refl) refl
 
 asks_new : (c : Cluster) → IsSoundAtWork c → (agent : ℕ) (asked : Asked) (draw : Draw) → AskIsNew (marked (event.Ask agent asked draw) c) (record { number = suc c.asked; agent = agent; asked = asked; draw = draw })
 asks_new c s agent asked draw = record {
-  was = inl refl;
-  open_ = open_new c.world c.starts c.past s.marks (suc c.asked) (let z = s.counts.asked_is in omega arith);
-  above = each_map (PendingIsSound c.servers c.past c.starts) (λ (h : Pending). h.question.number < suc c.asked)
-      (λ h x. let l = (was_numbered c.world c.starts c.past s.marks h.question x.asked).1 in let z = s.counts.asked_is in omega arith) c.held s.held;
+  now = just_asked c (booked_at_work c s) agent asked draw;
   before = ap (λ b. cond b (length (entered_in c.past)) (entries_before (suc c.asked) c.past)) (eq_self (suc c.asked)) ∙ ap length s.counts.entries;
-  number = refl;
   numbers = let k = s.counts.proposed in omega arith;
 }
 
@@ -180,17 +166,6 @@ marked_sound c s (event.Sync a) = noted_sound c s (event.Sync a)
 marked_sound c s (event.AgentTick a ms) = noted_sound c s (event.AgentTick a ms)
 
 -- Making up leaves the facts of the event as they are.
-did_restarted : (c : Cluster) (j i : ℕ) (w : Work) → RestartedAt (events_in c.past) i c.past → RestartedAt (events_in (did j w c).past) i (did j w c).past
-unfolding did
-did_restarted c j i (Replies q kind) x = inr x
-did_restarted c j i (Holds h) x = x
-did_restarted c j i (Closes number event) x = x
-did_restarted c j i Applies x = x
-
-works_events : (j : ℕ) (c c' : Cluster) → Works j c c' → (i : ℕ) → RestartedAt (events_in c.past) i c.past → RestartedAt (events_in c'.past) i c'.past
-works_events j c c' none i x = x
-works_events j c c' (work w e more) i x = works_events j (did j w c) c' more i (did_restarted c j i w x)
-
 pub facts_marked : (c : Cluster) → IsSoundAtWork c → (made : Event) → Facts (marked made c) made
 facts_marked c s made = record {
   asked = λ agent asked draw e. subst (λ (z : Event). AskIsNew (marked z c) (record { number = (marked z c).asked; agent = agent; asked = asked; draw = draw })) (sym e) (asks_new c s agent asked draw);
@@ -200,7 +175,7 @@ facts_marked c s made = record {
 pub facts_worked : (j : ℕ) (c c' : Cluster) (made : Event) → Works j c c' → Facts c made → Facts c' made
 facts_worked j c c' made works f = record {
   asked = λ agent asked draw e. let a = works_new j c c' works (record { number = c.asked; agent = agent; asked = asked; draw = draw }) (f.asked agent asked draw e) in
-      subst (λ z. AskIsNew c' (record { number = z; agent = agent; asked = asked; draw = draw })) a.number a;
+      subst (λ z. AskIsNew c' (record { number = z; agent = agent; asked = asked; draw = draw })) a.now.number a;
   restarted = λ i e. works_events j c c' works i (f.restarted i e);
 }
 

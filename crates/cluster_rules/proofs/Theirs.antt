@@ -1,17 +1,18 @@
 -- Replies that wait in the tray, and requests that are gone.
-use Rattle.std.proofs.Common.{◌≡◌, ◌≢◌, ℕ, zero, suc, ◌+◌, ◌<◌, ◌≤◌, ◌-◌, ◌⊎◌, inl, inr, ⊎_elim, Bool, true, false, cond, List, [], ◌∷◌, ◌++◌, length, take, drop, refl, sym, ◌∙◌, ap, subst, arith, Option, Some, None}
+use Rattle.std.proofs.Common.{◌≡◌, ◌≢◌, ℕ, ◌<◌, ◌≤◌, ◌⊎◌, inl, inr, Bool, true, false, List, [], ◌∷◌, ◌++◌, refl, sym, ◌∙◌, ap, subst, arith, Option, Some, None}
 use Rattle.std.specs.Prelude.{◌==◌, nat_lt, nat_le, ◌&&◌}
 use Rattle.std.specs.List.{AllByRecursion as Each}
 use Rattle.std.proofs.lemmas.Bool.Decides.{nat_tests}
 use Rattle.cat_model.specs.declared.reply.Mark.{Mark}
 use Rattle.cat_model.specs.declared.reply.Mark.TheVariants as mark
-use Rattle.raft_model.specs.World.{World}
 use Rattle.cluster_rules.specs.Lasting.{Lasting}
-use Rattle.cluster_rules.specs.Replies.{Out, Question, Replied, Closed, Synced, Reply, came, number_of, reply_of}
-use Rattle.cluster_rules.specs.Cluster.{Cluster, Pending, Start}
-use Rattle.cluster_rules.specs.Sound.{IsAmong, OutIsSound, PastIsSound, Sound, asked_in, found, held_times, is_of, one_if, out_times, taken_times}
+use Rattle.cluster_rules.specs.Replies.{Out, Question, Replied, Reply, came, number_of, reply_of}
+use Rattle.cluster_rules.specs.Cluster.{Cluster, Pending}
+use Rattle.cluster_rules.specs.Sound.{IsAmong, OutIsSound, Sound, held_times, is_of, one_if, out_times, taken_times}
 use Rattle.cluster_rules.specs.Past.{Among, HasNoOut, IsNotHeld, asked_of, taken_of}
-use Rattle.cluster_rules.proofs.Numbers.{asked_low, asked_once}
+use Rattle.cluster_rules.specs.Booked.{Booked, IsNumbered, OutIsBooked}
+use Rattle.cluster_rules.proofs.Numbered.{numbered_of}
+use Rattle.cluster_rules.proofs.Numbers.{asked_low}
 
 came_asked : (q : Question) (past : List Mark) → IsAmong (came q) past → Among q.number (asked_of past)
 came_asked q [] a = absurd a
@@ -34,35 +35,35 @@ unfolding question_of
 same_mark q r e = ap (λ (m : Mark). question_of m q) e
 
 -- of one number there is one request
-same_question : (w : World) (starts : List Start) (past : List Mark) → PastIsSound w starts past → (q r : Question) → IsAmong (came q) past → IsAmong (came r) past → q.number ≡ r.number → q ≡ r
-same_question w starts [] s q r a b e = absurd a
-same_question w starts (mark.Asked number agent asked draw ∷ past) s q r (inl x) (inl y) e = same_mark q r (x ∙ sym y)
-same_question w starts (mark.Asked number agent asked draw ∷ past) s q r (inl x) (inr b) e =
-    let l = (asked_low w starts past s.1 r.number (came_asked r past b)).1 in let f = s.0 in let n : q.number ≡ number = cc x in absurd (omega (arith, l, f, n, e))
-same_question w starts (mark.Asked number agent asked draw ∷ past) s q r (inr a) (inl y) e =
-    let l = (asked_low w starts past s.1 q.number (came_asked q past a)).1 in let f = s.0 in let n : r.number ≡ number = cc y in absurd (omega (arith, l, f, n, e))
-same_question w starts (mark.Asked number agent asked draw ∷ past) s q r (inr a) (inr b) e = same_question w starts past s.1 q r a b e
-same_question w starts (mark.Answered number kind known contact ∷ past) s q r (inr a) (inr b) e = same_question w starts past s.1 q r a b e
-same_question w starts (mark.Answered number kind known contact ∷ past) s q r (inl x) b e = cc x
-same_question w starts (mark.Answered number kind known contact ∷ past) s q r (inr a) (inl y) e = cc y
-same_question w starts (mark.Made made ∷ past) s q r (inr a) (inr b) e = same_question w starts past s q r a b e
-same_question w starts (mark.Made made ∷ past) s q r (inl x) b e = cc x
-same_question w starts (mark.Made made ∷ past) s q r (inr a) (inl y) e = cc y
-same_question w starts (mark.Advanced ms made ∷ past) s q r (inr a) (inr b) e = same_question w starts past s q r a b e
-same_question w starts (mark.Advanced ms made ∷ past) s q r (inl x) b e = cc x
-same_question w starts (mark.Advanced ms made ∷ past) s q r (inr a) (inl y) e = cc y
-same_question w starts (mark.Settled pairs whole ∷ past) s q r (inr a) (inr b) e = same_question w starts past s q r a b e
-same_question w starts (mark.Settled pairs whole ∷ past) s q r (inl x) b e = cc x
-same_question w starts (mark.Settled pairs whole ∷ past) s q r (inr a) (inl y) e = cc y
-same_question w starts (mark.Halted server ∷ past) s q r (inr a) (inr b) e = same_question w starts past s q r a b e
-same_question w starts (mark.Halted server ∷ past) s q r (inl x) b e = cc x
-same_question w starts (mark.Halted server ∷ past) s q r (inr a) (inl y) e = cc y
-same_question w starts (mark.Entry entry ∷ past) s q r (inr a) (inr b) e = same_question w starts past s q r a b e
-same_question w starts (mark.Entry entry ∷ past) s q r (inl x) b e = cc x
-same_question w starts (mark.Entry entry ∷ past) s q r (inr a) (inl y) e = cc y
-same_question w starts (mark.Taken number ∷ past) s q r (inr a) (inr b) e = same_question w starts past s q r a b e
-same_question w starts (mark.Taken number ∷ past) s q r (inl x) b e = cc x
-same_question w starts (mark.Taken number ∷ past) s q r (inr a) (inl y) e = cc y
+same_question : (past : List Mark) → IsNumbered past → (q r : Question) → IsAmong (came q) past → IsAmong (came r) past → q.number ≡ r.number → q ≡ r
+same_question [] s q r a b e = absurd a
+same_question (mark.Asked number agent asked draw ∷ past) s q r (inl x) (inl y) e = same_mark q r (x ∙ sym y)
+same_question (mark.Asked number agent asked draw ∷ past) s q r (inl x) (inr b) e =
+    let l = (asked_low past s.1 r.number (came_asked r past b)).1 in let f = s.0 in let n : q.number ≡ number = cc x in absurd (omega (arith, l, f, n, e))
+same_question (mark.Asked number agent asked draw ∷ past) s q r (inr a) (inl y) e =
+    let l = (asked_low past s.1 q.number (came_asked q past a)).1 in let f = s.0 in let n : r.number ≡ number = cc y in absurd (omega (arith, l, f, n, e))
+same_question (mark.Asked number agent asked draw ∷ past) s q r (inr a) (inr b) e = same_question past s.1 q r a b e
+same_question (mark.Answered number kind known contact ∷ past) s q r (inr a) (inr b) e = same_question past s.1 q r a b e
+same_question (mark.Answered number kind known contact ∷ past) s q r (inl x) b e = cc x
+same_question (mark.Answered number kind known contact ∷ past) s q r (inr a) (inl y) e = cc y
+same_question (mark.Made made ∷ past) s q r (inr a) (inr b) e = same_question past s q r a b e
+same_question (mark.Made made ∷ past) s q r (inl x) b e = cc x
+same_question (mark.Made made ∷ past) s q r (inr a) (inl y) e = cc y
+same_question (mark.Advanced ms made ∷ past) s q r (inr a) (inr b) e = same_question past s q r a b e
+same_question (mark.Advanced ms made ∷ past) s q r (inl x) b e = cc x
+same_question (mark.Advanced ms made ∷ past) s q r (inr a) (inl y) e = cc y
+same_question (mark.Settled pairs whole ∷ past) s q r (inr a) (inr b) e = same_question past s q r a b e
+same_question (mark.Settled pairs whole ∷ past) s q r (inl x) b e = cc x
+same_question (mark.Settled pairs whole ∷ past) s q r (inr a) (inl y) e = cc y
+same_question (mark.Halted server ∷ past) s q r (inr a) (inr b) e = same_question past s q r a b e
+same_question (mark.Halted server ∷ past) s q r (inl x) b e = cc x
+same_question (mark.Halted server ∷ past) s q r (inr a) (inl y) e = cc y
+same_question (mark.Entry entry ∷ past) s q r (inr a) (inr b) e = same_question past s q r a b e
+same_question (mark.Entry entry ∷ past) s q r (inl x) b e = cc x
+same_question (mark.Entry entry ∷ past) s q r (inr a) (inl y) e = cc y
+same_question (mark.Taken number ∷ past) s q r (inr a) (inr b) e = same_question past s q r a b e
+same_question (mark.Taken number ∷ past) s q r (inl x) b e = cc x
+same_question (mark.Taken number ∷ past) s q r (inr a) (inl y) e = cc y
 
 each_at : {A : Type 0} → (P : A → Type 0) (xs ys : List A) (y : A) → Each P (xs ++ y ∷ ys) → P y
 each_at P [] ys y e = e.0
@@ -75,9 +76,13 @@ theirs c s before after r e =
       o.marked,
       λ q a n.
           let number : r.number ≡ o.question.number = ap (λ (z : Reply). z.number) o.is in
-          let same : o.question ≡ q = same_question c.world c.starts c.past s.parts.marks o.question q o.asked a (sym number ∙ sym n) in
+          let same : o.question ≡ q = same_question c.past (numbered_of c.world c.starts c.past s.parts.marks) o.question q o.asked a (sym number ∙ sym n) in
           subst (λ (z : Question). (r ≡ reply_of z r.kind r.known r.contact c.world.agreed) × Lasting z r.kind c.world.agreed) same (o.is, o.lasts),
     )
+
+-- a reply in the tray was asked, and is that of its mark, whatever the stores held
+pub replied : (c : Cluster) → Booked c → (before after : List Out) (r : Reply) → c.tray ≡ before ++ Replied r ∷ after → OutIsBooked c.past (Replied r)
+replied c s before after r e = each_at (OutIsBooked c.past) before after (Replied r) (subst (Each (OutIsBooked c.past)) e s.parts.tray)
 
 -- what is nowhere else was taken
 no_outs : (n : ℕ) (outs : List Out) → HasNoOut n outs → out_times n outs ≡ 0
@@ -118,10 +123,11 @@ times_taken n (mark.Entry entry ∷ past) l = times_taken n past l
 within_one : (n asked : ℕ) → 0 < n → n ≤ asked → one_if (nat_lt 0 n && nat_le n asked) ≡ 1
 within_one n asked l k = let t : (nat_lt 0 n && nat_le n asked) ≡ true = grind (arith, nat_tests, l, k) in ap one_if t
 
-pub gone_taken : (c : Cluster) → Sound c → (n : ℕ) → HasNoOut n c.tray → IsNotHeld n c.held → Among n (asked_of c.past) → Among n (taken_of c.past)
+-- whatever the stores held
+pub gone_taken : (c : Cluster) → Booked c → (n : ℕ) → HasNoOut n c.tray → IsNotHeld n c.held → Among n (asked_of c.past) → Among n (taken_of c.past)
 gone_taken c s n o h a =
-    let low = asked_low c.world c.starts c.past s.parts.marks n a in
-    let e = s.parts.counts.asked_is in
+    let low = asked_low c.past s.parts.marks n a in
+    let e = s.parts.asked_is in
     let whole = s.none_lost n in
     let one = within_one n c.asked low.0 (omega (arith, low.1, e)) in
     let held = not_held n c.held h in

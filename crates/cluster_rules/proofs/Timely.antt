@@ -16,6 +16,7 @@ use Rattle.cat_model.specs.declared.row.SessionRow.{SessionRow}
 use Rattle.raft_model.specs.Log.{entry_at}
 use Rattle.raft_model.specs.Node.{set_server, of_server}
 use Rattle.raft_model.specs.Rules.{Input}
+use Rattle.raft_model.specs.Node.{Store}
 use Rattle.raft_model.specs.World.{World, Acts as NodeActs}
 use Rattle.raft_model.proofs.Tests.{at_bool}
 use Rattle.cluster_rules.specs.Replies.{Question}
@@ -26,7 +27,7 @@ use Rattle.cluster_rules.specs.Due.{Work, Replies, Holds, Closes, Applies, appli
 use Rattle.cluster_rules.specs.Requests.{moved, session_of, Handles, unready, full, proposes, stops, delays, probes, reads, renews}
 use Rattle.cluster_rules.specs.Proposals.{Proposals, none_left, breaks, enters, refuses, over_rows, with_ends, looked, Tends, idles, in_turn, cut_off, told, agent_did, adopted, Syncs, finds_none, plans, breaks_off, cut_first, did_own}
 use Rattle.cluster_rules.specs.Step.{Acts, takes, ticks, arms, restarts, handles, tends, syncs, Does, over, act, cut, cut_between, Passes, loses, replies, stays, leaderless, noted, marked, ClusterStep, done, passed, cut_early}
-use Rattle.cluster_rules.specs.Reached.{IsStart, Move, Reached, at_start, by_event, by_taking, by_handing, by_settling, by_advancing}
+use Rattle.cluster_rules.specs.Reached.{IsBegun, Move, Reached, at_start, by_event, by_taking, by_handing, by_settling, by_advancing}
 use Rattle.office_rules.specs.Leases.{IsTimely}
 use Rattle.cluster_rules.specs.Timely.{AreTimely}
 use Rattle.cluster_rules.proofs.Tools.{at_item, each_map, each_append}
@@ -179,10 +180,10 @@ started_timely : (w : World) (agents : ℕ) → AreTimely (started w agents)
 started_timely w agents i = subst (λ (s : Server). IsTimely (clock_of w i) s.clocks s.office) (sym (fresh_server (length w.nodes) i)) (new_timely (clock_of w i))
 
 -- In every run.
-pub run_timely : (start : Cluster) → IsStart start → (whole : Bool) (moves : List Move) (c : Cluster) → Reached start whole moves c → AreTimely c
-run_timely start i whole moves c at_start = subst AreTimely (sym i.is) (started_timely i.world i.agents)
-run_timely start i whole moves c (by_event {whole = w} {moves = ms} {c = b} made all r fits s) = step_timely b c made all s (run_timely start i w ms b r)
-run_timely start i whole moves c (by_taking {whole = w} {moves = ms} {c = b} number out before after r is e) = run_timely start i w ms b r
-run_timely start i whole moves c (by_handing {whole = w} {moves = ms} {c = b} out before after r is e) = run_timely start i w ms b r
-run_timely start i whole moves c (by_settling {whole = w} {moves = ms} {c = b} pairs all r ends) = run_timely start i w ms b r
-run_timely start i whole moves c (by_advancing {whole = w} {moves = ms} {c = b} time made r ends) = run_timely start i w ms b r
+pub run_timely : (stores : List Store) (start : Cluster) → IsBegun stores start → (whole : Bool) (moves : List Move) (c : Cluster) → Reached start whole moves c → AreTimely c
+run_timely stores start i whole moves c at_start = subst AreTimely (sym i.is) (started_timely i.world i.agents)
+run_timely stores start i whole moves c (by_event {whole = w} {moves = ms} {c = b} made all r fits s) = step_timely b c made all s (run_timely stores start i w ms b r)
+run_timely stores start i whole moves c (by_taking {whole = w} {moves = ms} {c = b} number out before after r is e) = run_timely stores start i w ms b r
+run_timely stores start i whole moves c (by_handing {whole = w} {moves = ms} {c = b} out before after r is e) = run_timely stores start i w ms b r
+run_timely stores start i whole moves c (by_settling {whole = w} {moves = ms} {c = b} pairs all r ends) = run_timely stores start i w ms b r
+run_timely stores start i whole moves c (by_advancing {whole = w} {moves = ms} {c = b} time made r ends) = run_timely stores start i w ms b r

@@ -110,7 +110,7 @@ told_same j c q op (Some g) above = same_on j c (with_agent q.agent g c) _ (same
 
 agent_same : (j : ℕ) (c : Cluster) (made : Event) → Facts c made → SameAt j c (agent_did made c)
 agent_same j c (event.AgentTick a ms) f = record { node = refl; applied = refl; clock = refl; waits_same = refl; held = all_there j c.held }
-agent_same j c (event.Ask a (Good (OfAgent op)) draw) f = told_same j c (record { number = c.asked; agent = a; asked = Good (OfAgent op); draw = draw }) op (change a op (agent_of c a)) (f.asked a (Good (OfAgent op)) draw refl).above
+agent_same j c (event.Ask a (Good (OfAgent op)) draw) f = told_same j c (record { number = c.asked; agent = a; asked = Good (OfAgent op); draw = draw }) op (change a op (agent_of c a)) (f.asked a (Good (OfAgent op)) draw refl).now.above
 agent_same j c other f = same_itself j c
 
 synced_same : (j : ℕ) (a : ℕ) (count : Option ℕ) (c : Cluster) → SameAt j c (synced a count c)
@@ -126,18 +126,18 @@ syncs_other j i d a own c c' whole (breaks_off n some r p) = same_on j c (adopte
 syncs_other j i d a own c c' whole (cut_first mine r e) = subst (SameAt j c) (sym e) (same_itself j c)
 
 handles_other : (j i : ℕ) → j ≢ i → (c : Cluster) (q : Question) → AskIsNew c q → (c' : Cluster) → Handles c i q c' → SameAt j c c'
-handles_other j i d c q a c' (unready st r e) = subst (SameAt j c) (sym e) (answered_same j q _ [] c a.above)
+handles_other j i d c q a c' (unready st r e) = subst (SameAt j c) (sym e) (answered_same j q _ [] c a.now.above)
 handles_other j i d c q a c' (full command w' ask free go room b e) = subst (SameAt j c) (sym e)
-    (let n = acts_node j i d c.world _ w' b in same_on j c (moved i w' c) _ (moved_other j i (halted_now c.world w' i) w' c n.0 n.1) (answered_same j q _ [] (moved i w' c) a.above))
+    (let n = acts_node j i d c.world _ w' b in same_on j c (moved i w' c) _ (moved_other j i (halted_now c.world w' i) w' c n.0 n.1) (answered_same j q _ [] (moved i w' c) a.now.above))
 handles_other j i d c q a c' (proposes command w' ask free go room b up e) = subst (SameAt j c) (sym e)
     (let n = acts_node j i d c.world _ w' b in same_on j c (moved i w' c) _ (moved_other j i (halted_now c.world w' i) w' c n.0 n.1) (holding_other j i d q _ _ (moved i w' c)))
 handles_other j i d c q a c' (stops command w' ask free go room b down e) = subst (SameAt j c) (sym e)
-    (let n = acts_node j i d c.world _ w' b in same_on j c (moved i w' c) _ (moved_other j i (halted_now c.world w' i) w' c n.0 n.1) (answered_same j q _ [] (moved i w' c) a.above))
-handles_other j i d c q a c' (delays command key ask go k e) = subst (SameAt j c) (sym e) (answered_same j q _ [] c a.above)
+    (let n = acts_node j i d c.world _ w' b in same_on j c (moved i w' c) _ (moved_other j i (halted_now c.world w' i) w' c n.0 n.1) (answered_same j q _ [] (moved i w' c) a.now.above))
+handles_other j i d c q a c' (delays command key ask go k e) = subst (SameAt j c) (sym e) (answered_same j q _ [] c a.now.above)
 handles_other j i d c q a c' (renews id ask go e) = subst (SameAt j c) (sym e)
     (let o = renew_in (session_of c i id) (clock_of c.world i) (office_of c i) in
     let b : Cluster = with_office i o (record c { starts = Looked q.number i (length (applied_of c i)) ∷ c.starts }) in
-    same_on j c b _ (record { node = refl; applied = ap (λ z. z.applied) (item_other no_server c.servers i j _ d); clock = refl; waits_same = refl; held = all_there j c.held }) (answered_same j q _ (applied_of c i) b a.above))
+    same_on j c b _ (record { node = refl; applied = ap (λ z. z.applied) (item_other no_server c.servers i j _ d); clock = refl; waits_same = refl; held = all_there j c.held }) (answered_same j q _ (applied_of c i) b a.now.above))
 handles_other j i d c q a c' (probes wait w' look go b e) = subst (SameAt j c) (sym e)
     (let n = acts_node j i d c.world _ w' b in same_on j c (moved i w' c) _ (moved_other j i (halted_now c.world w' i) w' c n.0 n.1) (holding_other j i d q _ _ (moved i w' c)))
 handles_other j i d c q a c' (reads mode wait look k go e) = subst (SameAt j c) (sym e) (holding_other j i d q _ _ c)
@@ -202,7 +202,7 @@ marked_behind (event.AgentTick a ms) c b = λ j. b j
 
 passes_other : (j : ℕ) (c : Cluster) (made : Event) → Facts c made → (c' : Cluster) → Passes c made c' → SameAt j c c'
 passes_other j c made f c' (loses k w' is (p, n, w) e) = subst (SameAt j c) (sym e) (record { node = ap (λ (z : World). node_of z j) w; applied = refl; clock = ap (λ (z : World). clock_of z j) w; waits_same = refl; held = all_there j c.held })
-passes_other j c made f c' (replies agent asked draw why is goes e) = subst (SameAt j c) (sym e) (answered_same j _ _ [] c (f.asked agent asked draw is).above)
+passes_other j c made f c' (replies agent asked draw why is goes e) = subst (SameAt j c) (sym e) (answered_same j _ _ [] c (f.asked agent asked draw is).now.above)
 passes_other j c made f c' (stays own free e) = subst (SameAt j c) (sym e) (agent_same j c made f)
 passes_other j c made f c' (leaderless a why own is goes e) = subst (SameAt j c) (sym e) (same_on j c (agent_did made c) _ (agent_same j c made f) (synced_same j a None (agent_did made c)))
 

@@ -20,7 +20,7 @@ use Rattle.cluster_rules.specs.Lasting.{Lasting}
 use Rattle.cluster_rules.specs.Cluster.{Server, Pending, Cluster, no_server, node_of, server_of, applied_of, clock_of, with_office}
 use Rattle.cluster_rules.specs.Due.{Work, Replies, Holds, Closes, Applies, without, with_held, put_out, is_before, answered, applies_entry, applies, did}
 use Rattle.cluster_rules.specs.Sound.{IsAmong, IsOpen, IsFreshKind, RestsOn, StartIsSound, PendingIsSound, OutIsSound, Ascends, ServerIsSound, IsSoundAtWork}
-use Rattle.cluster_rules.proofs.Tools.{eq_tells_not, at_item, length_set_server, there_or_none, each_map}
+use Rattle.cluster_rules.proofs.Tools.{eq_tells_not, at_item, length_set_server, there_or_none, each_append, each_map}
 use Rattle.cluster_rules.proofs.Entries.{agree_entry, take_next}
 use Rattle.cluster_rules.proofs.Grows.{lasting_grows, reply_same}
 use Rattle.cluster_rules.proofs.Later.{Same, pending_later, start_later, out_later, same_past, later_nothing, later_mark}
@@ -66,6 +66,11 @@ ascends_with new (h ∷ hs) a = (
   subst (λ z. Each (λ (g : Pending). z < g.question.number) (with_held new hs)) (sym (with_number new h)) (above_with new h.question.number hs a.0),
   ascends_with new hs a.1,
 )
+
+-- one more, behind all others
+pub ascends_more : (h : Pending) (hs : List Pending) → Each (λ (g : Pending). g.question.number < h.question.number) hs → Ascends hs → Ascends (hs ++ h ∷ [])
+ascends_more h [] d a = (tt, tt)
+ascends_more h (x ∷ hs) d a = (each_append (λ (g : Pending). x.question.number < g.question.number) hs (h ∷ []) a.0 (d.0, tt), ascends_more h hs d.1 a.1)
 
 -- an answer is right
 pub record IsRight (c : Cluster) (a : Log) (q : Question) (kind : Kind) : Type 0 where

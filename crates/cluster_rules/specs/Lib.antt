@@ -7,6 +7,7 @@ pub mod Proposals
 pub mod Step
 pub mod Reached
 pub mod Sound
+pub mod Booked
 pub mod Legal
 pub mod Past
 pub mod Guards

@@ -45,6 +45,20 @@ abbrev pub AreSure : List Store → Type 0
 AreSure [] = Unit {0}
 AreSure (s ∷ ss) = (s.sure ≡ true) × AreSure ss
 
+-- The stores are empty, or hold what those of an earlier run of as many servers held.
+abbrev pub MayBegin : List Store → Type 0
+MayBegin stores = AreEmpty stores ⊎ ((earlier : World) × IsReached earlier × HoldAll stores earlier.nodes)
+
+-- A beginning of 1 to 7 servers and up to 64 agents over these stores, whatever they hold; none of them is to fail.
+pub record IsBegun (stores : List Store) (c : Cluster) : Type 0 where
+  pub world : World
+  pub agents : ℕ
+  pub some : (0 < length stores) × (length stores ≤ 7)
+  pub few : agents ≤ 64
+  pub unarmed : AreUnarmed stores
+  pub begins : Begins stores world
+  pub is : c ≡ started world agents
+
 -- A start of 1 to 7 servers and up to 64 agents: from empty stores, or from stores that hold what those of an earlier
 -- run of as many servers held.
 pub record IsStart (c : Cluster) : Type 0 where

@@ -2,7 +2,7 @@
 -- a function of its content (Consul, HTTP API, version 1).
 use Rattle.std.specs.Int.{w128, from_be_bytes}
 use Rattle.std.specs.Option.{option_map}
-use Rattle.std.specs.Prelude.{ℕ, ◌-◌, if◌then◌else◌, Bool, true, List, [], ◌∷◌, take, Option, Some, None}
+use Rattle.std.specs.Prelude.{ℕ, ◌-◌, if◌then◌else◌, Bool, true, List, take, Option, Some, None}
 use Rattle.cat_model.specs.declared.query.Query.{Query}
 use Rattle.cat_model.specs.declared.query.Answer.{Answer}
 use Rattle.cat_model.specs.declared.command.Command.{Command}
@@ -28,6 +28,7 @@ use Rattle.cat_model.specs.Keys.{is_empty}
 use Rattle.cat_model.specs.Log.{commands_of}
 use Rattle.cat_model.specs.Machine.{catalog_at, reply_to}
 use Rattle.cat_model.specs.Queries.{answer}
+use Rattle.raft_model.specs.Log.{entry_at}
 use Rattle.agent_rules.specs.Agents.{agent_node}
 
 -- A request with its number, the agent that was asked, and the words that were drawn for it.
@@ -61,11 +62,15 @@ pub data Content : Type 0 where
   Says : (why : Refusal) → Content
   Blank : Content
 
--- what it shows over a log: a write's answer at its position, a read's at its prefix, or the refusal
-abbrev pub shown_write : Question → Asked → ℕ → List Entry → Content
-shown_write q (Good (Write command)) position log =
-    Tells (entered q command) (reply_to (commands_of (take (position - 1) log)) (entered q command))
-shown_write q other position log = Blank
+-- the answer of the write that stands at a position of a log
+abbrev pub shown_entry : Option Entry → ℕ → List Entry → Content
+shown_entry None position log = Blank
+shown_entry (Some e) position log = Tells e.command (reply_to (commands_of (take (position - 1) log)) e.command)
+
+-- What it shows over a log: of a write the answer at its position. That its own entry stands there is a part of what lasts.
+abbrev pub shown_write : Asked → ℕ → List Entry → Content
+shown_write (Good (Write command)) position log = shown_entry (entry_at position log) position log
+shown_write other position log = Blank
 
 -- a read shows the catalog at its prefix
 abbrev pub shown_read : Asked → ℕ → List Entry → Content
@@ -89,7 +94,7 @@ shown_delay q other key = Blank
 
 -- what a reply of this kind shows over a log
 unfoldable pub shown : Question → Kind → List Entry → Content
-shown q (Acked position) log = shown_write q q.asked position log
+shown q (Acked position) log = shown_write q.asked position log
 shown q (At mode prefix index clock deadline) log = shown_read q.asked prefix log
 shown q (Seen mode prefix) log = shown_seen q.asked prefix log
 shown q (Local body) log = Holds body

@@ -1,5 +1,5 @@
 -- Small runs that compute.
-use Rattle.std.specs.Prelude.{◌≡◌, ℕ, true, false, List, [], ◌∷◌, length, Some, None, codes}
+use Rattle.std.specs.Prelude.{◌≡◌, true, false, List, [], ◌∷◌, Some, None, codes}
 use Rattle.cat_model.specs.declared.query.Query.TheVariants as query
 use Rattle.cat_model.specs.declared.query.Answer.TheVariants as answer
 use Rattle.cat_model.specs.declared.command.Command.{Command}
@@ -11,16 +11,11 @@ use Rattle.cat_model.specs.declared.request.Asked.{Asked}
 use Rattle.cat_model.specs.declared.request.Asked.TheVariants.{Good}
 use Rattle.cat_model.specs.declared.request.Draw.{Draw}
 use Rattle.cat_model.specs.declared.request.Event.TheVariants as event
-use Rattle.cat_model.specs.declared.reply.Kind.TheVariants.{Acked, At, Refused}
-use Rattle.cat_model.specs.declared.reply.Refusal.{Refusal}
-use Rattle.cat_model.specs.declared.reply.Refusal.TheVariants as refusal
-use Rattle.cat_model.specs.declared.reply.Role.TheVariants.{Follower}
-use Rattle.raft_model.specs.Rules.{noop}
+use Rattle.cat_model.specs.declared.reply.Kind.TheVariants.{Acked, At}
 use Rattle.raft_model.specs.Runs.{fresh}
-use Rattle.cluster_rules.specs.Replies.{Out, Replied, Shows, Tells, Says}
-use Rattle.cluster_rules.specs.Cluster.{Cluster, Probed, node_of, started}
+use Rattle.cluster_rules.specs.Replies.{Out, Replied, Shows, Tells}
+use Rattle.cluster_rules.specs.Cluster.{Cluster, Probed, started}
 use Rattle.cluster_rules.specs.Reached.{Move, Makes, Reached}
-use Rattle.cluster_rules.specs.Sound.{halts_in}
 
 -- the words that are drawn for each request here
 abbrev pub drawn : Draw

@@ -18,12 +18,14 @@ ghost use Rattle.cat_model.specs.declared.reply.Refusal.TheVariants.{Invalid, Lo
 ghost use Rattle.cat_model.specs.declared.reply.Role.TheVariants.{Follower};
 ghost use Rattle.cat_model.specs.declared.reply.Refusal.{Refusal};
 ghost use Rattle.raft_model.specs.Log.{Log};
+ghost use Rattle.raft_model.specs.Node.{Store};
 ghost use Rattle.raft_model.specs.Runs.{fresh};
 ghost use Rattle.raft_model.specs.World.{World, IsReached, Reaches};
 ghost use Rattle.cluster_rules.specs.Replies.{Blank, Out, Question, Replied, Reply, came, entered, reply_of, shown};
 ghost use Rattle.cluster_rules.specs.Past.{AddsEvent, AddsQuiet, Among, AreKept, AsksNothing, HasNoOut, IsNotHeld, asked_of, taken_of};
 ghost use Rattle.cluster_rules.specs.Lasting.{IsWrite, IsEntered, Lasting};
 ghost use Rattle.cluster_rules.specs.Cluster.{Cluster, Pending, Server, applied_of, node_of, server_of, started};
+ghost use Rattle.cluster_rules.specs.Booked.{Booked};
 ghost use Rattle.cluster_rules.specs.Timely.{AreTimely};
 ghost use Rattle.cluster_rules.specs.SessionRuns.{LockRun, ReapRun, TtlRun};
 ghost use Rattle.cluster_rules.specs.Due.{IsDue, Work, did, due};
@@ -31,7 +33,7 @@ ghost use Rattle.cluster_rules.specs.Left.{left};
 ghost use Rattle.cluster_rules.specs.Guards.{StepIsGuarded};
 ghost use Rattle.cluster_rules.specs.Legal.{StepIsLegal, StillWaits};
 ghost use Rattle.cluster_rules.specs.Step.{ClusterStep};
-ghost use Rattle.cluster_rules.specs.Reached.{EndInPairs, IsStart, Making, Move, Reached, Settling, moves_of, then_made};
+ghost use Rattle.cluster_rules.specs.Reached.{EndInPairs, IsBegun, IsStart, Making, MayBegin, Move, Reached, Settling, moves_of, then_made};
 ghost use Rattle.cluster_rules.specs.Runs.{ConsistentRun, FullWaitRun};
 ghost use Rattle.cluster_rules.specs.Sound.{OutIsSound, answers_in, Ascends, IsAmong, LookedBefore, NeverEnters, Sound, entered_in, entries_before, found, halts_in};
 
@@ -50,6 +52,29 @@ pub fn fresh_servers_start()
 #[tactic(auto, using(crate::proofs::Reached::run_sound))]
 pub fn runs_are_sound()
     ensures { (start : Cluster) → IsStart start → (whole : Bool) (moves : List Move) (c : Cluster) → Reached start whole moves c → Sound c }
+{}
+
+/// Servers with stores such as an earlier run of as many left are a start.
+#[tactic(auto, using(crate::proofs::Starting::kept_start))]
+pub fn kept_stores_start()
+    ensures { (stores : List Store) (c : Cluster) → IsBegun stores c → MayBegin stores → IsStart c }
+{}
+
+/// A beginning has a server for each store.
+#[tactic(auto, using(crate::proofs::Starting::begun_servers))]
+pub fn beginnings_have_their_servers()
+    ensures { (stores : List Store) (c : Cluster) → IsBegun stores c → length c.servers ≡ length stores }
+{}
+
+/// The books of each cluster of a run hold, whatever its stores held at the beginning.
+pub fn runs_are_booked()
+    ensures { (stores : List Store) (start c : Cluster) (whole : Bool) (moves : List Move) → IsBegun stores start → Reached start whole moves c → Booked c }
+{}
+
+/// A sound cluster's books hold.
+#[tactic(auto, using(crate::proofs::Booked::sound_books))]
+pub fn sound_clusters_are_booked()
+    ensures { (c : Cluster) → Sound c → Booked c }
 {}
 
 /// What an answer rests on is so of each later agreed log.
@@ -109,8 +134,8 @@ pub fn proposals_are_guarded()
 /// Each of the requests that were asked is in exactly one place: held, in an out that nobody has taken, or taken. No
 /// other number is anywhere.
 pub fn none_is_lost()
-    ensures once { (c : Cluster) → Sound c → (k : ℕ) → 0 < k → k ≤ c.asked → found k c ≡ 1 }
-    ensures none { (c : Cluster) → Sound c → (k : ℕ) → c.asked < k → found k c ≡ 0 }
+    ensures once { (c : Cluster) → Booked c → (k : ℕ) → 0 < k → k ≤ c.asked → found k c ≡ 1 }
+    ensures none { (c : Cluster) → Booked c → (k : ℕ) → c.asked < k → found k c ≡ 0 }
 {}
 
 /// A reply that nobody has taken is that of its mark, and shows what the agreed log holds. A request is closed only
@@ -121,8 +146,8 @@ pub fn outs_are_sound()
 
 /// A request is answered at most once, and not while it is held.
 pub fn requests_are_answered_once()
-    ensures once { (c : Cluster) → Sound c → (k : ℕ) → answers_in k c.past ≤ 1 }
-    ensures held { (c : Cluster) → Sound c → Each (λ (h : Pending). answers_in h.question.number c.past ≡ 0) c.held }
+    ensures once { (c : Cluster) → Booked c → (k : ℕ) → answers_in k c.past ≤ 1 }
+    ensures held { (c : Cluster) → Booked c → Each (λ (h : Pending). answers_in h.question.number c.past ≡ 0) c.held }
 {}
 
 /// A request that is one is never refused as if it were none, and one that is none gets just the refusal that it came
@@ -153,10 +178,9 @@ pub fn whole_runs_leave_none_behind()
     ensures { (start : Cluster) → IsStart start → (moves : List Move) (c : Cluster) → Reached start true moves c → (i : ℕ) → due i c ≡ None }
 {}
 
-/// The marks of a run, taken as moves, are the moves that lead from its start to its end.
-#[tactic(auto, using(crate::proofs::Marks::marks_are_moves))]
+/// The marks of a run, taken as moves, are the moves that lead from its beginning to its end, whatever its stores held.
 pub fn marks_lead()
-    ensures { (start : Cluster) → IsStart start → (whole : Bool) (moves : List Move) (c : Cluster) → Reached start whole moves c → moves_of c.past ≡ moves }
+    ensures { (stores : List Store) (start c : Cluster) (whole : Bool) (moves : List Move) → IsBegun stores start → Reached start whole moves c → moves_of c.past ≡ moves }
 {}
 
 /// Whole pairs of a delivery and the same message's loss, the message of the lowest number first, are moves of the run
@@ -172,14 +196,15 @@ pub fn advancing_makes_events()
     ensures { (start : Cluster) (whole : Bool) (events : List Event) (moves : List Move) (c c' : Cluster) → Reached start whole moves c → Making events c c' → Reached start whole (then_made events moves) c' }
 {}
 
-/// Nothing that a server noted, the clock of a position, of its taking office or of a renewal, lies ahead of its clock.
+/// Nothing that a server noted, the clock of a position, of its taking office or of a renewal, lies ahead of its clock,
+/// whatever the stores held.
 pub fn nothing_is_noted_ahead()
-    ensures { (start : Cluster) → IsStart start → (whole : Bool) (moves : List Move) (c : Cluster) → Reached start whole moves c → AreTimely c }
+    ensures { (stores : List Store) (start : Cluster) → IsBegun stores start → (whole : Bool) (moves : List Move) (c : Cluster) → Reached start whole moves c → AreTimely c }
 {}
 
-/// A server's durable store counts no fewer failures than there are marks of its halts.
+/// A server's durable store counts no fewer failures than there are marks of its halts, whatever the stores held.
 pub fn halts_are_counted()
-    ensures { (start : Cluster) → IsStart start → (whole : Bool) (moves : List Move) (c : Cluster) → Reached start whole moves c → (i : ℕ) → min (halts_in i c.past) (2 ^ 64 - 1) ≤ (node_of c.world i).store.faults }
+    ensures { (stores : List Store) (start : Cluster) → IsBegun stores start → (whole : Bool) (moves : List Move) (c : Cluster) → Reached start whole moves c → (i : ℕ) → min (halts_in i c.past) (2 ^ 64 - 1) ≤ (node_of c.world i).store.faults }
 {}
 
 /// Each server has applied a front of the agreed log, up to its commit at most, and has its clock at each position; the
@@ -239,7 +264,7 @@ pub fn steps_add_marks()
 
 /// Each number is asked at most once and answered at most once, and only what was asked is taken.
 pub fn marks_are_kept()
-    ensures { (c : Cluster) → Sound c → AreKept c.past }
+    ensures { (c : Cluster) → Booked c → AreKept c.past }
 {}
 
 /// Deliveries and losses ask and take nothing.
@@ -260,7 +285,7 @@ pub fn replies_are_theirs()
 
 /// A request that has no out and is not held was never asked, or it was taken.
 pub fn gone_were_taken()
-    ensures { (c : Cluster) → Sound c → (n : ℕ) → HasNoOut n c.tray → IsNotHeld n c.held → Among n (asked_of c.past) → Among n (taken_of c.past) }
+    ensures { (c : Cluster) → Booked c → (n : ℕ) → HasNoOut n c.tray → IsNotHeld n c.held → Among n (asked_of c.past) → Among n (taken_of c.past) }
 {}
 
 /// No reply that lasts shows nothing.

@@ -1,9 +1,8 @@
 -- The moves that marks name.
-use Rattle.std.proofs.Common.{◌≡◌, List, [], ◌∷◌, ◌++◌, ap, refl}
+use Rattle.std.proofs.Common.{◌≡◌, List, [], ◌∷◌, ◌++◌}
 use Rattle.cat_model.specs.declared.reply.Mark.{Mark}
 use Rattle.cat_model.specs.declared.reply.Mark.TheVariants as mark
-use Rattle.cluster_rules.specs.Reached.{Makes, Takes, Settles, Advances, moves_of}
-use Rattle.cat_model.specs.declared.request.Event.TheVariants as event
+use Rattle.cluster_rules.specs.Reached.{moves_of}
 
 -- marks that name no move, behind others that name none
 pub quiet_append : (xs ys : List Mark) → moves_of xs ≡ [] → moves_of ys ≡ [] → moves_of (xs ++ ys) ≡ []

@@ -1,5 +1,5 @@
 -- Whatever is done to a cluster that serves leaves it serving.
-use Rattle.std.proofs.Common.{◌≡◌, ◌≤◌, ◌⊎◌, ℕ, suc, ◌+◌, Bool, true, false, inl, inr, List, [], ◌∷◌, ◌++◌, length, refl, sym, ◌∙◌, ap, subst, append_assoc, arith, Option, Some, None}
+use Rattle.std.proofs.Common.{◌≡◌, ◌⊎◌, ℕ, suc, ◌+◌, Bool, true, false, inl, inr, List, [], ◌∷◌, ◌++◌, length, refl, sym, ◌∙◌, subst, append_assoc, arith, Some, None}
 use Rattle.std.specs.Prelude.{◌&&◌}
 use Rattle.cat_model.specs.declared.request.Asked.{Asked}
 use Rattle.cat_model.specs.declared.request.Draw.{Draw}
@@ -7,28 +7,32 @@ use Rattle.cat_model.specs.declared.request.Event.{Event}
 use Rattle.cat_model.specs.declared.request.Event.TheVariants as event
 use Rattle.cat_model.specs.declared.reply.Mark.{Mark}
 use Rattle.cat_model.specs.declared.reply.Mark.TheVariants as mark
-use Rattle.cluster_rules.specs.Replies.{Out, Closed, Replied, Synced, number_of}
+use Rattle.cluster_rules.specs.Replies.{Out, Closed, Synced, number_of}
 use Rattle.cluster_rules.specs.Cluster.{Cluster}
 use Rattle.cluster_rules.specs.Step.{ClusterStep, marked, noted}
-use Rattle.cluster_rules.specs.Reached.{Move, Makes, Takes, Settles, Advances, Fits, Reached, at_start, by_event, by_handing, by_taking, by_settling, EndInPairs, Settling, none, pair, moves_of}
-use Rattle.cluster_rules.specs.Sound.{Sound, IsAmong, OutIsSound, RestartedAt}
+use Rattle.cluster_rules.specs.Reached.{IsBegun, MayBegin, Move, Makes, Takes, Settles, Fits, at_start, by_event, by_handing, by_taking, by_settling, EndInPairs, Settling, none, pair, moves_of}
+use Rattle.cluster_rules.specs.Sound.{Sound, IsAmong, RestartedAt}
+use Rattle.cluster_rules.specs.Booked.{Booked, OutIsBooked}
 use Rattle.cluster_rules.proofs.Reached.{run_sound}
-use Rattle.cluster_rules.proofs.Marks.{marks_are_moves}
+use Rattle.cluster_rules.proofs.Booked.{run_books}
+use Rattle.cluster_rules.proofs.Marks.{begun_marks}
+use Rattle.cluster_rules.proofs.Starting.{kept_start}
 use Rattle.cluster_rules.proofs.Tools.{each_in}
-use Rattle.cluster_turns.specs.Turns.{FindsNoMemory}
 use Rattle.cluster_turns.specs.Pairs.{IsPartlySettled, IsPartOfPair, settled}
-use Rattle.script_runs.specs.Holds.{IsFirstStart}
-use Rattle.script_runs.proofs.Holding.{a_start}
 use Rattle.script_runs.specs.Plays.{of_requests}
 use Rattle.serving_rules.specs.Keeping.{Keeps}
-use Rattle.serving_rules.specs.Serving.{Size, IsSized, IsServing, AreServing, Serves}
+use Rattle.serving_rules.specs.Serving.{Size, IsServing, AreServing, Serves}
 use Rattle.serving_rules.proofs.Keeping.{step_keeps}
 
-abbrev pub begins : (size : Size) (c : Cluster) → IsFirstStart c → IsSized size c → Serves size c
-begins size c b n = record { start = c; whole = true; moves = []; begins = b; sized = n.0; reached = at_start; serving = tt; count = n.1 }
+abbrev pub begins : (size : Size) (c : Cluster) → IsBegun size.stores c → length c.agents ≡ size.agents → Serves size c
+begins size c b n = record { start = c; whole = true; moves = []; begins = b; reached = at_start; serving = tt; count = n }
 
-pub is_sound : (size : Size) (c : Cluster) → Serves size c → Sound c
-is_sound size c s = run_sound s.start (a_start s.start s.begins) s.whole s.moves c s.reached
+-- Its books hold whatever the stores held, and it is sound where they were empty or such as an earlier run left.
+pub is_booked : (size : Size) (c : Cluster) → Serves size c → Booked c
+is_booked size c s = run_books size.stores s.start c s.whole s.moves s.begins s.reached
+
+pub is_sound : (size : Size) (c : Cluster) → Serves size c → MayBegin size.stores → Sound c
+is_sound size c s kept = run_sound s.start (kept_start size.stores s.start s.begins kept) s.whole s.moves c s.reached
 
 marked_agents : (made : Event) (c : Cluster) → length (marked made c).agents ≡ length c.agents
 marked_agents (event.Ask agent asked draw) c = refl
@@ -49,13 +53,12 @@ by_move size c c' made whole s may fits step = record {
   whole = s.whole && whole;
   moves = Makes made ∷ s.moves;
   begins = s.begins;
-  sized = s.sized;
   reached = by_event made whole s.reached fits step;
   serving = (may, s.serving);
   count = agents_after c c' made whole step ∙ s.count;
 }
 
-pub elected : (size : Size) (c c' : Cluster) (whole : Bool) → IsFirstStart c → IsSized size c → Fits c (event.Timeout 1) → ClusterStep c (event.Timeout 1) c' whole → Serves size c'
+pub elected : (size : Size) (c c' : Cluster) (whole : Bool) → IsBegun size.stores c → length c.agents ≡ size.agents → Fits c (event.Timeout 1) → ClusterStep c (event.Timeout 1) c' whole → Serves size c'
 elected size c c' whole b n fits step = by_move size c c' (event.Timeout 1) whole (begins size c b n) (refl, refl) fits step
 
 pub asked_on : (size : Size) (c c' : Cluster) (agent : ℕ) (asked : Asked) (draw : Draw) (whole : Bool) → Serves size c → Fits c (event.Ask agent asked draw) → ClusterStep c (event.Ask agent asked draw) c' whole → Serves size c'
@@ -103,7 +106,6 @@ marked_pairs size n c e = record {
   whole = e.serves.whole;
   moves = Settles n true ∷ e.serves.moves;
   begins = e.serves.begins;
-  sized = e.serves.sized;
   reached = by_settling n true e.serves.reached e.pairs;
   serving = (tt, e.serves.serving);
   count = e.serves.count;
@@ -129,7 +131,6 @@ one_handed size c out before after s is there = record {
   whole = s.whole;
   moves = s.moves;
   begins = s.begins;
-  sized = s.sized;
   reached = by_handing out before after s.reached is there;
   serving = s.serving;
   count = s.count;
@@ -141,7 +142,6 @@ taken_on size number c out before after s is there = record {
   whole = s.whole;
   moves = Takes number ∷ s.moves;
   begins = s.begins;
-  sized = s.sized;
   reached = by_taking number out before after s.reached is there;
   serving = (tt, s.serving);
   count = s.count;
@@ -176,10 +176,10 @@ restarted_among number server (mark.Answered n kind known contact ∷ past) (inr
 
 -- the marks name just these moves
 pub marks_are : (size : Size) (c : Cluster) (s : Serves size c) → moves_of c.past ≡ s.moves
-marks_are size c s = marks_are_moves s.start (a_start s.start s.begins) s.whole s.moves c s.reached
+marks_are size c s = begun_marks size.stores s.start c s.whole s.moves s.begins s.reached
 
 -- so no request is closed
 pub none_closed : (size : Size) (c : Cluster) → Serves size c → (before after : List Out) (number at : ℕ) → c.tray ≡ before ++ Closed number at ∷ after → ⊥
 none_closed size c s before after number at there =
-    let o = each_in (OutIsSound c.world c.past) before after (Closed number at) c.tray there (is_sound size c s).parts.tray in
+    let o = each_in (OutIsBooked c.past) before after (Closed number at) c.tray there (is_booked size c s).parts.tray in
     none_restarts s.moves o.1.0 s.serving (subst (λ z. IsAmong (Makes (event.Restart o.1.0)) z) (marks_are size c s) (restarted_among at o.1.0 c.past o.1.1))

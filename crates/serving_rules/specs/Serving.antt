@@ -2,8 +2,8 @@
 use Rattle.std.specs.Prelude.{◌≡◌, ℕ, Bool, List, [], ◌∷◌, length}
 use Rattle.cat_model.specs.declared.request.Event.TheVariants as event
 use Rattle.cluster_rules.specs.Cluster.{Cluster}
-use Rattle.cluster_rules.specs.Reached.{Move, Makes, Takes, Settles, Reached}
-use Rattle.script_runs.specs.Holds.{IsFirstStart}
+use Rattle.raft_model.specs.Node.{Store}
+use Rattle.cluster_rules.specs.Reached.{IsBegun, Move, Makes, Takes, Settles, Reached}
 
 -- the last of these moves delivered this message
 abbrev pub Delivers : ℕ → List Move → Type 0
@@ -29,21 +29,17 @@ abbrev pub AreServing : List Move → Type 0
 AreServing [] = Unit {0}
 AreServing (m ∷ moves) = IsServing m moves × AreServing moves
 
--- how many servers and agents a cluster has
+-- the stores over which a cluster began, one a server, and how many agents it has
 pub record Size : Type 0 where
-  pub servers : ℕ
+  pub stores : List Store
   pub agents : ℕ
 
-abbrev pub IsSized : Size → Cluster → Type 0
-IsSized size c = (length c.servers ≡ size.servers) × (length c.agents ≡ size.agents)
-
--- Such moves led to it from so many servers with empty stores, and it has so many agents.
+-- Such moves led to it from a beginning over these stores, whatever they held, and it has so many agents.
 pub record Serves (size : Size) (c : Cluster) : Type 0 where
   pub start : Cluster
   pub whole : Bool
   pub moves : List Move
-  pub begins : IsFirstStart start
-  pub sized : length start.servers ≡ size.servers
+  pub begins : IsBegun size.stores start
   pub reached : Reached start whole moves c
   pub serving : AreServing moves
   pub count : length c.agents ≡ size.agents

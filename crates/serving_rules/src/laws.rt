@@ -1,23 +1,23 @@
 //! Laws of clusters that serve, each the contract of a function with an empty body.
 
-ghost use Rattle.std.specs.Prelude.{Bool, List, true, ℕ, ◌≡◌, ◌++◌, ◌∷◌, Some};
+ghost use Rattle.std.specs.Prelude.{Bool, List, true, length, ℕ, ◌≡◌, ◌++◌, ◌∷◌, Some};
 ghost use Rattle.cat_model.specs.declared.request.Asked.{Asked};
 ghost use Rattle.cat_model.specs.declared.request.Draw.{Draw};
 ghost use Rattle.cat_model.specs.declared.request.Event.TheVariants as event;
 ghost use Rattle.cat_model.specs.declared.reply.Mark.TheVariants as mark;
+ghost use Rattle.cluster_rules.specs.Booked.{Booked};
 ghost use Rattle.cluster_rules.specs.Cluster.{Cluster};
-ghost use Rattle.cluster_rules.specs.Reached.{Fits, Settling};
+ghost use Rattle.cluster_rules.specs.Reached.{Fits, IsBegun, MayBegin, Settling};
 ghost use Rattle.cluster_rules.specs.Replies.{Closed, Out, number_of};
 ghost use Rattle.cluster_rules.specs.Step.{ClusterStep};
 ghost use Rattle.cluster_turns.specs.Pairs.{IsPartlySettled, settled};
-ghost use Rattle.script_runs.specs.Holds.{IsFirstStart};
 ghost use Rattle.script_runs.specs.Plays.{of_requests};
 ghost use Rattle.serving_rules.specs.Holding.{Holds};
-ghost use Rattle.serving_rules.specs.Serving.{IsSized, Serves, Size};
+ghost use Rattle.serving_rules.specs.Serving.{Serves, Size};
 
-/// Servers with empty stores serve once server 1 has stood for election.
+/// Servers that begin over whatever stores serve once server 1 has stood for election.
 pub fn elections_serve()
-    ensures { (size : Size) (c c' : Cluster) (whole : Bool) → IsFirstStart c → IsSized size c → Fits c (event.Timeout 1) → ClusterStep c (event.Timeout 1) c' whole → Serves size c' }
+    ensures { (size : Size) (c c' : Cluster) (whole : Bool) → IsBegun size.stores c → length c.agents ≡ size.agents → Fits c (event.Timeout 1) → ClusterStep c (event.Timeout 1) c' whole → Serves size c' }
 {}
 
 /// A request leaves a cluster that serves serving, whole or cut short.
@@ -47,12 +47,18 @@ pub fn handings_serve()
     ensures { (size : Size) (c : Cluster) → Serves size c → Serves size (record c { tray = of_requests c.tray }) }
 {}
 
-/// All that holds of every run holds of a cluster that serves.
-pub fn serving_holds()
-    ensures { (size : Size) (c : Cluster) → Serves size c → Holds c }
+/// The books of a cluster that serves hold, whatever its stores held: no number is asked twice, no request is answered
+/// twice, and only what was asked is taken.
+pub fn serving_is_booked()
+    ensures { (size : Size) (c : Cluster) → Serves size c → Booked c }
 {}
 
-/// No request is closed, since no server restarts.
+/// All that holds of every run holds of a cluster that serves, if its stores were empty or such as an earlier run left.
+pub fn serving_holds()
+    ensures { (size : Size) (c : Cluster) → Serves size c → MayBegin size.stores → Holds size.stores c }
+{}
+
+/// No request is closed, since no server restarts, whatever the stores held.
 pub fn nothing_is_closed()
     ensures { (size : Size) (c : Cluster) → Serves size c → (before after : List Out) (number at : ℕ) → c.tray ≡ before ++ Closed number at ∷ after → ⊥ }
 {}

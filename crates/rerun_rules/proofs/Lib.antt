@@ -1,0 +1,3 @@
+pub mod Rested
+pub mod Twins
+pub mod Clusters
