@@ -2,42 +2,25 @@
 use Rattle.std.proofs.Common.{◌≡◌, inl, inr, ℕ, zero, suc, ◌<◌, get_or, length, replicate, List, [], ◌∷◌, refl, sym, ap, ◌∙◌, subst, arith}
 use Rattle.cat_outside.specs.declared.faults.KeepFail.TheVariants.{Memory}
 use Rattle.raft_model.specs.Node.{Store}
-use Rattle.raft_model.specs.World.{World, Begins, IsReached, empty, again}
+use Rattle.raft_model.specs.World.{World, Begins}
 use Rattle.raft_world.specs.Starting.{AreGivenBack}
-use Rattle.cluster_rules.specs.Cluster.{Server, no_server, node_of, server_of}
-use Rattle.cluster_rules.specs.Sound.{ServerIsSound}
+use Rattle.cluster_rules.specs.Cluster.{Server, no_server}
 use Rattle.open_requests.specs.Requests as own
 use Rattle.cluster_servers.proofs.Beginning.{as_many_start}
 use Rattle.read_watch.specs.Watch.{no_sleeper}
 use Rattle.cluster_parts.specs.Watching.{Watching, nothing_watched}
-use Rattle.cluster.specs.Beginning.{MayBegin}
 use Rattle.cluster_parts.specs.Standing.{Stands}
 
 replicated : {A : Type 0} (count : ℕ) (x : A) → length (replicate count x) ≡ count
 replicated zero x = refl
 replicated (suc count) x = ap suc (replicated count x)
 
-reached : (stores : List Store) (w : World) → MayBegin stores → Begins stores w → IsReached w
-reached stores w (inl none) begins = empty stores none begins
-reached stores w (inr earlier) begins = again stores earlier.1 earlier.2 begins
-
-idle_item : (count at : ℕ) → get_or (replicate count no_server) at no_server ≡ no_server
-idle_item zero at = refl
-idle_item (suc count) zero = refl
-idle_item (suc count) (suc at) = idle_item count at
-
-idle_server : (count i : ℕ) → server_of (replicate count no_server) i ≡ no_server
-idle_server count zero = refl
-idle_server count (suc at) = idle_item count at
-
-pub begun_stands : (watch : Watching) (stores : List Store) (count : ℕ) (w : World) (servers : List Server) → MayBegin stores → Begins stores w → 0 < count → length stores ≡ count → servers ≡ replicate count no_server → watch ≡ nothing_watched count → Stands watch w servers own.empty
-begun_stands watch stores count w servers may begins some size idle is =
+pub begun_stands : (watch : Watching) (stores : List Store) (count : ℕ) (w : World) (servers : List Server) → Begins stores w → 0 < count → length stores ≡ count → servers ≡ replicate count no_server → watch ≡ nothing_watched count → Stands watch w servers own.empty
+begun_stands watch stores count w servers begins some size idle is =
     record {
-      reached = reached stores w may begins;
       some = omega (arith, some, ap length idle, replicated count no_server);
       count = ap length idle ∙ replicated count no_server ∙ sym size ∙ sym (as_many_start (length stores) 1 stores w.nodes begins.nodes);
       watching = (ap (λ (x : Watching). length x.watch.servers) is ∙ replicated count no_sleeper ∙ sym (ap length idle ∙ replicated count no_server), omega (arith, ap (λ (x : Watching). x.seen) is));
-      sound = λ i. subst (λ (x : Server). ServerIsSound w.agreed (node_of w i).commit x) (sym (ap (λ (ss : List Server). server_of ss i) idle ∙ idle_server count i)) (record { front = refl; within = omega arith; clocks = refl });
       proposed = omega (arith, begins.greatest);
       ascends = tt;
       held = tt;

@@ -4,14 +4,11 @@ use Rattle.std.specs.Prelude.{◌&&◌}
 use Rattle.raft_model.specs.Log.{Log}
 use Rattle.raft_model.specs.World as world
 use Rattle.raft_model.specs.World.{World, WorldStep}
-use Rattle.raft_world.specs.Steps.{KeepsAgreement}
 use Rattle.cluster_rules.specs.Cluster.{Cluster, Server, node_of}
 use Rattle.cluster_rules.specs.Requests.{entries_past, halts_past, moved}
-use Rattle.cluster_rules.proofs.Moved.{drops_rise}
 use Rattle.cluster_turns.specs.Turns.{Ticks}
 use Rattle.open_requests.specs.Requests.{Requests, cluster_of as whole_of}
 use Rattle.cluster_parts.specs.Standing as standing
-use Rattle.cluster_parts.proofs.Carried.{losing_goes, ticking_goes}
 use Rattle.cluster_parts.proofs.Marking.{world_stands}
 use Rattle.agent_rules.specs.Agents.{Agent}
 use Rattle.cluster_parts.specs.Watching.{Watching}
@@ -39,18 +36,17 @@ module _ (gs : List Agent) (wt : Watching) where
       let halted = (node_of w i).halted in
       sym (ap (λ (l : Log). record c { past = entries_past l (halts_past i (not halted && halted) c.past) }) (drop_all w.agreed) ∙ ap (λ b. record c { past = halts_past i b c.past }) (not_both halted))
 
-  pub tick_goes_on : (i ms : ℕ) (w w' : World) (servers servers' : List Server) (r : Requests) (c : Cluster) → Stands w servers r → cluster_of w servers r ≡ c → KeepsAgreement w w' → servers' ≡ servers → WorldStep w (world.Ticks i ms) w'
+  pub tick_goes_on : (i ms : ℕ) (w w' : World) (servers servers' : List Server) (r : Requests) (c : Cluster) → Stands w servers r → cluster_of w servers r ≡ c → servers' ≡ servers → WorldStep w (world.Ticks i ms) w'
       → Stands w' servers' r × Ticks i ms c (cluster_of w' servers' r)
-  tick_goes_on i ms w w' servers servers' r c s view k same step =
+  tick_goes_on i ms w w' servers servers' r c s view same step =
       let e = step.2 in
-      let stands = world_stands gs wt w w' servers r s (k s.reached).0 (ticking_goes w i ms w' s.reached step) (ap (λ (v : World). v.greatest) e) in
+      let stands = world_stands gs wt w w' servers r s (ap (λ (v : World). length v.nodes) e) (ap (λ (v : World). v.greatest) e) in
       let moves : cluster_of w' servers r ≡ moved i w' (cluster_of w servers r) = subst (λ (v : World). cluster_of v servers r ≡ moved i v (cluster_of w servers r)) (sym e) (on_clocks i w _ servers r) in (
         subst (λ (l : List Server). Stands w' l r) (sym same) stands,
         (w', subst (λ (d : Cluster). WorldStep d.world (world.Ticks i ms) w') view step, ap (λ (l : List Server). cluster_of w' l r) same ∙ moves ∙ ap (moved i w') view),
       )
 
   -- a message that is lost
-  pub lose_stands : (k : ℕ) (w w' : World) (servers servers' : List Server) (r : Requests) → Stands w servers r → KeepsAgreement w w' → servers' ≡ servers → WorldStep w (world.Drops k) w' → Stands w' servers' r
-  lose_stands k w w' servers servers' r s keeps same step =
-      let up = drops_rise w k w' step in
-      subst (λ (l : List Server). Stands w' l r) (sym same) (world_stands gs wt w w' servers r s (keeps s.reached).0 (losing_goes w k w' s.reached step) up.1)
+  pub lose_stands : (k : ℕ) (w w' : World) (servers servers' : List Server) (r : Requests) → Stands w servers r → servers' ≡ servers → WorldStep w (world.Drops k) w' → Stands w' servers' r
+  lose_stands k w w' servers servers' r s same step =
+      subst (λ (l : List Server). Stands w' l r) (sym same) (world_stands gs wt w w' servers r s (ap (λ (v : World). length v.nodes) step.2) (ap (λ (v : World). v.greatest) step.2))

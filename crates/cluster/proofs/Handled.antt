@@ -49,8 +49,8 @@ module _ (gs : List Agent) (wt : Watching) where
   abbrev Stands : World → List Server → Requests → Type 0
   Stands w servers r = standing.Stands wt w servers r
 
-  abbrev IsHeld : World → List Server → ℕ → Pending → Type 0
-  IsHeld w servers asked h = standing.IsHeld wt w servers asked h
+  abbrev IsHeld : List Server → ℕ → Pending → Type 0
+  IsHeld servers asked h = standing.IsHeld wt servers asked h
 
   -- what a request that came last is handled on
   pub record Comes (w : World) (servers : List Server) (r : Requests) (c : Cluster) (agent : ℕ) (asked : Asked) (draw : Draw) : Type 0 where
@@ -110,18 +110,16 @@ module _ (gs : List Agent) (wt : Watching) where
 
   -- a request that is held behind all others
   pub hold_stands : (w : World) (servers : List Server) (r new : Requests) (q : Question) (i : ℕ) (stand : Stand) (start : Start) → Stands w servers r → Each (λ (h : Pending). h.question.number < q.number) r.held → q.number ≤ r.asked → IsTakenAsked q.asked
-      → IsAwaited w (length (server_of servers i).applied) q stand → wt.seen < q.number → new ≡ used (holding_with q i stand start r) → Stands w servers new
+      → IsAwaited (length (server_of servers i).applied) stand → wt.seen < q.number → new ≡ used (holding_with q i stand start r) → Stands w servers new
   hold_stands w servers r new q i stand start s below given taken awaited fresh e =
       let h : Pending = record { question = q; server = i; stand = stand } in
       subst (Stands w servers) (sym e) (record {
-        reached = s.reached;
         some = s.some;
         count = s.count;
         watching = s.watching;
-        sound = s.sound;
         proposed = s.proposed;
         ascends = ascends_last r.held h s.ascends below;
-        held = each_append (IsHeld w servers r.asked) r.held (h ∷ []) s.held (record { numbered = given; taken = taken; awaited = awaited; watched = inl (inl fresh) }, tt);
+        held = each_append (IsHeld servers r.asked) r.held (h ∷ []) s.held (record { numbered = given; taken = taken; awaited = awaited; watched = inl (inl fresh) }, tt);
       })
 
   pub holds_as : (w : World) (servers : List Server) (r new : Requests) (q : Question) (i : ℕ) (stand : Stand) (start : Start) (c : Cluster) → cluster_of w servers r ≡ c → new ≡ used (holding_with q i stand start r) → cluster_of w servers new ≡ holding q i stand start c
@@ -129,7 +127,7 @@ module _ (gs : List Agent) (wt : Watching) where
 
   -- all that are held have numbers below the next one
   pub below_next : (w : World) (servers : List Server) (r : Requests) (number : ℕ) → Stands w servers r → number ≡ r.asked + 1 → Each (λ (h : Pending). h.question.number < number) r.held
-  below_next w servers r number s n = each_map (IsHeld w servers r.asked) (λ (h : Pending). h.question.number < number) (λ h l. omega (arith, l.numbered, n)) r.held s.held
+  below_next w servers r number s n = each_map (IsHeld servers r.asked) (λ (h : Pending). h.question.number < number) (λ h l. omega (arith, l.numbered, n)) r.held s.held
 
   -- a read that needs no round is held, to be looked for at once
   pub read_handles : (w : World) (servers : List Server) (r r' : Requests) (c : Cluster) (i agent : ℕ) (asked : Asked) (draw : Draw) (mode : Mode) (wait number deadline applied : ℕ) →

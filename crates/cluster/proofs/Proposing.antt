@@ -6,7 +6,6 @@ use Rattle.std.proofs.lemmas.List.{length-append}
 use Rattle.cat_model.specs.declared.command.Command.{Command}
 use Rattle.cat_model.specs.declared.command.Entry.{Entry}
 use Rattle.cat_model.specs.declared.memory.Memory as memory
-use Rattle.cat_model.specs.declared.request.Asked.{Asked}
 use Rattle.cat_model.specs.declared.request.Asked.TheVariants.{Good}
 use Rattle.cat_model.specs.declared.request.Request.TheVariants.{Write as Writes}
 use Rattle.cat_model.specs.declared.reply.Kind.TheVariants.{Refused}
@@ -14,7 +13,6 @@ use Rattle.cat_model.specs.declared.reply.Refusal.{Refusal}
 use Rattle.cat_model.specs.declared.reply.Refusal.TheVariants as refusal
 use Rattle.cat_model.specs.LogLimits.{command_bytes, is_noop, log_bytes}
 use Rattle.raft_model.specs.declared.message.Place.{Place}
-use Rattle.raft_model.specs.Facts.{IsPlaced}
 use Rattle.raft_model.specs.Log.{Log}
 use Rattle.raft_model.specs.Node.{Node, last}
 use Rattle.raft_model.specs.Rules.{Propose, has_room, proposal}
@@ -22,24 +20,23 @@ use Rattle.raft_model.specs.Step.{NodeStep, LogFails, Outcome}
 use Rattle.raft_model.specs.World.{World, Acts as NodeActs}
 use Rattle.raft_node.specs.declared.fault.ProposeFault.{ProposeFault}
 use Rattle.raft_node.specs.declared.fault.ProposeFault.TheVariants as fault
-use Rattle.raft_world.specs.Steps.{KeepsAgreement, Proposes}
+use Rattle.raft_world.specs.Steps.{Proposes}
 use Rattle.cat_model.specs.Taken.{IsTakenAsked, is_command_taken}
 use Rattle.cluster_rules.specs.Cluster.{AtPlace, Cluster, Pending, Proposed, Server, node_of, runs_leading, server_of}
-use Rattle.cluster_rules.specs.Lasting.{IsWrite}
 use Rattle.cluster_rules.specs.Replies.{Question, Says, entered}
 use Rattle.cluster_rules.specs.Requests.{delayed_at, full, halted_now, holding, is_ready, log_with, moved, proposes, refused, stops}
-use Rattle.cluster_rules.proofs.Boundary.{acts_greatest, acts_server, commit_within, leader_there, leading_tells, proposed as placed_by}
+use Rattle.cluster_rules.proofs.Boundary.{acts_greatest, acts_server, leader_there, leading_tells}
 use Rattle.cluster_rules.proofs.Tools.{is_node}
 use Rattle.cluster_turns.specs.Turns.{HandlesNewest, IsCome, newest, numbered}
-use Rattle.cluster_servers.specs.Servers.{Servers}
+use Rattle.cluster_servers.specs.Servers.{IsBehind, Servers}
 use Rattle.open_requests.specs.Requests.{Requests, answered_with, cluster_of as whole_of, holding_with, numbered_with, used}
 use Rattle.cluster_parts.specs.declared.writing.Write.{Write}
 use Rattle.cluster_parts.specs.declared.moving.Seen.{Seen}
 use Rattle.cluster_parts.specs.Asking.{EndsWrite, IsCopied, IsTakenWrite}
 use Rattle.cluster_parts.specs.Moving.{MarksStep, seen_of}
 use Rattle.cluster_parts.specs.Standing as standing
-use Rattle.cluster_parts.specs.Standing.{HasPlace, IsAwaited}
-use Rattle.cluster_parts.proofs.Carried.{carries, proposing_goes}
+use Rattle.cluster_parts.specs.Standing.{IsAwaited}
+use Rattle.cluster_parts.proofs.Carried.{acts_many}
 use Rattle.cluster.proofs.Handled.{Comes, below_next, hold_stands, holds_as, numbered_cluster, numbered_stands, refusal_stands, refuses_as}
 use Rattle.cluster_parts.proofs.Marking.{cluster_marked, stands_proposed}
 use Rattle.cluster.proofs.Results.{all_as, stands_alike}
@@ -54,13 +51,6 @@ module _ (gs : List Agent) (wt : Watching) where
 
   abbrev Stands : World → List Server → Requests → Type 0
   Stands w servers r = standing.Stands wt w servers r
-
-  -- the entry of a write that was taken, at its place
-  awaits : (w w' : World) (servers : List Server) (i index term : ℕ) (q : Question) (command : Command) → q.asked ≡ Good (Writes command) → index ≡ suc (length (node_of w i).log) → term ≡ (node_of w i).term
-      → length (server_of servers i).applied ≤ length (node_of w i).log → IsPlaced w' (suc (length (node_of w i).log)) (proposal (node_of w i) q.number (entered q command)) → IsAwaited w' (length (server_of servers i).applied) q (AtPlace index term)
-  awaits w w' servers i index term q command asked at known within placed =
-      let here : HasPlace w' index term q command = subst (λ k. HasPlace w' k term q command) (sym at) (subst (λ k. HasPlace w' (suc (length (node_of w i).log)) k q command) (sym known) placed) in
-      (omega (arith, at), omega (arith, at, within), subst (λ (a : Asked). IsWrite a (HasPlace w' index term q)) (sym asked) here)
 
   entry_bytes : (b : Bool) (k : ℕ) → b ≡ false → (cond b 0 k) + 0 ≡ k
   entry_bytes true k e = absurd cc
@@ -79,8 +69,9 @@ module _ (gs : List Agent) (wt : Watching) where
     pub leads : runs_leading w i ≡ true
     pub ready : is_ready (cluster_of w servers r) i ≡ true
     pub free : delayed_at (cluster_of w servers r) i command ≡ None
+    pub behind : length (server_of servers i).applied ≤ length (node_of w i).log
 
-  module _ (w w' : World) (servers : List Server) (r r' : Requests) (i : ℕ) (write : Write) (command : Command) (is : IsProposing w servers r i write command) (keeps : KeepsAgreement w w') where
+  module _ (w w' : World) (servers : List Server) (r r' : Requests) (i : ℕ) (write : Write) (command : Command) (is : IsProposing w servers r i write command) where
     agent : ℕ
     agent = write.question.agent
 
@@ -124,7 +115,7 @@ module _ (gs : List Agent) (wt : Watching) where
       low = omega (arith, acts_greatest w i (Propose write.question.number enters) w' a, is.at.stands.proposed, ap (λ (x : Question). x.number) is.copied.question)
 
       moved_stands : Stands w' servers mid
-      moved_stands = stands_proposed gs wt (halted_now w w' i) i w w' servers r₁ mid stands₁ keeps (carries w w' servers (proposing_goes w i write.question.number enters w' is.at.stands.reached a) is.at.stands.sound) low marks
+      moved_stands = stands_proposed gs wt (halted_now w w' i) i w w' servers r₁ mid stands₁ (acts_many w i (Propose write.question.number enters) w' a) low marks
 
       acts_now : NodeActs w i (Propose q.number (entered q command)) w'
       acts_now = subst (λ (z : Question). NodeActs w i (Propose z.number (entered z command)) w') question_is a
@@ -148,7 +139,7 @@ module _ (gs : List Agent) (wt : Watching) where
                 (done ∙ ap (λ (x : Question). holding x i (AtPlace place.index place.term) (Proposed place.index write.entry) (moved i w' c₁)) question_is
                 ∙ ap (λ (x : Entry). holding q i (AtPlace place.index place.term) (Proposed place.index x) (moved i w' c₁)) entry_is
                 ∙ ap (λ (p : Place). holding q i (AtPlace p.index p.term) (Proposed p.index (proposal (node_of w i) q.number (entered q command))) (moved i w' c₁)) at),
-            hold_stands gs wt w' servers mid r' write.question i (AtPlace place.index place.term) (Proposed place.index write.entry) moved_stands below given is.taken (waits_at place at room up) fresh e,
+            hold_stands gs wt w' servers mid r' write.question i (AtPlace place.index place.term) (Proposed place.index write.entry) moved_stands below given is.taken (waits_at place at) fresh e,
           )
         where
           below : Each (λ (h : Pending). h.question.number < write.question.number) mid.held
@@ -160,21 +151,8 @@ module _ (gs : List Agent) (wt : Watching) where
           fresh : wt.seen < write.question.number
           fresh = omega (arith, ap (λ (x : Question). x.number) is.copied.question, is.at.stands.watching.1)
 
-          applied_within : length (server_of servers i).applied ≤ length (node_of w i).log
-          applied_within =
-              let k = (is.at.stands.sound i).within in
-              let l = commit_within w is.at.stands.reached i (node_of w i) (leader_there w i is.leads) in
-              omega arith
-
-          placed_now : a.new.halted ≡ false → has_room a.old write.question.number enters ≡ true → IsPlaced w' (suc (length (node_of w i).log)) (proposal (node_of w i) q.number (entered q command))
-          placed_now up room =
-              placed_by w is.at.stands.reached i q.number (entered q command) w' acts_now is.leads (room_is true room) (ap (λ (n : Node). n.halted) (acts_server w i (Propose write.question.number enters) w' a) ∙ up)
-
-          waits_at : (place : Place) → place ≡ record { index = suc (length (node_of w i).log); term = (node_of w i).term } → has_room a.old write.question.number enters ≡ true → a.new.halted ≡ false
-              → IsAwaited w' (length (server_of servers i).applied) write.question (AtPlace place.index place.term)
-          waits_at place at room up =
-              subst (λ (x : Question). IsAwaited w' (length (server_of servers i).applied) x (AtPlace place.index place.term)) (sym question_is)
-              (awaits w w' servers i place.index place.term q command is.asked (ap (λ (p : Place). p.index) at) (ap (λ (p : Place). p.term) at) applied_within (placed_now up room))
+          waits_at : (place : Place) → place ≡ record { index = suc (length (node_of w i).log); term = (node_of w i).term } → IsAwaited (length (server_of servers i).applied) (AtPlace place.index place.term)
+          waits_at place at = omega (arith, is.behind, ap (λ (p : Place). p.index) at)
 
       -- it is refused
       refused_so : (why : Refusal) → r' ≡ used (answered_with write.question.number (Refused why) false 0 (Says why) mid) → (cluster_of w' servers r' ≡ refused q why (moved i w' c₁)) × Stands w' servers r'
@@ -232,13 +210,13 @@ module _ (gs : List Agent) (wt : Watching) where
 
   -- the same for a cluster that is seen so
   pub done_write : (s s' : Servers) (r p r' : Requests) (i : ℕ) (write : Write) (enters : Command) (c : Cluster) (before now : Seen) (agreed : Log) (number : ℕ) (proposed : Result Place ProposeFault) (result : Result Unit memory.Memory) →
-      Stands s.world s.servers r → cluster_of s.world s.servers r ≡ c → IsCome write.question.agent write.question.asked write.question.draw c.past → IsTakenWrite c i write → enters ≡ write.entry.command
+      Stands s.world s.servers r → IsBehind s i → cluster_of s.world s.servers r ≡ c → IsCome write.question.agent write.question.asked write.question.draw c.past → IsTakenWrite c i write → enters ≡ write.entry.command
       → runs_leading c.world i ≡ true → is_ready c i ≡ true → ((asks : Command) → write.question.asked ≡ Good (Writes asks) → delayed_at c i asks ≡ None)
       → p ≡ record r { room = 4 } → number ≡ write.question.number → before ≡ seen_of s.world i → now ≡ seen_of s'.world i → agreed ≡ s'.world.agreed
-      → Proposes s.world i number enters s'.world proposed → KeepsAgreement s.world s'.world → s'.servers ≡ s.servers → EndsWrite write before now i agreed proposed result p r'
+      → Proposes s.world i number enters s'.world proposed → s'.servers ≡ s.servers → EndsWrite write before now i agreed proposed result p r'
       → OnOk result (HandlesNewest i write.question.agent write.question.asked write.question.draw c (cluster_of s'.world s'.servers r'))
       × OnErr result (cluster_of s'.world s'.servers r' ≡ c) × Stands s'.world s'.servers r'
-  done_write s s' r p r' i write enters c before now agreed number proposed result stands view come taken own leads ready free prepared n was seen known made keeps same ends =
+  done_write s s' r p r' i write enters c before now agreed number proposed result stands behind view come taken own leads ready free prepared n was seen known made same ends =
       let command = taken.command in
       let Goal : Cluster → List Server → Type 0 = λ d ss.
       OnOk result (HandlesNewest i write.question.agent write.question.asked write.question.draw d (cluster_of s'.world ss r')) × OnErr result (cluster_of s'.world ss r' ≡ d) × Stands s'.world ss r' in
@@ -250,21 +228,22 @@ module _ (gs : List Agent) (wt : Watching) where
         leads = subst (λ (d : Cluster). runs_leading d.world i ≡ true) (sym view) leads;
         ready = subst (λ (d : Cluster). is_ready d i ≡ true) (sym view) ready;
         free = subst (λ (d : Cluster). delayed_at d i taken.command ≡ None) (sym view) (free taken.command taken.asked);
+        behind = let k = behind.applied in let l = behind.committed in omega arith;
       } in
       let enters_is : enters ≡ entered write.question command = own ∙ ap (λ (e : Entry). e.command) taken.copied.entry in
       subst (λ (ss : List Server). Goal c ss) (sym same) (subst (λ (d : Cluster). Goal d s.servers) view
-      (ended s.world s'.world s.servers r r' i write command is keeps proposed result
+      (ended s.world s'.world s.servers r r' i write command is proposed result
       (subst (λ (x : Command). Proposes s.world i write.question.number x s'.world proposed) enters_is (subst (λ k. Proposes s.world i k enters s'.world proposed) n made))
       (subst (λ (o : Requests). EndsWrite write (seen_of s.world i) (seen_of s'.world i) i s'.world.agreed proposed result o r') prepared
       (all_as (λ (b a : Seen) (l : Log). EndsWrite write b a i l proposed result p r') was seen known ends))))
 
   -- Each part of it, for a cluster that is seen so afterwards.
   pub write_handled : (s s' : Servers) (r p r' : Requests) (i : ℕ) (write : Write) (enters : Command) (c c' : Cluster) (before now : Seen) (agreed : Log) (number : ℕ) (proposed : Result Place ProposeFault) (result : Result Unit memory.Memory) →
-      Stands s.world s.servers r → cluster_of s.world s.servers r ≡ c → IsCome write.question.agent write.question.asked write.question.draw c.past → IsTakenWrite c i write → enters ≡ write.entry.command
+      Stands s.world s.servers r → IsBehind s i → cluster_of s.world s.servers r ≡ c → IsCome write.question.agent write.question.asked write.question.draw c.past → IsTakenWrite c i write → enters ≡ write.entry.command
       → runs_leading c.world i ≡ true → is_ready c i ≡ true → ((asks : Command) → write.question.asked ≡ Good (Writes asks) → delayed_at c i asks ≡ None)
       → p ≡ record r { room = 4 } → number ≡ write.question.number → before ≡ seen_of s.world i → now ≡ seen_of s'.world i → agreed ≡ s'.world.agreed
-      → Proposes s.world i number enters s'.world proposed → KeepsAgreement s.world s'.world → s'.servers ≡ s.servers → EndsWrite write before now i agreed proposed result p r' → cluster_of s'.world s'.servers r' ≡ c'
+      → Proposes s.world i number enters s'.world proposed → s'.servers ≡ s.servers → EndsWrite write before now i agreed proposed result p r' → cluster_of s'.world s'.servers r' ≡ c'
       → OnOk result (HandlesNewest i write.question.agent write.question.asked write.question.draw c c') × OnErr result (c' ≡ c)
-  write_handled s s' r p r' i write enters c c' before now agreed number proposed result stands view come taken own leads ready free prepared n was seen known made keeps same ends shown =
-      let t = done_write s s' r p r' i write enters c before now agreed number proposed result stands view come taken own leads ready free prepared n was seen known made keeps same ends in
+  write_handled s s' r p r' i write enters c c' before now agreed number proposed result stands behind view come taken own leads ready free prepared n was seen known made same ends shown =
+      let t = done_write s s' r p r' i write enters c before now agreed number proposed result stands behind view come taken own leads ready free prepared n was seen known made same ends in
       subst (λ (d : Cluster). OnOk result (HandlesNewest i write.question.agent write.question.asked write.question.draw c d) × OnErr result (d ≡ c)) shown (t.0, t.1)

@@ -42,14 +42,12 @@ all_as {A} {B} {a' = a'} {b = b} {b' = b'} {c = c} P e f g p = subst (P a' b') g
 -- What stands of a cluster asks of its requests only how many there were and which are held. There may be more.
 pub stands_more : {wt : Watching} {w : World} {servers : List Server} {r like r' : Requests} → Stands wt w servers r → r' ≡ like → r.asked ≤ like.asked → like.held ≡ r.held → Stands wt w servers r'
 stands_more {wt} {w} {servers} {r} {like} s e more held = subst (Stands wt w servers) (sym e) (record {
-  reached = s.reached;
   some = s.some;
   count = s.count;
   watching = (s.watching.0, omega (arith, more, s.watching.1));
-  sound = s.sound;
   proposed = omega (arith, more, s.proposed);
   ascends = subst Ascends (sym held) s.ascends;
-  held = all_more wt w servers r.asked like.asked like.held more (subst (Each (IsHeld wt w servers r.asked)) (sym held) s.held);
+  held = all_more wt servers r.asked like.asked like.held more (subst (Each (IsHeld wt servers r.asked)) (sym held) s.held);
 })
 
 pub stands_alike : {wt : Watching} {w : World} {servers : List Server} {r like r' : Requests} → Stands wt w servers r → r' ≡ like → like.asked ≡ r.asked → like.held ≡ r.held → Stands wt w servers r'

@@ -10,7 +10,7 @@ use Rattle.raft_model.specs.Node.{Node}
 use Rattle.raft_model.specs.Rules.{Probe}
 use Rattle.raft_model.specs.World.{World, Acts as NodeActs, IsServer}
 use Rattle.raft_node.specs.declared.fault.ProbeFault.{ProbeFault}
-use Rattle.raft_world.specs.Steps.{Begun, KeepsAgreement}
+use Rattle.raft_world.specs.Steps.{Begun}
 use Rattle.cat_model.specs.Taken.{IsTakenAsked}
 use Rattle.cluster_rules.specs.Cluster.{Cluster, InRound, Pending, Probed, Server, node_of}
 use Rattle.cluster_rules.specs.Replies.{Question}
@@ -24,7 +24,7 @@ use Rattle.cluster_parts.specs.declared.moving.Seen.{Seen}
 use Rattle.cluster_parts.specs.Asking.{EndsProbe, IsNewRead}
 use Rattle.cluster_parts.specs.Moving.{MarksStep, seen_of}
 use Rattle.cluster_parts.specs.Standing as standing
-use Rattle.cluster_parts.proofs.Carried.{carries, probing_goes}
+use Rattle.cluster_parts.proofs.Carried.{acts_many}
 use Rattle.cluster.proofs.Handled.{Comes, below_next, hold_stands, holds_as, numbered_cluster, numbered_stands}
 use Rattle.cluster_parts.proofs.Marking.{cluster_marked, stands_proposed}
 use Rattle.cluster.proofs.Results.{all_as, stands_alike}
@@ -50,7 +50,7 @@ module _ (gs : List Agent) (wt : Watching) where
     pub taken : IsTakenAsked read.asked
     pub go : (is_stale_read read.asked || is_ready (cluster_of w servers r) i) ≡ true
 
-  module _ (w w' : World) (servers : List Server) (r r' : Requests) (i : ℕ) (read : Question) (deadline : ℕ) (is : IsProbing w servers r i read deadline) (keeps : KeepsAgreement w w') where
+  module _ (w w' : World) (servers : List Server) (r r' : Requests) (i : ℕ) (read : Question) (deadline : ℕ) (is : IsProbing w servers r i read deadline) where
     abbrev r₁ : Requests
     r₁ = used (numbered_with read.agent read.asked read.draw (record r { room = 4 }))
 
@@ -78,7 +78,7 @@ module _ (gs : List Agent) (wt : Watching) where
       low = omega (arith, acts_greatest w i Probe w' a, is.at.stands.proposed)
 
       moved_stands : Stands w' servers mid
-      moved_stands = stands_proposed gs wt (halted_now w w' i) i w w' servers r₁ mid stands₁ keeps (carries w w' servers (probing_goes w i w' is.at.stands.reached a) is.at.stands.sound) low marks
+      moved_stands = stands_proposed gs wt (halted_now w w' i) i w w' servers r₁ mid stands₁ (acts_many w i Probe w' a) low marks
 
       held_so : (round : Round) → round ≡ next_round a.old → r' ≡ used (holding_with read i (InRound round deadline) (Probed read.number i round) mid)
           → HandlesNewest i read.agent read.asked read.draw (cluster_of w servers r) (cluster_of w' servers r') × Stands w' servers r'
@@ -122,10 +122,10 @@ module _ (gs : List Agent) (wt : Watching) where
   pub done_probe : (s s' : Servers) (r p r' : Requests) (i : ℕ) (read : Question) (deadline : ℕ) (c : Cluster) (before now : Seen) (agreed : Log) (probed : Result Round ProbeFault) (result : Result Unit memory.Memory) →
       Stands s.world s.servers r → cluster_of s.world s.servers r ≡ c → IsCome read.agent read.asked read.draw c.past → IsNewRead c i read deadline → IsTakenAsked read.asked
       → (is_stale_read read.asked || is_ready c i) ≡ true → p ≡ record r { room = 4 } → before ≡ seen_of s.world i → now ≡ seen_of s'.world i → agreed ≡ s'.world.agreed
-      → IfOk probed (Begun s.world i s'.world) → OnErr probed (s'.world ≡ s.world) → KeepsAgreement s.world s'.world → s'.servers ≡ s.servers → EndsProbe read before now i agreed deadline probed result p r'
+      → IfOk probed (Begun s.world i s'.world) → OnErr probed (s'.world ≡ s.world) → s'.servers ≡ s.servers → EndsProbe read before now i agreed deadline probed result p r'
       → OnOk result (HandlesNewest i read.agent read.asked read.draw c (cluster_of s'.world s'.servers r'))
       × OnErr result (cluster_of s'.world s'.servers r' ≡ c) × Stands s'.world s'.servers r'
-  done_probe s s' r p r' i read deadline c before now agreed probed result stands view come new taken go prepared was seen known begun same keeps kept ends =
+  done_probe s s' r p r' i read deadline c before now agreed probed result stands view come new taken go prepared was seen known begun same kept ends =
       let Goal : Cluster → List Server → Type 0 = λ d ss.
       OnOk result (HandlesNewest i read.agent read.asked read.draw d (cluster_of s'.world ss r')) × OnErr result (cluster_of s'.world ss r' ≡ d) × Stands s'.world ss r' in
       let is : IsProbing s.world s.servers r i read deadline = record {
@@ -135,7 +135,7 @@ module _ (gs : List Agent) (wt : Watching) where
         go = subst (λ (d : Cluster). (is_stale_read read.asked || is_ready d i) ≡ true) (sym view) go;
       } in
       subst (λ (ss : List Server). Goal c ss) (sym kept) (subst (λ (d : Cluster). Goal d s.servers) view
-      (ended s.world s'.world s.servers r r' i read deadline is keeps probed result begun same
+      (ended s.world s'.world s.servers r r' i read deadline is probed result begun same
       (subst (λ (o : Requests). EndsProbe read (seen_of s.world i) (seen_of s'.world i) i s'.world.agreed deadline probed result o r') prepared
       (all_as (λ (b a : Seen) (l : Log). EndsProbe read b a i l deadline probed result p r') was seen known ends))))
 
@@ -143,8 +143,8 @@ module _ (gs : List Agent) (wt : Watching) where
   pub read_probed : (s s' : Servers) (r p r' : Requests) (i : ℕ) (read : Question) (deadline : ℕ) (c c' : Cluster) (before now : Seen) (agreed : Log) (probed : Result Round ProbeFault) (result : Result Unit memory.Memory) →
       Stands s.world s.servers r → cluster_of s.world s.servers r ≡ c → IsCome read.agent read.asked read.draw c.past → IsNewRead c i read deadline → IsTakenAsked read.asked
       → (is_stale_read read.asked || is_ready c i) ≡ true → p ≡ record r { room = 4 } → before ≡ seen_of s.world i → now ≡ seen_of s'.world i → agreed ≡ s'.world.agreed
-      → IfOk probed (Begun s.world i s'.world) → OnErr probed (s'.world ≡ s.world) → KeepsAgreement s.world s'.world → s'.servers ≡ s.servers → EndsProbe read before now i agreed deadline probed result p r' → cluster_of s'.world s'.servers r' ≡ c'
+      → IfOk probed (Begun s.world i s'.world) → OnErr probed (s'.world ≡ s.world) → s'.servers ≡ s.servers → EndsProbe read before now i agreed deadline probed result p r' → cluster_of s'.world s'.servers r' ≡ c'
       → OnOk result (HandlesNewest i read.agent read.asked read.draw c c') × OnErr result (c' ≡ c)
-  read_probed s s' r p r' i read deadline c c' before now agreed probed result stands view come new taken go prepared was seen known begun same keeps kept ends shown =
-      let t = done_probe s s' r p r' i read deadline c before now agreed probed result stands view come new taken go prepared was seen known begun same keeps kept ends in
+  read_probed s s' r p r' i read deadline c c' before now agreed probed result stands view come new taken go prepared was seen known begun same kept ends shown =
+      let t = done_probe s s' r p r' i read deadline c before now agreed probed result stands view come new taken go prepared was seen known begun same kept ends in
       subst (λ (d : Cluster). OnOk result (HandlesNewest i read.agent read.asked read.draw c d) × OnErr result (d ≡ c)) shown (t.0, t.1)

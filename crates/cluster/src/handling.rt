@@ -170,6 +170,7 @@ impl<K: Keeper + Drop> Cluster<K> {
             return Err(Memory);
         }
         let number = write.question.number();
+        self.servers.stays_behind(server);
         let before = see(&self.servers, server);
         let proposed = self.servers.propose(alloc, server, number, command);
         let now = see(&self.servers, server);

@@ -7,7 +7,6 @@ mod cluster;
 mod delaying;
 mod fitting;
 mod handling;
-mod memory;
 mod noting;
 mod parts;
 mod playing;

@@ -1,9 +1,14 @@
-//! The cluster over stores in memory, as its front ends see it.
+//! The cluster over any durable stores, as its front ends see it.
+
+ghost use Rattle.std.specs.Prelude.{◌≡◌, ◌<◌, ◌≤◌, All, IfErr, IfOk, length, map};
+ghost use Rattle.std.specs.Option.{ForSome};
+ghost use Rattle.cluster_rules.specs.Reached.{IsBegun};
+ghost use Rattle.cluster_interface.specs.Starting.{HasFailed, KeepsLimits, store_of};
 
 use crate::cluster::Cluster;
 use crate::uncounted;
 use cat_model::{Asked, Draw, Entry, Event, List, Memory, Shared};
-use cat_outside::MemKeeper;
+use cat_outside::{KeepFail, Keeper};
 use cluster_interface::ClusterInterface;
 use open_requests::{Collected, Out};
 use script_runs::Misfit;
@@ -11,15 +16,26 @@ use std::alloc::Global;
 use std::marker::Brand;
 use std::sync::ledger::Blank;
 
-impl ClusterInterface for Cluster<MemKeeper> {
+impl<K: Keeper + Drop> ClusterInterface for Cluster<K> {
     ghost state = { λ c. c };
+
+    type K = K;
 
     fn start(
         alloc: Global,
-        keepers: List<MemKeeper>,
+        keepers: List<K>,
         agents: u32,
-    ) -> Result<Cluster<MemKeeper>, Memory> {
-        Cluster::over_stores(alloc, keepers, agents)
+    ) -> Result<Cluster<K>, (List<K>, KeepFail)>
+        requires some { 0 < length keepers }
+        requires most { length keepers ≤ 7 }
+        requires few { agents ≤ 64 }
+        requires unarmed { All (λ k. K.armed k ≡ 0) keepers }
+        requires limits { All (λ k. ForSome (K.held k) KeepsLimits) keepers }
+        ensures begun { IfOk result (λ s. IsBegun (map (λ k. store_of (K.held k) (K.armed k) (K.faults k) (K.sure k)) keepers) s) }
+        ensures agents { IfOk result (λ s. length s.agents ≡ agents) }
+        ensures cause { IfErr result (λ why. why.1 ≡ KeepFail.Failed → HasFailed (map (λ k. K.faults k) keepers) (map (λ k. K.faults k) why.0)) }
+    {
+        Cluster::new(alloc, agents, keepers)
     }
 
     fn fits(&self, event: &Event) -> Result<(), Misfit> {
@@ -27,7 +43,7 @@ impl ClusterInterface for Cluster<MemKeeper> {
     }
 
     fn step(&mut self, alloc: Global, event: Event) -> Result<(), Memory> {
-        let made = uncounted::step::<MemKeeper, Brand>(self, alloc, &event, Blank::new(1));
+        let made = uncounted::step::<K, Brand>(self, alloc, &event, Blank::new(1));
         drop(event);
         made
     }
@@ -39,11 +55,11 @@ impl ClusterInterface for Cluster<MemKeeper> {
         asked: &Shared<Asked>,
         draw: Draw,
     ) -> Result<u64, Memory> {
-        uncounted::ask::<MemKeeper, Brand>(self, alloc, agent, asked, draw, Blank::new(1))
+        uncounted::ask::<K, Brand>(self, alloc, agent, asked, draw, Blank::new(1))
     }
 
     fn settle(&mut self, alloc: Global, most: u32) -> Result<u32, Memory> {
-        uncounted::settle::<MemKeeper, Brand>(self, alloc, most, Blank::new(1))
+        uncounted::settle::<K, Brand>(self, alloc, most, Blank::new(1))
     }
 
     fn next_out(&mut self) -> Option<Out> {

@@ -6,7 +6,7 @@ ghost use Rattle.raft_node.specs.Nodes.{KeepsLimits};
 ghost use Rattle.raft_node.specs.Steps.{stored};
 ghost use Rattle.raft_world.specs.Starting.{AreGivenBack};
 ghost use Rattle.agent_rules.specs.Agents.{new_agent};
-ghost use Rattle.cluster.specs.Beginning.{HasBegun, MayBegin};
+ghost use Rattle.cluster.specs.Beginning.{HasBegun};
 ghost use Rattle.cluster_parts.specs.Watching.{nothing_watched};
 
 use crate::cluster::Cluster;
@@ -29,7 +29,6 @@ impl<K: Keeper + Drop> Cluster<K> {
         requires some { 0 < length keepers }
         requires few { length keepers < 2 ^ 32 }
         requires limits { All (λ k. ForSome (K.held k) KeepsLimits) keepers }
-        requires kept { MayBegin (map (λ k. stored (K.held k) (K.armed k) (K.faults k) (K.sure k)) keepers) }
         ensures begun { (count : ℕ) → agents ≡ replicate count new_agent → IfOk result (HasBegun (map (λ k. stored (K.held k) (K.armed k) (K.faults k) (K.sure k)) keepers) count) }
         ensures back { IfErr result (λ why. AreGivenBack why.1 (map (λ k. stored (K.held k) (K.armed k) (K.faults k) (K.sure k)) keepers) (map (λ k. stored (K.held k) (K.armed k) (K.faults k) (K.sure k)) why.0)) }
     {
@@ -48,8 +47,9 @@ impl<K: Keeper + Drop> Cluster<K> {
         }
     }
 
-    /// Servers 1, 2, .. begin with what these stores hold, and nothing was asked. Where a store cannot be read, or there
-    /// is no memory, all are handed back in their order: those before it were read, those behind it were not tried.
+    /// Servers 1, 2, .. begin with what these stores hold, whatever that is, and nothing was asked. Where a store cannot
+    /// be read, or there is no memory, all are handed back in their order: those before it were read, those behind it
+    /// were not tried.
     pub fn new(
         alloc: Global,
         agents: u32,
@@ -59,7 +59,6 @@ impl<K: Keeper + Drop> Cluster<K> {
         requires few { length keepers < 2 ^ 32 }
         requires agents { agents ≤ 64 }
         requires limits { All (λ k. ForSome (K.held k) KeepsLimits) keepers }
-        requires kept { MayBegin (map (λ k. stored (K.held k) (K.armed k) (K.faults k) (K.sure k)) keepers) }
         ensures begun { IfOk result (HasBegun (map (λ k. stored (K.held k) (K.armed k) (K.faults k) (K.sure k)) keepers) agents) }
         ensures back { IfErr result (λ why. AreGivenBack why.1 (map (λ k. stored (K.held k) (K.armed k) (K.faults k) (K.sure k)) keepers) (map (λ k. stored (K.held k) (K.armed k) (K.faults k) (K.sure k)) why.0)) }
     {

@@ -1,4 +1,5 @@
-ghost use Rattle.std.specs.Prelude.{◌≡◌, ◌<◌, ◌≤◌, All, IfOk, IfSome, OnErr, OnOk, MatchResult, None, Some, length, true};
+ghost use Rattle.std.specs.Prelude.{◌≡◌, ◌<◌, ◌≤◌, All, IfErr, IfOk, IfSome, OnErr, OnOk, MatchResult, None, Some, length, map, true};
+ghost use Rattle.std.specs.Option.{ForSome};
 ghost use Rattle.cat_model.specs.declared.request.Event.TheVariants as event;
 ghost use Rattle.cluster_rules.specs.Cluster.{Cluster, applied_of};
 ghost use Rattle.cluster_rules.specs.Reached.{IsAgentNumber};
@@ -6,15 +7,15 @@ ghost use Rattle.cluster_rules.specs.Step.{ClusterStep, events_in};
 ghost use Rattle.cluster_turns.specs.Pairs.{IsPartlySettled};
 ghost use Rattle.cluster_turns.specs.Turns.{FindsNoMemory};
 ghost use Rattle.script_runs.specs.Lines.{misfit};
-ghost use Rattle.script_runs.specs.Holds.{IsFirstStart};
+ghost use Rattle.cluster_rules.specs.Reached.{IsBegun};
 ghost use Rattle.cat_model.specs.Taken.{IsTakenAsked};
 ghost use Rattle.cluster_interface.specs.Interface.{IsPlayed, SettlesTo, TakesFirst, held_numbers};
-ghost use Rattle.cat_outside.specs.KeepersInMemory.{empty_store};
+ghost use Rattle.cluster_interface.specs.Starting.{HasFailed, KeepsLimits, store_of};
 ghost use Rattle.cluster_interface.specs.Taking.{Collects, DropsSyncs};
 ghost use Rattle.open_requests.specs.Taking.{IsNumberAt};
 
 use cat_model::{Asked, Draw, Entry, Event, List, Memory, Shared};
-use cat_outside::MemKeeper;
+use cat_outside::{KeepFail, Keeper};
 use open_requests::{Collected, Out};
 use script_runs::Misfit;
 use std::alloc::Global;
@@ -25,15 +26,25 @@ pub trait ClusterInterface: Drop {
     /// The cluster of the rules.
     ghost state: { Self → Cluster };
 
-    /// A server for each of these empty stores, in their order, and so many agents, that nothing has happened to yet.
-    fn start(alloc: Global, keepers: List<MemKeeper>, agents: u32) -> Result<Self, Memory>
+    /// The durable store of a server.
+    type K: Keeper + Drop;
+
+    /// A server for each of these stores, in their order, which begins with what its store holds, and so many agents,
+    /// that nothing has happened to yet. Where a store cannot be read, which it has counted, or there is no memory, all
+    /// are handed back.
+    fn start(
+        alloc: Global,
+        keepers: List<Self::K>,
+        agents: u32,
+    ) -> Result<Self, (List<Self::K>, KeepFail)>
         requires some { 0 < length keepers }
         requires most { length keepers ≤ 7 }
         requires few { agents ≤ 64 }
-        requires empty { All (λ keeper. keeper ≡ empty_store) keepers }
-        ensures first { IfOk result (λ s. IsFirstStart (state s)) }
-        ensures servers { IfOk result (λ s. length (state s).servers ≡ length keepers) }
-        ensures agents { IfOk result (λ s. length (state s).agents ≡ agents) };
+        requires unarmed { All (λ k. Self.K.armed k ≡ 0) keepers }
+        requires limits { All (λ k. ForSome (Self.K.held k) KeepsLimits) keepers }
+        ensures begun { IfOk result (λ s. IsBegun (map (λ k. store_of (Self.K.held k) (Self.K.armed k) (Self.K.faults k) (Self.K.sure k)) keepers) (state s)) }
+        ensures agents { IfOk result (λ s. length (state s).agents ≡ agents) }
+        ensures cause { IfErr result (λ why. why.1 ≡ KeepFail.Failed → HasFailed (map (λ k. Self.K.faults k) keepers) (map (λ k. Self.K.faults k) why.0)) };
 
     /// Whether the event fits: what it names is there, and no clock passes its end.
     fn fits(&self, event: &Event) -> Result<(), Misfit>

@@ -9,8 +9,8 @@ use Rattle.raft_model.specs.Node.{Node}
 use Rattle.raft_model.specs.Rules.{Input, Timeout, Beat, Receive, Propose, Probe, done}
 use Rattle.raft_model.specs.Step.{Outcome, Forgets, NodeStep}
 use Rattle.raft_model.specs.World as world
-use Rattle.raft_model.specs.World.{World, WorldStep, Packet, Acts as NodeActs, IsReached, numbered, raised}
-use Rattle.raft_world.specs.Steps.{Delivers, FindsNoMemory, KeepsAgreement, StepsWhole, StepsWorking}
+use Rattle.raft_model.specs.World.{World, WorldStep, Packet, Acts as NodeActs, numbered, raised}
+use Rattle.raft_world.specs.Steps.{Delivers, FindsNoMemory, StepsWhole, StepsWorking}
 use Rattle.office_rules.specs.Offices.{Office, office_from}
 use Rattle.raft_model.specs.Node.{set_server}
 use Rattle.raft_model.proofs.Tests.{at_bool}
@@ -18,8 +18,6 @@ use Rattle.cluster_rules.specs.Cluster.{Cluster, Server, clock_of, no_node, node
 use Rattle.cluster_servers.specs.Servers.{Servers, officed}
 use Rattle.cluster_rules.specs.Requests.{halted_now, moved}
 use Rattle.cluster_rules.specs.Step.{Acts, Remembers, takes, arms, input_of, received, receiver}
-use Rattle.cluster_rules.proofs.Boundary.{acts_rise, input_is}
-use Rattle.cluster_rules.proofs.Grows.{goes_by}
 use Rattle.cluster_rules.proofs.Tools.{eq_self, is_node, is_place, item_same, length_set_server}
 use Rattle.cluster_turns.specs.declared.cut.Cut.{Cut}
 use Rattle.cluster_turns.specs.declared.cut.Cut.TheVariants.{Before, Within}
@@ -28,7 +26,7 @@ use Rattle.cluster_parts.specs.declared.moving.Seen.{Seen}
 use Rattle.cluster_parts.specs.Moving.{Ends, MarksStep, Seats, seen_of}
 use Rattle.cluster_parts.specs.Acting as acting
 use Rattle.cluster_parts.specs.Standing as standing
-use Rattle.cluster_parts.proofs.Carried.{Goes, all_officed, arming_goes, carries, sound_officed}
+use Rattle.cluster_parts.proofs.Carried.{acts_many, all_officed, arming_many}
 use Rattle.cluster_parts.proofs.Forgetting.{forgot}
 use Rattle.cluster_parts.proofs.Marking.{cluster_marked, stands_marked}
 use Rattle.agent_rules.specs.Agents.{Agent}
@@ -79,9 +77,6 @@ module _ (gs : List Agent) (wt : Watching) where
   greatest_kept : (w : World) (i : ℕ) (input : Input) (w' : World) → IsPlain input → NodeActs w i input w' → w'.greatest ≡ w.greatest
   greatest_kept w i input w' p a = ap (λ (v : World). v.greatest) a.becomes ∙ raised_none input w.greatest p
 
-  acts_go : (w : World) (i : ℕ) (made : Event) (input : Input) (w' : World) → IsReached w → input_of w i made ≡ Some input → NodeActs w i input w' → Goes w w'
-  acts_go w i made input w' r is a = let m = input_is w i made input w' is a in record { on = goes_by w w' m.move r m.step; up = acts_rise w i input w' r a }
-
   abbrev Acted : ℕ → Event → Cluster → World → List Server → Requests → Result Unit Cut → Type 0
   Acted i made c w' servers' r' result = acting.Acted gs wt i made c w' servers' r' result
 
@@ -97,14 +92,12 @@ module _ (gs : List Agent) (wt : Watching) where
   -- another time in office of one server
   pub stands_officed : (i : ℕ) (o : Office) (w : World) (servers : List Server) (r : Requests) → Stands w servers r → Stands w (set_server servers i (record (server_of servers i) { office = o })) r
   stands_officed i o w servers r s = record {
-    reached = s.reached;
     some = let k = length_set_server servers i (record (server_of servers i) { office = o }) in omega (arith, s.some, k);
     count = length_set_server servers i (record (server_of servers i) { office = o }) ∙ s.count;
     watching = (s.watching.0 ∙ sym (length_set_server servers i (record (server_of servers i) { office = o })), s.watching.1);
-    sound = sound_officed w servers i o s.sound;
     proposed = s.proposed;
     ascends = s.ascends;
-    held = all_officed wt w servers i o r.asked r.held s.held;
+    held = all_officed wt servers i o r.asked r.held s.held;
   }
 
   stands_seated : (w w' : World) (i : ℕ) (servers : List Server) (r : Requests) → Stands w' servers r → Stands w' (seated_servers w w' i servers) r
@@ -132,12 +125,12 @@ module _ (gs : List Agent) (wt : Watching) where
             ∙ at_bool (λ b. (cond b (officed i (office_from (clock_of s₁.world i)) s₁) s₁).servers ≡ cond b (set_server s₁.servers i (record (server_of s₁.servers i) { office = office_from (clock_of s₁.world i) })) s₁.servers) (took_office w s₁.world i) (λ _. refl) (λ _. refl),
       )
 
-  module _ (i : ℕ) (made : Event) (input : Input) (w w' : World) (servers : List Server) (r r' : Requests) (s : Stands w servers r) (k : KeepsAgreement w w') (plain : IsPlain input) (is : input_of w i made ≡ Some input) where
+  module _ (i : ℕ) (made : Event) (input : Input) (w w' : World) (servers : List Server) (r r' : Requests) (s : Stands w servers r) (plain : IsPlain input) (is : input_of w i made ≡ Some input) where
     step_acted : (a : NodeActs w i input w') → MarksStep (seen_of w i) (seen_of w' i) i w'.agreed r r'
         → Stands w' (seated_servers w w' i servers) r' × ((act : Acts 0 (cluster_of w servers r) i made (cluster_of w' (seated_servers w w' i servers) r')) × ((a.outcome ≢ Forgets → Remembers act) × (a.outcome ≡ Forgets → ¬ Remembers act)))
     step_acted a m =
         let moves : cluster_of w' servers r' ≡ moved i w' (cluster_of w servers r) = cluster_marked gs wt (halted_now w w' i) i w w' servers r r' m in (
-          stands_seated w w' i servers r' (stands_marked gs wt (halted_now w w' i) i w w' servers r r' s k (carries w w' servers (acts_go w i made input w' s.reached is a) s.sound) (greatest_kept w i input w' plain a) m),
+          stands_seated w w' i servers r' (stands_marked gs wt (halted_now w w' i) i w w' servers r r' s (acts_many w i input w' a) (greatest_kept w i input w' plain a) m),
           (takes input w' refl is a (cluster_seated w w' i servers r' ∙ ap (seated w i) moves), ((λ n. n), (λ f n. n f))),
         )
 
@@ -165,13 +158,13 @@ module _ (gs : List Agent) (wt : Watching) where
 
   -- A call that is given an input is an act.
   pub acts_by : (i : ℕ) (made : Event) (input : Input) (w : World) (servers : List Server) (s₁ s₂ : Servers) (r r' : Requests) (before now : Seen) (agreed : Log) (done : Result Unit Memory) (result : Result Unit Cut)
-      → Stands w servers r → KeepsAgreement w s₁.world → s₁.servers ≡ servers → IsPlain input → input_of w i made ≡ Some input
+      → Stands w servers r → s₁.servers ≡ servers → IsPlain input → input_of w i made ≡ Some input
       → OnOk done (StepsWhole w i input s₁.world) → OnErr done (FindsNoMemory w i input s₁.world) → before ≡ seen_of w i → now ≡ seen_of s₁.world i → Seats before now i s₁ s₂ → agreed ≡ s₂.world.agreed
       → Ends before now i agreed done result r r' → Acted i made (cluster_of w servers r) s₂.world s₂.servers r' result
-  acts_by i made input w servers s₁ s₂ r r' before now agreed done result s k same plain is ok err was seen seats all m =
+  acts_by i made input w servers s₁ s₂ r r' before now agreed done result s same plain is ok err was seen seats all m =
       let on = are_seated i w s₁ s₂ before now was seen seats in
       let ends = ends_seen i w s₁.world before now agreed done result r r' was seen (all ∙ ap (λ (v : World). v.agreed) on.0) m in
-      let t = ended i made input w s₁.world servers r r' s k plain is done result ok err ends in
+      let t = ended i made input w s₁.world servers r r' s plain is done result ok err ends in
       let same₂ : s₂.servers ≡ seated_servers w s₁.world i servers = on.1 ∙ ap (seated_servers w s₁.world i) same in
       subst (λ (v : World). Acted i made (cluster_of w servers r) v s₂.servers r' result) (sym on.0) (subst (λ (l : List Server). Acted i made (cluster_of w servers r) s₁.world l r' result) (sym same₂) t)
 
@@ -202,12 +195,12 @@ module _ (gs : List Agent) (wt : Watching) where
   receives w k p i e to = ap (received i) e ∙ ap (λ b. cond b (Some (Receive p.from p.message)) None) (ap (λ n. n == i) to ∙ eq_self i)
 
   -- a call of a durable store that is to fail
-  pub arming_acts : (i nth : ℕ) (w w' : World) (servers servers' : List Server) (r r' : Requests) (before now : Seen) (agreed : Log) → Stands w servers r → KeepsAgreement w w' → servers' ≡ servers → WorldStep w (world.Arms i nth) w'
+  pub arming_acts : (i nth : ℕ) (w w' : World) (servers servers' : List Server) (r r' : Requests) (before now : Seen) (agreed : Log) → Stands w servers r → servers' ≡ servers → WorldStep w (world.Arms i nth) w'
       → before ≡ seen_of w i → now ≡ seen_of w' i → agreed ≡ w'.agreed → MarksStep before now i agreed r r' → Acted i (event.FailKeep i nth) (cluster_of w servers r) w' servers' r' (Ok tt)
-  arming_acts i nth w w' servers servers' r r' before now agreed s k same step was seen all m =
+  arming_acts i nth w w' servers servers' r r' before now agreed s same step was seen all m =
       let marks = ends_seen i w w' before now agreed (Ok tt) (Ok tt) r r' was seen all m in
       subst (λ (l : List Server). Acted i (event.FailKeep i nth) (cluster_of w servers r) w' l r' (Ok tt)) (sym same) (record {
-        stands = stands_marked gs wt (halted_now w w' i) i w w' servers r r' s k (carries w w' servers (arming_goes w i nth w' s.reached step) s.sound) (ap (λ (v : World). v.greatest) step.2) marks;
+        stands = stands_marked gs wt (halted_now w w' i) i w w' servers r r' s (arming_many w i nth w' step) (ap (λ (v : World). v.greatest) step.2) marks;
         whole = (arms nth w' refl refl step (cluster_marked gs wt (halted_now w w' i) i w w' servers r r' marks), tt);
         cut = tt;
       })

@@ -43,8 +43,8 @@ module _ (wt : Watching) where
   abbrev Stands : World → List Server → Requests → Type 0
   Stands w servers r = standing.Stands wt w servers r
 
-  abbrev IsHeld : World → List Server → ℕ → Pending → Type 0
-  IsHeld w servers asked h = standing.IsHeld wt w servers asked h
+  abbrev IsHeld : List Server → ℕ → Pending → Type 0
+  IsHeld servers asked h = standing.IsHeld wt servers asked h
 
   -- A position is applied only where no held request has something due before.
   applies_not : Option Work → Bool
@@ -149,14 +149,14 @@ module _ (wt : Watching) where
     is : h ≡ record from { stand = h.stand }
     numbered : h.question.number ≤ c.asked
     taken : IsTakenAsked h.question.asked
-    awaited : IsAwaited c.world (length (server_of c.servers h.server).applied) h.question h.stand
+    awaited : IsAwaited (length (server_of c.servers h.server).applied) h.stand
 
   abbrev HoldsRight : Cluster → Work → Type 0
   HoldsRight c (Holds h) = HoldsOn c h
   HoldsRight c other = Unit {0}
 
   abbrev IsHeldThere : Cluster → Pending → Type 0
-  IsHeldThere c h = IsAmong h c.held × IsHeld c.world c.servers c.asked h
+  IsHeldThere c h = IsAmong h c.held × IsHeld c.servers c.asked h
 
   held_for : (c : Cluster) (h : Pending) (deadline : ℕ) (looked : Bool) → IsHeldThere c h → HoldsOn c (record h { stand = ForIndex deadline looked })
   held_for c h deadline looked x = record {
@@ -181,11 +181,11 @@ module _ (wt : Watching) where
     turns = λ round deadline st up confirmed reached. held_for c h deadline false x;
   }
 
-  all_there : (c : Cluster) (held : List Pending) → ((h : Pending) → IsAmong h held → IsAmong h c.held) → Each (IsHeld c.world c.servers c.asked) held → Each (IsHeldThere c) held
+  all_there : (c : Cluster) (held : List Pending) → ((h : Pending) → IsAmong h held → IsAmong h c.held) → Each (IsHeld c.servers c.asked) held → Each (IsHeldThere c) held
   all_there c [] among all = tt
   all_there c (h ∷ held) among all = ((among h (inl refl), all.0), all_there c held (λ g a. among g (inr a)) all.1)
 
-  holds_on : (c : Cluster) (i : ℕ) (h : Pending) → Each (IsHeld c.world c.servers c.asked) c.held → IsDue i c (Holds h) → HoldsOn c h
+  holds_on : (c : Cluster) (i : ℕ) (h : Pending) → Each (IsHeld c.servers c.asked) c.held → IsDue i c (Holds h) → HoldsOn c h
   holds_on c i h all d = due_cases c i (HoldsRight c) (IsHeldThere c) (all_there c c.held (λ _ a. a) all) (leaves_right c i) (λ _. tt) (Holds h) d
 
   module _ (w : World) (servers : List Server) (r : Requests) (s : Stands w servers r) (i : ℕ) (h : Pending) (due_now : IsDue i (cluster_of w servers r) (Holds h)) (number : ℕ) (stand : Stand) (n : number ≡ h.question.number) (same : stand ≡ h.stand) where
@@ -199,19 +199,17 @@ module _ (wt : Watching) where
         ap (λ k. map (restood k stand) r.held) (sym from) ∙ restands_by on.from stand r.held s.ascends on.among ∙ ap (λ (g : Pending). with_held g r.held) is
 
     -- something may be due of it, so that it is watched wherever it stands
-    held_on : MayBeDue number wt → IsHeld w servers r.asked h
+    held_on : MayBeDue number wt → IsHeld servers r.asked h
     held_on awake = record { numbered = on.numbered; taken = on.taken; awaited = on.awaited; watched = inl (subst (λ k. MayBeDue k wt) n awake) }
 
     pub restood_stands : MayBeDue number wt → Stands w servers (record r { held = map (restood number stand) r.held })
     restood_stands awake = record {
-      reached = s.reached;
       some = s.some;
       count = s.count;
       watching = s.watching;
-      sound = s.sound;
       proposed = s.proposed;
       ascends = subst Ascends (sym restood_is) (ascends_with h r.held s.ascends);
-      held = subst (Each (IsHeld w servers r.asked)) (sym restood_is) (each_with (IsHeld w servers r.asked) h r.held (held_on awake) s.held);
+      held = subst (Each (IsHeld servers r.asked)) (sym restood_is) (each_with (IsHeld servers r.asked) h r.held (held_on awake) s.held);
     }
 
   pub restand_stands : (w : World) (servers : List Server) (r new : Requests) (c : Cluster) (number : ℕ) (stand : Stand) → Stands w servers r → cluster_of w servers r ≡ c

@@ -1,5 +1,5 @@
 -- What stands of a cluster once something was done.
-use Rattle.std.proofs.Common.{◌≡◌, ◌≢◌, ◌⊎◌, inl, inr, ℕ, zero, suc, ◌<◌, ◌≤◌, ◌==◌, ◌||◌, Bool, true, false, length, take, List, [], ◌∷◌, ◌++◌, Option, Some, None, Result, Ok, Err, refl, sym, ap, ◌∙◌, subst, arith}
+use Rattle.std.proofs.Common.{◌≡◌, ◌≢◌, ◌⊎◌, inl, inr, ℕ, zero, suc, ◌<◌, ◌≤◌, ◌==◌, ◌||◌, Bool, true, false, length, List, [], ◌∷◌, ◌++◌, Option, Some, None, Result, Ok, Err, refl, sym, ap, ◌∙◌, subst, arith}
 use Rattle.std.specs.Prelude.{OnOk, OnErr, ◌&&◌, nat_le}
 use Rattle.std.specs.List.{AllByRecursion as Each}
 use Rattle.std.proofs.lemmas.List.{length-append}
@@ -8,17 +8,16 @@ use Rattle.cat_model.specs.declared.query.Chan.{Chan}
 use Rattle.cat_model.specs.Log.{commands_of}
 use Rattle.cat_model.specs.Reach.{is_on}
 use Rattle.cat_model.specs.declared.reply.Kind.{Kind}
-use Rattle.raft_model.specs.Log.{Log, entry_at}
+use Rattle.cat_model.specs.declared.request.Asked.{Asked}
+use Rattle.raft_model.specs.Log.{entry_at}
 use Rattle.raft_model.specs.Node.{Node, set_server}
 use Rattle.raft_model.specs.World.{World}
 use Rattle.cluster_rules.specs.Cluster.{AtPlace, Cluster, Ended, ForIndex, InRound, Pending, Server, Stand, applied_of, clock_of, no_node, no_server, node_of, server_of}
 use Rattle.cluster_rules.specs.Due.{applies_entry, without}
-use Rattle.cluster_rules.specs.Replies.{Content, Question}
-use Rattle.cluster_rules.specs.Sound.{ServerIsSound}
-use Rattle.cluster_rules.proofs.Entries.{agree_entry, take_next}
+use Rattle.cluster_rules.specs.Replies.{Content}
 use Rattle.cluster_rules.proofs.Tools.{at_item, each_map, eq_self, get_past, item_same, le_tells_not, length_set_server}
 use Rattle.raft_model.proofs.Tests.{le_tells}
-use Rattle.cluster_rules.proofs.Works.{ascends_without, commit_agrees, each_kept}
+use Rattle.cluster_rules.proofs.Works.{ascends_without, each_kept}
 use Rattle.open_requests.specs.Requests.{Requests, answered_with, closed_with, cluster_of as whole_of}
 use Rattle.cluster_servers.specs.Servers.{Servers, applies_next}
 use Rattle.cluster_parts.specs.Looking.{is_early, is_stand_due, servers_of}
@@ -27,7 +26,6 @@ use Rattle.cluster_parts.specs.Standing.{IsAwaited, IsWatched}
 use Rattle.cluster_parts.proofs.Numbered.{others_left}
 use Rattle.cluster_parts.proofs.Watched.{fired_watched, others_stand, same_leave, watched_by}
 use Rattle.replica.specs.Sparing.{SparesOthers}
-use Rattle.cluster_parts.proofs.Carried.{sound_with}
 use Rattle.cluster_parts.specs.Watching.{LeaveLine, MayBeDue, SameLines, Sleeps, StayAwake, Watching}
 
 -- a server at which more is committed than applied is one of them
@@ -52,16 +50,16 @@ module _ (wt : Watching) where
   abbrev Stands : World → List Server → Requests → Type 0
   Stands w servers r = standing.Stands wt w servers r
 
-  abbrev IsHeld : World → List Server → ℕ → Pending → Type 0
-  IsHeld w servers asked h = standing.IsHeld wt w servers asked h
+  abbrev IsHeld : List Server → ℕ → Pending → Type 0
+  IsHeld servers asked h = standing.IsHeld wt servers asked h
 
   pub answer_stands : (w : World) (servers : List Server) (r : Requests) (number : ℕ) (kind : Kind) (known : Bool) (contact : ℕ) (content : Content) → Stands w servers r → Stands w servers (answered_with number kind known contact content r)
   answer_stands w servers r number kind known contact content s =
-      record { reached = s.reached; some = s.some; count = s.count; watching = s.watching; sound = s.sound; proposed = s.proposed; ascends = ascends_without number r.held s.ascends; held = each_kept (IsHeld w servers r.asked) number r.held s.held }
+      record { some = s.some; count = s.count; watching = s.watching; proposed = s.proposed; ascends = ascends_without number r.held s.ascends; held = each_kept (IsHeld servers r.asked) number r.held s.held }
 
   closing_stands : (w : World) (servers : List Server) (r : Requests) (number event : ℕ) → Stands w servers r → Stands w servers (closed_with number event r)
   closing_stands w servers r number event s =
-      record { reached = s.reached; some = s.some; count = s.count; watching = s.watching; sound = s.sound; proposed = s.proposed; ascends = ascends_without number r.held s.ascends; held = each_kept (IsHeld w servers r.asked) number r.held s.held }
+      record { some = s.some; count = s.count; watching = s.watching; proposed = s.proposed; ascends = ascends_without number r.held s.ascends; held = each_kept (IsHeld servers r.asked) number r.held s.held }
 
   -- after a call that did something or nothing
   pub call_stands : {A B : Type 0} (w : World) (servers : List Server) (r done new : Requests) (result : Result A B) → Stands w servers r → Stands w servers done → OnOk result (new ≡ done) → OnErr result (new ≡ r) → Stands w servers new
@@ -77,20 +75,6 @@ module _ (wt : Watching) where
   close_call w servers r new number event result s ok err = call_stands w servers r (closed_with number event r) new result s (closing_stands w servers r number event s) ok err
 
   -- one more position of a server
-  next_sound : (agreed log : Log) (commit clock : ℕ) (s : Server) → take commit log ≡ take commit agreed → length s.applied < commit → ServerIsSound agreed commit s →
-      (o : Option Entry) → entry_at (suc (length s.applied)) log ≡ o → ServerIsSound agreed commit (applies_entry clock s o)
-  next_sound agreed log commit clock s a l x None e = x
-  next_sound agreed log commit clock s a l x (Some n) e =
-      let there : entry_at (suc (length s.applied)) agreed ≡ Some n = sym (agree_entry (suc (length s.applied)) commit log agreed (omega arith) a) ∙ e in
-      let k = length-append s.applied (n ∷ []) in
-      let front : s.applied ++ n ∷ [] ≡ take (suc (length s.applied)) agreed = ap (λ z. z ++ n ∷ []) x.front ∙ sym (take_next (length s.applied) agreed n there) in
-      let long : suc (length s.applied) ≡ length (s.applied ++ n ∷ []) = omega (arith, k) in
-      record {
-        front = front ∙ ap (λ z. take z agreed) long;
-        within = omega (arith, k);
-        clocks = let c = length-append s.clocks (clock ∷ []) in let e = x.clocks in omega (arith, k, c);
-      }
-
   one_longer : (clock : ℕ) (s : Server) (o : Option Entry) → length (applies_entry clock s o).applied ≤ suc (length s.applied)
   one_longer clock s None = omega arith
   one_longer clock s (Some e) = let k = length-append s.applied (e ∷ []) in omega arith
@@ -101,11 +85,11 @@ module _ (wt : Watching) where
   not_due true true c e n = absurd cc
   not_due false b c e n = absurd cc
 
-  awaited_next : (c : Cluster) (i : ℕ) (w : World) (q : Question) (s : Stand) (n m : ℕ) → n ≡ length (applied_of c i) → m ≤ suc n → is_stand_due (servers_of c) i q.asked s ≡ false → IsAwaited w n q s → IsAwaited w m q s
-  awaited_next c i w q (AtPlace index term) n m e l d x = (x.0, (let k = le_tells_not index (length (applied_of c i)) d in omega arith), x.2)
-  awaited_next c i w q (InRound round deadline) n m e l d x = tt
-  awaited_next c i w q (ForIndex deadline looked) n m e l d x = tt
-  awaited_next c i w q (Ended event) n m e l d x = tt
+  awaited_next : (c : Cluster) (i : ℕ) (asked : Asked) (s : Stand) (n m : ℕ) → n ≡ length (applied_of c i) → m ≤ suc n → is_stand_due (servers_of c) i asked s ≡ false → IsAwaited n s → IsAwaited m s
+  awaited_next c i asked (AtPlace index term) n m e l d x = let k = le_tells_not index (length (applied_of c i)) d in omega arith
+  awaited_next c i asked (InRound round deadline) n m e l d x = tt
+  awaited_next c i asked (ForIndex deadline looked) n m e l d x = tt
+  awaited_next c i asked (Ended event) n m e l d x = tt
 
   -- the request of a number is let go of, and is not watched any more
   pub forget_stands : (new : Watching) (w : World) (servers : List Server) (r : Requests) (held : List Pending) (number : ℕ) → r.held ≡ without number held → ((n : ℕ) → n ≢ number → MayBeDue n wt → MayBeDue n new)
@@ -139,20 +123,20 @@ module _ (wt : Watching) where
         (λ e. fired_watched wt new (applied_of c i) x.applied fired h spares (up h.question.number) (off_fired h e) (lines h.server h.question.number h.stand) (subst (λ k. IsWatched wt (server_of c.servers k).applied h) e w))
         (watched_by wt new (server_of c.servers h.server).applied h (up h.question.number) (still_asleep h) (lines h.server h.question.number h.stand) w)
 
-    one_held : (h : Pending) → is_early (servers_of c) i h ≡ false → IsHeld c.world c.servers c.asked h → standing.IsHeld new c.world (set_server c.servers i x) c.asked h
+    one_held : (h : Pending) → is_early (servers_of c) i h ≡ false → IsHeld c.servers c.asked h → standing.IsHeld new (set_server c.servers i x) c.asked h
     one_held h none held = record {
       numbered = held.numbered;
       taken = held.taken;
-      awaited = at_item (λ (y : Server). IsAwaited c.world (length y.applied) h.question h.stand) no_server c.servers i x h.server
+      awaited = at_item (λ (y : Server). IsAwaited (length y.applied) h.stand) no_server c.servers i x h.server
           (λ e. let same : length (server_of c.servers h.server).applied ≡ length (applied_of c i) = ap (λ k. length (server_of c.servers k).applied) e in
           let here : (h.server == i) ≡ true = ap (λ k. k == i) e ∙ eq_self i in
-          awaited_next c i c.world h.question h.stand (length (server_of c.servers h.server).applied) (length x.applied) same (omega (arith, more, same))
+          awaited_next c i h.question.asked h.stand (length (server_of c.servers h.server).applied) (length x.applied) same (omega (arith, more, same))
           (not_due (h.server == i) (node_of c.world i).halted (is_stand_due (servers_of c) i h.question.asked h.stand) here none) held.awaited)
           held.awaited;
       watched = one_watched h held.watched;
     }
 
-    pub all_held : (held : List Pending) → Each (λ (h : Pending). is_early (servers_of c) i h ≡ false) held → Each (IsHeld c.world c.servers c.asked) held → Each (standing.IsHeld new c.world (set_server c.servers i x) c.asked) held
+    pub all_held : (held : List Pending) → Each (λ (h : Pending). is_early (servers_of c) i h ≡ false) held → Each (IsHeld c.servers c.asked) held → Each (standing.IsHeld new (set_server c.servers i x) c.asked) held
     all_held [] none all = tt
     all_held (h ∷ held) none all = (one_held h none.0 all.0, all_held held none.1 all.1)
 
@@ -164,15 +148,12 @@ module _ (wt : Watching) where
   applying_stands s r i new fired a more none spares up wakes size lines seen =
       let o = entry_at (suc (length (server_of s.servers i).applied)) (node_of s.world i).log in
       let x = applies_entry (clock_of s.world i) (server_of s.servers i) o in
-      let sound = next_sound s.world.agreed (node_of s.world i).log (node_of s.world i).commit (clock_of s.world i) (server_of s.servers i) (commit_agrees s.world a.reached i) more (a.sound i) o refl in
       let there : (0 < i) × (i ≤ length s.servers) = committing s.world s.servers i a.count more in
       let here : server_of (set_server s.servers i x) i ≡ x = item_same no_server s.servers i x there.0 there.1 in
       record {
-        reached = a.reached;
         some = omega (arith, a.some, length_set_server s.servers i x);
         count = length_set_server s.servers i x ∙ a.count;
         watching = (size ∙ a.watching.0 ∙ sym (length_set_server s.servers i x), omega (arith, seen, a.watching.1));
-        sound = sound_with s.world s.servers i x a.sound sound;
         proposed = a.proposed;
         ascends = a.ascends;
         held = all_held (cluster_of s.world s.servers r) i x (one_longer (clock_of s.world i) (server_of s.servers i) o) new fired

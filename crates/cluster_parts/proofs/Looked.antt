@@ -3,7 +3,6 @@ use Rattle.std.proofs.Common.{◌≡◌, ◌⊎◌, inl, inr, ℕ, zero, suc, �
 use Rattle.std.specs.Prelude.{Contains, IfNone, slice_index_or}
 use Rattle.std.specs.List.{AllByRecursion as Each, find}
 use Rattle.raft_model.proofs.Tests.{eq_tells}
-use Rattle.raft_model.specs.World.{World}
 use Rattle.cluster_rules.specs.Cluster.{Cluster, Pending, Server, applied_of, node_of}
 use Rattle.cluster_rules.proofs.Tools.{each_map}
 use Rattle.cluster_servers.specs.Servers.{Servers}
@@ -16,13 +15,13 @@ use Rattle.cluster_parts.proofs.Finding.{here_first}
 use Rattle.cluster_parts.proofs.Numbered.{each_numbered}
 
 module _ (wt : Watching) where
-  abbrev IsHeld : World → List Server → ℕ → Pending → Type 0
-  IsHeld w servers asked h = standing.IsHeld wt w servers asked h
+  abbrev IsHeld : List Server → ℕ → Pending → Type 0
+  IsHeld servers asked h = standing.IsHeld wt servers asked h
 
-  pub awaited_here : (c : Cluster) (i n : ℕ) (h : Pending) → is_early (servers_of c) i h ≡ true → IsHeld c.world c.servers n h → IsAwaited c.world (length (applied_of c i)) h.question h.stand
+  pub awaited_here : (c : Cluster) (i n : ℕ) (h : Pending) → is_early (servers_of c) i h ≡ true → IsHeld c.servers n h → IsAwaited (length (applied_of c i)) h.stand
   awaited_here c i n h passes held =
       let here : h.server ≡ i = eq_tells h.server i (here_first (h.server == i) ((node_of c.world i).halted || is_stand_due (servers_of c) i h.question.asked h.stand) passes) in
-      subst (λ k. IsAwaited c.world (length (applied_of c k)) h.question h.stand) here held.awaited
+      subst (λ k. IsAwaited (length (applied_of c k)) h.stand) here held.awaited
 
   -- what is found nowhere among those that are awake
   awake_by : (test : ℕ → Bool) (n : ℕ) (numbers : List ℕ) (d : ℕ) (b : Bool) → test n ≡ b → cond b (Some n) (find test numbers) ≡ None → (find test numbers ≡ None → (k : ℕ) → k < length numbers → test (slice_index_or numbers k d) ≡ false)
@@ -51,10 +50,10 @@ module _ (wt : Watching) where
   one_fails test all h mine covers none (inl awake) = tests_not test h.question.number all h mine (none h.question.number (covers awake))
   one_fails test all h mine covers none (inr fails) = fails
 
-  all_fail : (test : Pending → Bool) (all : List Pending) (w : World) (servers : List Server) (n : ℕ) → ((number : ℕ) → number ≤ n → MayBeDue number wt → Contains wt.watch.awake number) → NonePasses (λ number. test_held test (numbered_in number all)) wt.watch.awake
-      → (held : List Pending) → Each (IsHeld w servers n) held → Each (λ (h : Pending). numbered_in h.question.number all ≡ Some h) held → Each (λ (h : Pending). MayBeDue h.question.number wt ⊎ (test h ≡ false)) held → Each (λ (h : Pending). test h ≡ false) held
-  all_fail test all w servers n covers none [] each mine only = tt
-  all_fail test all w servers n covers none (h ∷ held) each mine only = (one_fails test all h mine.0 (covers h.question.number each.0.numbered) none only.0, all_fail test all w servers n covers none held each.1 mine.1 only.1)
+  all_fail : (test : Pending → Bool) (all : List Pending) (servers : List Server) (n : ℕ) → ((number : ℕ) → number ≤ n → MayBeDue number wt → Contains wt.watch.awake number) → NonePasses (λ number. test_held test (numbered_in number all)) wt.watch.awake
+      → (held : List Pending) → Each (IsHeld servers n) held → Each (λ (h : Pending). numbered_in h.question.number all ≡ Some h) held → Each (λ (h : Pending). MayBeDue h.question.number wt ⊎ (test h ≡ false)) held → Each (λ (h : Pending). test h ≡ false) held
+  all_fail test all servers n covers none [] each mine only = tt
+  all_fail test all servers n covers none (h ∷ held) each mine only = (one_fails test all h mine.0 (covers h.question.number each.0.numbered) none only.0, all_fail test all servers n covers none held each.1 mine.1 only.1)
 
   -- the same of a search among them
   none_passes : (test : Pending → Bool) (s : Servers) (r : Requests) (asked : ℕ) (numbers : List ℕ) (found : Option ℕ) → standing.Stands wt s.world s.servers r → Each (λ (h : Pending). MayBeDue h.question.number wt ⊎ (test h ≡ false)) r.held → asked ≡ r.asked
@@ -62,7 +61,7 @@ module _ (wt : Watching) where
   none_passes test s r asked numbers (Some n) stands only all covers same e = tt
   none_passes test s r asked numbers None stands only all covers same e =
       let tests : ℕ → Bool = λ number. test_held test (numbered_in number r.held) in
-      all_fail test r.held s.world s.servers r.asked (λ number l. covers number (omega (arith, l, all)))
+      all_fail test r.held s.servers r.asked (λ number l. covers number (omega (arith, l, all)))
       (λ n there. awake_passes_not tests wt.watch.awake n (ap (find tests) (sym same) ∙ sym e) there)
       r.held stands.held (each_numbered r.held stands.ascends) only
 

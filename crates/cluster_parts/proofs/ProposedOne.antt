@@ -10,7 +10,7 @@ use Rattle.raft_model.specs.Step.{NodeStep, LogFails, Outcome}
 use Rattle.raft_model.specs.World.{World, Acts as NodeActs}
 use Rattle.raft_node.specs.declared.fault.ProposeFault.{ProposeFault}
 use Rattle.raft_node.specs.declared.fault.ProposeFault.TheVariants as fault
-use Rattle.raft_world.specs.Steps.{KeepsAgreement, Proposes}
+use Rattle.raft_world.specs.Steps.{Proposes}
 use Rattle.cluster_rules.specs.Cluster.{Cluster, Server, node_of, runs_leading}
 use Rattle.cluster_rules.specs.Requests.{halted_now, moved}
 use Rattle.cluster_rules.proofs.Boundary.{acts_greatest, acts_server, leader_there, leading_tells, leads_on}
@@ -21,7 +21,7 @@ use Rattle.cluster_parts.specs.declared.moving.Seen.{Seen}
 use Rattle.cluster_parts.specs.Moving.{MarksStep, seen_of}
 use Rattle.cluster_parts.specs.Proposing.{EndedOne, EndsProposal, OneProposed}
 use Rattle.cluster_parts.specs.Standing as standing
-use Rattle.cluster_parts.proofs.Carried.{carries, proposing_goes}
+use Rattle.cluster_parts.proofs.Carried.{acts_many}
 use Rattle.cluster_parts.proofs.Marking.{cluster_marked, stands_proposed}
 use Rattle.agent_rules.specs.Agents.{Agent}
 use Rattle.cluster_parts.specs.Watching.{Watching}
@@ -37,7 +37,7 @@ module _ (gs : List Agent) (wt : Watching) where
   abbrev Ended : ℕ → Command → Cluster → World → List Server → Requests → Result Bool memory.Memory → Type 0
   Ended i command c w' servers r' result = EndedOne gs wt i command c w' servers r' result
 
-  module _ (i : ℕ) (command : Command) (w w' : World) (servers : List Server) (r r' : Requests) (s : Stands w servers r) (keeps : KeepsAgreement w w') (lead : runs_leading w i ≡ true) where
+  module _ (i : ℕ) (command : Command) (w w' : World) (servers : List Server) (r r' : Requests) (s : Stands w servers r) (lead : runs_leading w i ≡ true) where
     abbrev c : Cluster
     c = cluster_of w servers r
 
@@ -52,7 +52,7 @@ module _ (gs : List Agent) (wt : Watching) where
       low = omega (arith, acts_greatest w i (Propose 0 command) w' a, s.proposed)
 
       stands : Stands w' servers r'
-      stands = stands_proposed gs wt (halted_now w w' i) i w w' servers r r' s keeps (carries w w' servers (proposing_goes w i 0 command w' s.reached a) s.sound) low marks
+      stands = stands_proposed gs wt (halted_now w w' i) i w w' servers r r' s (acts_many w i (Propose 0 command) w' a) low marks
 
       entered : (b : Bool) → b ≡ true → has_room (node_of w i) 0 command ≡ true → (node_of w' i).halted ≡ false → Ended i command c w' servers r' (Ok b)
       entered b e room up = record {
@@ -98,14 +98,14 @@ module _ (gs : List Agent) (wt : Watching) where
   -- the same with what was seen
   pub one_ended : (i : ℕ) (command copy : Command) (s₁ s₂ : Servers) (r r' : Requests) (before now : Seen) (agreed : Log) (proposed : Result Place ProposeFault) (result : Result Bool memory.Memory) →
       Stands s₁.world s₁.servers r → runs_leading s₁.world i ≡ true → copy ≡ command → before ≡ seen_of s₁.world i → now ≡ seen_of s₂.world i → agreed ≡ s₂.world.agreed
-      → Proposes s₁.world i 0 copy s₂.world proposed → KeepsAgreement s₁.world s₂.world → s₂.servers ≡ s₁.servers → EndsProposal before now i agreed proposed result r r'
+      → Proposes s₁.world i 0 copy s₂.world proposed → s₂.servers ≡ s₁.servers → EndsProposal before now i agreed proposed result r r'
       → Ended i command (cluster_of s₁.world s₁.servers r) s₂.world s₂.servers r' result
-  one_ended i command copy s₁ s₂ r r' before now agreed proposed result stands lead same_command was seen all made keeps same ends =
+  one_ended i command copy s₁ s₂ r r' before now agreed proposed result stands lead same_command was seen all made same ends =
       let marks : EndsProposal (seen_of s₁.world i) (seen_of s₂.world i) i s₂.world.agreed proposed result r r' =
       subst (λ (z : Seen). EndsProposal z (seen_of s₂.world i) i s₂.world.agreed proposed result r r') was
       (subst (λ (z : Seen). EndsProposal before z i s₂.world.agreed proposed result r r') seen (subst (λ (l : Log). EndsProposal before now i l proposed result r r') all ends)) in
       subst (λ (ss : List Server). Ended i command (cluster_of s₁.world s₁.servers r) s₂.world ss r' result) (sym same)
-      (ended_now i command s₁.world s₂.world s₁.servers r r' stands keeps lead proposed result (subst (λ (x : Command). Proposes s₁.world i 0 x s₂.world proposed) same_command made) marks)
+      (ended_now i command s₁.world s₂.world s₁.servers r r' stands lead proposed result (subst (λ (x : Command). Proposes s₁.world i 0 x s₂.world proposed) same_command made) marks)
 
   -- a proposal for which there is no memory
   pub not_proposed : (i : ℕ) (command : Command) (w : World) (servers : List Server) (r : Requests) (result : Result Bool memory.Memory) (e : memory.Memory) → result ≡ Err e → Stands w servers r → Ended i command (cluster_of w servers r) w servers r result

@@ -6,16 +6,14 @@ use Rattle.cat_model.specs.declared.reply.Mark.{Mark}
 use Rattle.cat_model.specs.declared.request.Event.TheVariants as event
 use Rattle.raft_model.proofs.Tests.{at_bool, eq_tells}
 use Rattle.raft_model.specs.Log.{Log}
-use Rattle.raft_model.specs.Node.{Node, set_server}
-use Rattle.raft_model.specs.World.{World, WorldStep, IsReached}
+use Rattle.raft_model.specs.Node.{set_server}
+use Rattle.raft_model.specs.World.{World, WorldStep}
 use Rattle.raft_model.specs.World as world
-use Rattle.raft_world.specs.Steps.{KeepsAgreement}
-use Rattle.cluster_rules.specs.Cluster.{Cluster, Ended, Pending, Server, no_node, no_server, node_of, server_of}
+use Rattle.cluster_rules.specs.Cluster.{Cluster, Ended, Pending, Server, no_server, node_of, server_of}
 use Rattle.cluster_rules.specs.Requests.{halts_past}
-use Rattle.cluster_rules.specs.Sound.{Ascends, ServerIsSound}
+use Rattle.cluster_rules.specs.Sound.{Ascends}
 use Rattle.cluster_rules.specs.Step.{begun_anew, ended, events_in, restarts}
-use Rattle.cluster_rules.proofs.Grows.{GoesTo, goes_by}
-use Rattle.cluster_rules.proofs.Tools.{eq_tells_not, is_place, item_other, item_same, length_set_server}
+use Rattle.cluster_rules.proofs.Tools.{eq_tells_not, item_other, length_set_server}
 use Rattle.open_requests.proofs.Numbering.{entries_uncounted}
 use Rattle.open_requests.specs.Held.{NumbersAll}
 use Rattle.open_requests.specs.Requests.{Requests, cluster_of as whole_of, ended_all}
@@ -23,7 +21,7 @@ use Rattle.cluster_parts.specs.declared.moving.Seen.{Seen}
 use Rattle.cluster_parts.specs.Acting.{Acted, AreAwake}
 use Rattle.cluster_parts.specs.Moving.{IsMarked, seen_of}
 use Rattle.cluster_parts.specs.Standing as standing
-use Rattle.cluster_parts.proofs.Carried.{AreSound, Carries, held_same, server_later, sound_with}
+use Rattle.cluster_parts.proofs.Carried.{held_same, restarting_many}
 use Rattle.cluster_parts.proofs.Marking.{cluster_marked, stands_marked}
 use Rattle.agent_rules.specs.Agents.{Agent}
 use Rattle.cluster_parts.specs.Watching.{Watching, MayBeDue}
@@ -36,8 +34,8 @@ module _ (gs : List Agent) (wt : Watching) where
   abbrev Stands : World → List Server → Requests → Type 0
   Stands w servers r = standing.Stands wt w servers r
 
-  abbrev IsHeld : World → List Server → ℕ → Pending → Type 0
-  IsHeld w servers asked h = standing.IsHeld wt w servers asked h
+  abbrev IsHeld : List Server → ℕ → Pending → Type 0
+  IsHeld servers asked h = standing.IsHeld wt servers asked h
 
   number_kept : (i made : ℕ) (h : Pending) → (ended i made h).question.number ≡ h.question.number
   number_kept i made h = at_bool (λ b. (cond b (record h { stand = Ended made }) h).question.number ≡ h.question.number) (h.server == i) (λ _. refl) (λ _. refl)
@@ -50,17 +48,14 @@ module _ (gs : List Agent) (wt : Watching) where
   ascends_kept i made [] a = tt
   ascends_kept i made (h ∷ held) a = (above_kept i made h.question.number (ended i made h).question.number held (number_kept i made h) a.0, ascends_kept i made held a.1)
 
-  is_held : (w : World) (servers : List Server) (i made asked : ℕ) (h : Pending) → (h.server ≡ i → MayBeDue h.question.number wt) → IsHeld w servers asked h → IsHeld w (set_server servers i no_server) asked (ended i made h)
-  is_held w servers i made asked h awake s = at_bool (λ b. IsHeld w (set_server servers i no_server) asked (cond b (record h { stand = Ended made }) h)) (h.server == i)
+  is_held : (servers : List Server) (i made asked : ℕ) (h : Pending) → (h.server ≡ i → MayBeDue h.question.number wt) → IsHeld servers asked h → IsHeld (set_server servers i no_server) asked (ended i made h)
+  is_held servers i made asked h awake s = at_bool (λ b. IsHeld (set_server servers i no_server) asked (cond b (record h { stand = Ended made }) h)) (h.server == i)
       (λ e. record { numbered = s.numbered; taken = s.taken; awaited = tt; watched = inl (awake (eq_tells h.server i e)) })
-      (λ e. held_same wt w servers (set_server servers i no_server) asked h (ap (λ (x : Server). x.applied) (item_other no_server servers i h.server no_server (eq_tells_not h.server i e))) s)
+      (λ e. held_same wt servers (set_server servers i no_server) asked h (ap (λ (x : Server). x.applied) (item_other no_server servers i h.server no_server (eq_tells_not h.server i e))) s)
 
-  held_kept : (w : World) (servers : List Server) (i made asked : ℕ) (held : List Pending) → AreAwake wt i held → Each (IsHeld w servers asked) held → Each (IsHeld w (set_server servers i no_server) asked) (map (ended i made) held)
-  held_kept w servers i made asked [] awake all = tt
-  held_kept w servers i made asked (h ∷ held) awake all = (is_held w servers i made asked h awake.0 all.0, held_kept w servers i made asked held awake.1 all.1)
-
-  nothing_sound : (agreed : Log) (commit : ℕ) → ServerIsSound agreed commit no_server
-  nothing_sound agreed commit = record { front = refl; within = omega arith; clocks = refl }
+  held_kept : (servers : List Server) (i made asked : ℕ) (held : List Pending) → AreAwake wt i held → Each (IsHeld servers asked) held → Each (IsHeld (set_server servers i no_server) asked) (map (ended i made) held)
+  held_kept servers i made asked [] awake all = tt
+  held_kept servers i made asked (h ∷ held) awake all = (is_held servers i made asked h awake.0 all.0, held_kept servers i made asked held awake.1 all.1)
 
   -- what server i holds is to be closed
   abbrev ended_with : ℕ → ℕ → Requests → Requests
@@ -69,56 +64,33 @@ module _ (gs : List Agent) (wt : Watching) where
   -- the parts of a server that begins again stand
   stands_ended : (i made : ℕ) (w : World) (servers : List Server) (r : Requests) → AreAwake wt i r.held → Stands w servers r → Stands w (set_server servers i no_server) (ended_with i made r)
   stands_ended i made w servers r awake s = record {
-    reached = s.reached;
     some = omega (arith, s.some, length_set_server servers i no_server);
     count = length_set_server servers i no_server ∙ s.count;
     watching = (s.watching.0 ∙ sym (length_set_server servers i no_server), s.watching.1);
-    sound = sound_with w servers i no_server s.sound (nothing_sound w.agreed (node_of w i).commit);
     proposed = s.proposed;
     ascends = ascends_kept i made r.held s.ascends;
-    held = held_kept w servers i made r.asked r.held awake s.held;
+    held = held_kept servers i made r.asked r.held awake s.held;
   }
 
   ended_marked : (failed : Bool) (i made from : ℕ) (agreed : Log) (r r' : Requests) → IsMarked failed i from agreed r r' → IsMarked failed i from agreed (ended_with i made r) (ended_with i made r')
   ended_marked failed i made from agreed r r' m = ap (ended_with i made) m
 
-  -- No other server's commit fell.
-  restart_carries : (w w' : World) (servers : List Server) (i : ℕ) → IsReached w → length servers ≡ length w.nodes → AreSound w servers → WorldStep w (world.Restarts i) w' → Carries w w' (set_server servers i no_server)
-  restart_carries w w' servers i reached many sound step = record { on = on; count = ap (λ (v : World). length v.nodes) step.4 ∙ length_set_server w.nodes i step.1; sound = each }
-    where
-      on : GoesTo w w'
-      on = goes_by w w' (world.Restarts i) reached step
-
-      place : (0 < i) × (i ≤ length w.nodes)
-      place = is_place w i step.0 step.2
-
-      begun : server_of (set_server servers i no_server) i ≡ no_server
-      begun = item_same no_server servers i no_server place.0 (omega (arith, place.1, many))
-
-      each : AreSound w' (set_server servers i no_server)
-      each j = at_bool (λ b. (j == i) ≡ b → ServerIsSound w'.agreed (node_of w' j).commit (server_of (set_server servers i no_server) j)) (j == i)
-          (λ _ e. subst (λ (x : Server). ServerIsSound w'.agreed (node_of w' j).commit x) (sym (ap (λ k. server_of (set_server servers i no_server) k) (eq_tells j i e) ∙ begun)) (nothing_sound w'.agreed (node_of w' j).commit))
-          (λ _ e. let other = eq_tells_not j i e in
-          let commit : (node_of w' j).commit ≡ (node_of w j).commit = ap (λ (n : Node). n.commit) (ap (λ (v : World). node_of v j) step.4 ∙ item_other no_node w.nodes i j step.1 other) in
-          subst (λ (x : Server). ServerIsSound w'.agreed (node_of w' j).commit x) (sym (item_other no_server servers i j no_server other))
-          (server_later w w' on (node_of w j).commit (node_of w' j).commit (server_of servers j) (omega (arith, commit)) (sound j))) refl
-
-  restart_stands : (failed : Bool) (i : ℕ) (w w' : World) (servers : List Server) (r r' : Requests) → AreAwake wt i r.held → Stands w servers r → KeepsAgreement w w' → WorldStep w (world.Restarts i) w'
+  restart_stands : (failed : Bool) (i : ℕ) (w w' : World) (servers : List Server) (r r' : Requests) → AreAwake wt i r.held → Stands w servers r → WorldStep w (world.Restarts i) w'
       → IsMarked failed i (length w.agreed) w'.agreed r r' → Stands w' (set_server servers i no_server) (ended_all i r')
-  restart_stands failed i w w' servers r r' awake s k step m =
+  restart_stands failed i w w' servers r r' awake s step m =
       let made = events_in r'.past in
-      stands_marked gs wt failed i w w' (set_server servers i no_server) (ended_with i made r) (ended_with i made r') (stands_ended i made w servers r awake s) k
-      (restart_carries w w' servers i s.reached s.count s.sound step) (ap (λ (v : World). v.greatest) step.4) (ended_marked failed i made (length w.agreed) w'.agreed r r' m)
+      stands_marked gs wt failed i w w' (set_server servers i no_server) (ended_with i made r) (ended_with i made r') (stands_ended i made w servers r awake s)
+      (restarting_many w i w' step) (ap (λ (v : World). v.greatest) step.4) (ended_marked failed i made (length w.agreed) w'.agreed r r' m)
 
-  pub restart_acts : (i : ℕ) (w w' : World) (servers servers' : List Server) (r r₁ r' : Requests) (before now : Seen) (agreed : Log) → AreAwake wt i r.held → Stands w servers r → KeepsAgreement w w' → servers' ≡ set_server servers i no_server → WorldStep w (world.Restarts i) w'
+  pub restart_acts : (i : ℕ) (w w' : World) (servers servers' : List Server) (r r₁ r' : Requests) (before now : Seen) (agreed : Log) → AreAwake wt i r.held → Stands w servers r → servers' ≡ set_server servers i no_server → WorldStep w (world.Restarts i) w'
       → before ≡ seen_of w i → now ≡ seen_of w' i → agreed ≡ w'.agreed → IsMarked now.halted i before.agreed agreed r r₁ → r' ≡ ended_all i r₁ → Acted gs wt i (event.Restart i) (cluster_of w servers r) w' servers' r' (Ok tt)
-  restart_acts i w w' servers servers' r r₁ r' before now agreed awake s k same step was seen all m e =
+  restart_acts i w w' servers servers' r r₁ r' before now agreed awake s same step was seen all m e =
       let failed = (node_of w' i).halted in
       let marks : IsMarked failed i (length w.agreed) w'.agreed r r₁ = subst (λ (z : Seen). IsMarked failed i z.agreed w'.agreed r r₁) was (subst (λ (z : Seen). IsMarked z.halted i before.agreed w'.agreed r r₁) seen (subst (λ (l : Log). IsMarked now.halted i before.agreed l r r₁) all m)) in
       let moves = cluster_marked gs wt failed i w w' servers r r₁ marks in
       subst (λ (q : Requests). Acted gs wt i (event.Restart i) (cluster_of w servers r) w' servers' q (Ok tt)) (sym e)
       (subst (λ (l : List Server). Acted gs wt i (event.Restart i) (cluster_of w servers r) w' l (ended_all i r₁) (Ok tt)) (sym same)
-      (record { stands = restart_stands failed i w w' servers r r₁ awake s k step marks; whole = (restarts w' refl refl step (ap (begun_anew i) moves), tt); cut = tt }))
+      (record { stands = restart_stands failed i w w' servers r r₁ awake s step marks; whole = (restarts w' refl refl step (ap (begun_anew i) moves), tt); cut = tt }))
 
 -- a halt is no event
 halt_uncounted : (failed : Bool) (i : ℕ) (past : List Mark) → events_in (halts_past i failed past) ≡ events_in past
@@ -139,12 +111,12 @@ module _ (wt : Watching) where
   abbrev AreGiven : ℕ → List Pending → Type 0
   AreGiven asked held = Each (λ (h : Pending). h.question.number ≤ asked) held
 
-  are_given : (w : World) (servers : List Server) (asked : ℕ) (held : List Pending) → Each (standing.IsHeld wt w servers asked) held → AreGiven asked held
-  are_given w servers asked [] all = tt
-  are_given w servers asked (h ∷ held) all = (all.0.numbered, are_given w servers asked held all.1)
+  are_given : (servers : List Server) (asked : ℕ) (held : List Pending) → Each (standing.IsHeld wt servers asked) held → AreGiven asked held
+  are_given servers asked [] all = tt
+  are_given servers asked (h ∷ held) all = (all.0.numbered, are_given servers asked held all.1)
 
   pub still_numbered : (failed : Bool) (i from : ℕ) (agreed : Log) (w : World) (servers : List Server) (r r' : Requests) → standing.Stands wt w servers r → IsMarked failed i from agreed r r' → AreGiven r'.asked r'.held
-  still_numbered failed i from agreed w servers r r' s m = subst (λ (q : Requests). AreGiven q.asked q.held) (sym m) (are_given w servers r.asked r.held s.held)
+  still_numbered failed i from agreed w servers r r' s m = subst (λ (q : Requests). AreGiven q.asked q.held) (sym m) (are_given servers r.asked r.held s.held)
 
   -- where the numbers of what is awake tell all of which something may be due
   abbrev Covers : ℕ → List ℕ → Type 0

@@ -1,8 +1,7 @@
 -- A turn does what is due first, and leaves less to do.
-use Rattle.std.proofs.Common.{◌≡◌, ◌⊎◌, inl, inr, ℕ, ◌<◌, ◌≤◌, true, length, List, [], ◌∷◌, ◌++◌, None, sym, ap, ◌∙◌, subst, arith}
-use Rattle.raft_model.specs.Node.{Node}
-use Rattle.raft_model.specs.World.{World, IsReached, IsServer}
-use Rattle.cluster_rules.specs.Cluster.{Cluster, Pending, Server, no_node, node_of}
+use Rattle.std.proofs.Common.{◌≡◌, ℕ, ◌<◌, ◌≤◌, true, length, List, [], ◌∷◌, ◌++◌, None, sym, ap, ◌∙◌, subst, arith}
+use Rattle.raft_model.specs.World.{World}
+use Rattle.cluster_rules.specs.Cluster.{Cluster, Pending, Server, node_of}
 use Rattle.agent_rules.specs.Agents.{Agent}
 use Rattle.cluster_rules.specs.Due.{Applies, Closes, Holds, IsDue, Replies, Work, did, due, early, early_work, first_work, late, late_work, next_one, next_work}
 use Rattle.cluster_rules.proofs.Cases.{no_work}
@@ -13,9 +12,7 @@ use Rattle.std.specs.List.{AllByRecursion as Each}
 use Rattle.cluster_rules.specs.Left.{left}
 use Rattle.cluster_rules.specs.Reached.{IsServerNumber}
 use Rattle.cluster_rules.specs.Sound.{Ascends}
-use Rattle.cluster_rules.proofs.Boundary.{commit_within}
 use Rattle.cluster_rules.proofs.Measure.{did_less}
-use Rattle.cluster_rules.proofs.Tools.{there_or_none}
 use Rattle.cluster_servers.specs.Servers.{Servers}
 use Rattle.open_requests.specs.Requests.{Requests, cluster_of as whole_of}
 use Rattle.cluster_parts.specs.declared.work.Work as own
@@ -32,17 +29,10 @@ module _ (wt : Watching) where
   abbrev Stands : World → List Server → Requests → Type 0
   Stands w servers r = standing.Stands wt w servers r
 
-  committed_within : (w : World) → IsReached w → (i : ℕ) → (node_of w i).commit ≤ length (node_of w i).log
-  committed_within w reached i = by (there_or_none w i)
-    where
-      by : (node_of w i ≡ no_node) ⊎ IsServer w i (node_of w i) → (node_of w i).commit ≤ length (node_of w i).log
-      by (inl none) = subst (λ (n : Node). n.commit ≤ length n.log) (sym none) (omega arith)
-      by (inr there) = commit_within w reached i (node_of w i) there
-
-  pub less_left : (w : World) (servers : List Server) (r : Requests) (c new : Cluster) (i : ℕ) → Stands w servers r → cluster_of w servers r ≡ c → IsServerNumber c i → Turned i true c new → left i new < left i c
-  less_left w servers r c new i stands view number done =
+  pub less_left : (w : World) (servers : List Server) (r : Requests) (c new : Cluster) (i : ℕ) → Stands w servers r → (node_of w i).commit ≤ length (node_of w i).log → cluster_of w servers r ≡ c → IsServerNumber c i → Turned i true c new → left i new < left i c
+  less_left w servers r c new i stands within view number done =
       let ascends = subst (λ (d : Cluster). Ascends d.held) view stands.ascends in
-      let kept = subst (λ (d : Cluster). (node_of d.world i).commit ≤ length (node_of d.world i).log) view (committed_within w stands.reached i) in
+      let kept = subst (λ (d : Cluster). (node_of d.world i).commit ≤ length (node_of d.world i).log) view within in
       subst (λ (d : Cluster). left i d < left i c) (sym done.2) (did_less c ascends i number.0 number.1 kept done.0 done.1)
 
   -- what is due is something

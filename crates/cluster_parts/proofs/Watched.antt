@@ -126,25 +126,23 @@ fired_watched old new applied applied' fired h spares up down lines (inr (inl re
     go : RestsAs old applied h.server h.question.number h.question.asked h.stand → IsWatched new applied' h
     go r = by r (down (chans r.query (catalog_at (commands_of applied))) r.deadline r.sleeps)
 
-held_by : (old new : Watching) (w : World) (servers : List Server) (asked : ℕ) (h : Pending) → (IsWatched old (server_of servers h.server).applied h → IsWatched new (server_of servers h.server).applied h) → IsHeld old w servers asked h → IsHeld new w servers asked h
-held_by old new w servers asked h f x = record { numbered = x.numbered; taken = x.taken; awaited = x.awaited; watched = f x.watched }
+held_by : (old new : Watching) (servers : List Server) (asked : ℕ) (h : Pending) → (IsWatched old (server_of servers h.server).applied h → IsWatched new (server_of servers h.server).applied h) → IsHeld old servers asked h → IsHeld new servers asked h
+held_by old new servers asked h f x = record { numbered = x.numbered; taken = x.taken; awaited = x.awaited; watched = f x.watched }
 
-all_by : (old new : Watching) (w : World) (servers : List Server) (asked : ℕ) (held : List Pending) → Each (λ (h : Pending). IsWatched old (server_of servers h.server).applied h → IsWatched new (server_of servers h.server).applied h) held
-    → Each (IsHeld old w servers asked) held → Each (IsHeld new w servers asked) held
-all_by old new w servers asked [] f all = tt
-all_by old new w servers asked (h ∷ held) f all = (held_by old new w servers asked h f.0 all.0, all_by old new w servers asked held f.1 all.1)
+all_by : (old new : Watching) (servers : List Server) (asked : ℕ) (held : List Pending) → Each (λ (h : Pending). IsWatched old (server_of servers h.server).applied h → IsWatched new (server_of servers h.server).applied h) held
+    → Each (IsHeld old servers asked) held → Each (IsHeld new servers asked) held
+all_by old new servers asked [] f all = tt
+all_by old new servers asked (h ∷ held) f all = (held_by old new servers asked h f.0 all.0, all_by old new servers asked held f.1 all.1)
 
 pub stands_by : (old new : Watching) (w : World) (servers : List Server) (r : Requests) → length new.watch.servers ≡ length old.watch.servers → new.seen ≤ r.asked
     → Each (λ (h : Pending). IsWatched old (server_of servers h.server).applied h → IsWatched new (server_of servers h.server).applied h) r.held → Stands old w servers r → Stands new w servers r
 stands_by old new w servers r size seen on s = record {
-  reached = s.reached;
   some = s.some;
   count = s.count;
   watching = (size ∙ s.watching.0, seen);
-  sound = s.sound;
   proposed = s.proposed;
   ascends = s.ascends;
-  held = all_by old new w servers r.asked r.held on s.held;
+  held = all_by old new servers r.asked r.held on s.held;
 }
 
 each_so : (P : Pending → Type 0) → ((h : Pending) → P h) → (held : List Pending) → Each P held

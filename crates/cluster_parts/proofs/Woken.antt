@@ -132,7 +132,7 @@ one_quiet s i clock applied old over reached new w runs h x = by (h.server == i)
 pub only_awake : (s : Servers) (r : Requests) (i clock applied : ℕ) (old over reached new : Watching) → Wakes s i clock applied old over reached new → (node_of s.world i).halted ≡ false → Stands old s.world s.servers r → OnlyAwakeIsDue new s i r.held
 only_awake s r i clock applied old over reached new w runs stands = go r.held stands.held
   where
-    go : (held : List Pending) → Each (IsHeld old s.world s.servers r.asked) held → Each (λ (h : Pending). MayBeDue h.question.number new ⊎ IsQuiet s i h) held
+    go : (held : List Pending) → Each (IsHeld old s.servers r.asked) held → Each (λ (h : Pending). MayBeDue h.question.number new ⊎ IsQuiet s i h) held
     go [] all = tt
     go (h ∷ held) all = (one_quiet s i clock applied old over reached new w runs h all.0.watched, go held all.1)
 
@@ -180,6 +180,6 @@ roused_awake server old new r x w servers s = go r.held s.held
         left h.server h.question.number here (x.slept h.server h.question.number (chans q.query (catalog_at (commands_of (server_of servers h.server).applied))) q.deadline q.sleeps)
     one h (inr (inr line)) here = left h.server h.question.number here (x.lines h.server h.question.number h.stand line)
 
-    go : (held : List Pending) → Each (IsHeld old w servers r.asked) held → AreAwake new server held
+    go : (held : List Pending) → Each (IsHeld old servers r.asked) held → AreAwake new server held
     go [] all = tt
     go (h ∷ held) all = (one h all.0.watched, go held all.1)

@@ -1,7 +1,6 @@
 -- Which of the held requests has something due at a server, by the servers of the cluster.
-use Rattle.std.specs.Prelude.{◌≡◌, ◌⊎◌, ℕ, ◌-◌, nat_le, nat_lt, ◌==◌, not, ◌&&◌, ◌||◌, if◌then◌else◌, Bool, true, false, List, length, take, Option, None, Some}
+use Rattle.std.specs.Prelude.{◌≡◌, ◌⊎◌, ℕ, nat_le, nat_lt, ◌==◌, not, ◌&&◌, ◌||◌, if◌then◌else◌, Bool, true, false, List, length, Option, None, Some}
 use Rattle.std.specs.List.{AllByRecursion as Each, find}
-use Rattle.cat_model.specs.declared.command.Command.{Command}
 use Rattle.cat_model.specs.declared.query.Query.{Query}
 use Rattle.cat_model.specs.declared.request.Request.TheVariants.{Read, Execute}
 use Rattle.cat_model.specs.declared.request.Asked.{Asked}
@@ -10,13 +9,9 @@ use Rattle.cat_model.specs.declared.reply.Kind.TheVariants.{Refused}
 use Rattle.cat_model.specs.declared.reply.Refusal.TheVariants as refusal
 use Rattle.cat_model.specs.Indexes.{index_of}
 use Rattle.cat_model.specs.Log.{commands_of}
-use Rattle.cat_model.specs.Machine.{reply_to}
 use Rattle.raft_model.specs.declared.message.Round.{Round}
 use Rattle.raft_model.specs.Log.{Log}
 use Rattle.raft_model.specs.Rules.{is_confirmed}
-use Rattle.replica.specs.States.{last_reply}
-use Rattle.cluster_rules.specs.Lasting.{IsWrite}
-use Rattle.cluster_rules.specs.Replies.{Question, entered}
 use Rattle.cluster_rules.specs.Cluster.{Cluster, Pending, Stand, AtPlace, InRound, ForIndex, Ended, clock_of, node_of, server_of}
 use Rattle.cluster_rules.specs.Due.{Work, Replies, Holds}
 use Rattle.cluster_servers.specs.Servers.{Servers}
@@ -87,14 +82,6 @@ abbrev pub waits_on : Pending → ℕ → ℕ → Option Work
 waits_on h others deadline =
     if nat_le 4096 others then Some (Replies h.question (Refused (refusal.TooMany others)))
     else Some (Holds (record h { stand = ForIndex deadline true }))
-
--- the last reply is that to this command of the request, entered at this position
-abbrev pub RepliesLast : Question → ℕ → Log → Command → Type 0
-RepliesLast q position log command = last_reply (commands_of log) ≡ Some (reply_to (commands_of (take (position - 1) log)) (entered q command))
-
--- The request is a write, and what was applied last is its entry at this position.
-abbrev pub IsAppliedLast : Question → ℕ → Log → Type 0
-IsAppliedLast q position log = IsWrite q.asked (RepliesLast q position log)
 
 -- Nothing is due of any of these held requests at server i, but for those of which something may be.
 abbrev pub OnlyAwakeIsDue : Watching → Servers → ℕ → List Pending → Type 0

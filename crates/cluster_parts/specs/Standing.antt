@@ -1,7 +1,6 @@
 -- What the parts of a cluster have to do with each other.
 use Rattle.std.specs.Prelude.{◌≡◌, ◌⊎◌, ℕ, ◌<◌, ◌≤◌, true, List, length}
 use Rattle.std.specs.List.{AllByRecursion as Each}
-use Rattle.cat_model.specs.declared.command.Command.{Command}
 use Rattle.cat_model.specs.declared.request.Asked.{Asked}
 use Rattle.cat_model.specs.declared.request.Asked.TheVariants.{Good}
 use Rattle.cat_model.specs.declared.request.Request.TheVariants.{Read}
@@ -9,26 +8,19 @@ use Rattle.cat_model.specs.Channels.{chans}
 use Rattle.cat_model.specs.Indexes.{index_of}
 use Rattle.cat_model.specs.Log.{commands_of}
 use Rattle.cat_model.specs.Machine.{catalog_at}
-use Rattle.raft_model.specs.Facts.{IsPlaced}
 use Rattle.raft_model.specs.Log.{Log}
-use Rattle.raft_model.specs.World.{World, IsReached}
+use Rattle.raft_model.specs.World.{World}
 use Rattle.cluster_parts.specs.Watching.{Watching, IsInLine, MayBeDue, Sleeps}
 use Rattle.cat_model.specs.Taken.{IsTakenAsked}
-use Rattle.cluster_rules.specs.Cluster.{Stand, AtPlace, ForIndex, Pending, Server, node_of, server_of}
-use Rattle.cluster_rules.specs.Lasting.{IsWrite}
-use Rattle.cluster_rules.specs.Replies.{Question, entered}
-use Rattle.cluster_rules.specs.Sound.{Ascends, ServerIsSound}
+use Rattle.cluster_rules.specs.Cluster.{Stand, AtPlace, ForIndex, Pending, Server, server_of}
+use Rattle.cluster_rules.specs.Sound.{Ascends}
 use Rattle.open_requests.specs.Requests.{Requests}
-
--- the entry with which the request enters this command has this place, now and later
-abbrev pub HasPlace : World → ℕ → ℕ → Question → Command → Type 0
-HasPlace w index term q command = IsPlaced w index (record { term = term; number = q.number; command = entered q command })
 
 -- A write waits for its place at a server that has applied so many positions: the place is not among them, or it is the
 -- last of them.
-abbrev pub IsAwaited : World → ℕ → Question → Stand → Type 0
-IsAwaited w applied q (AtPlace index term) = (0 < index) × (applied ≤ index) × IsWrite q.asked (HasPlace w index term q)
-IsAwaited w applied q other = Unit {0}
+abbrev pub IsAwaited : (applied : ℕ) → Stand → Type 0
+IsAwaited applied (AtPlace index term) = applied ≤ index
+IsAwaited applied other = Unit {0}
 
 -- A read sleeps at its server, on just the channels of what it reads there, and its index is not above the one given.
 abbrev pub Rests : Watching → Log → (server number : ℕ) → Asked → Stand → Type 0
@@ -42,21 +34,18 @@ abbrev pub IsWatched : Watching → Log → Pending → Type 0
 IsWatched watch applied h = MayBeDue h.question.number watch ⊎ (Rests watch applied h.server h.question.number h.question.asked h.stand ⊎ IsInLine h.server h.question.number h.stand watch)
 
 -- a held request is one of those that are taken so far, with a number that was given, and is watched
-pub record IsHeld (watch : Watching) (w : World) (servers : List Server) (asked : ℕ) (h : Pending) : Type 0 where
+pub record IsHeld (watch : Watching) (servers : List Server) (asked : ℕ) (h : Pending) : Type 0 where
   pub numbered : h.question.number ≤ asked
   pub taken : IsTakenAsked h.question.asked
-  pub awaited : IsAwaited w (length (server_of servers h.server).applied) h.question h.stand
+  pub awaited : IsAwaited (length (server_of servers h.server).applied) h.stand
   pub watched : IsWatched watch (server_of servers h.server).applied h
 
--- The world is one of a run with as many servers, of which there is one at least, each has applied a front of the agreed
--- log, no proposal has a number above those that were given, and held requests stand in the order of their numbers, each
--- watched.
+-- There is one server at least, the world has as many nodes, no proposal has a number above those that were given, and
+-- held requests stand in the order of their numbers, each watched. Nothing of it rests on what the stores held.
 pub record Stands (watch : Watching) (w : World) (servers : List Server) (r : Requests) : Type 0 where
-  pub reached : IsReached w
   pub some : 0 < length servers
   pub count : length servers ≡ length w.nodes
   pub watching : (length watch.watch.servers ≡ length servers) × (watch.seen ≤ r.asked)
-  pub sound : (i : ℕ) → ServerIsSound w.agreed (node_of w i).commit (server_of servers i)
   pub proposed : w.greatest ≤ r.asked
   pub ascends : Ascends r.held
-  pub held : Each (IsHeld watch w servers r.asked) r.held
+  pub held : Each (IsHeld watch servers r.asked) r.held

@@ -13,6 +13,7 @@ mod ending;
 mod entering;
 mod identifiers;
 mod kinds;
+mod landing;
 mod late;
 mod looking;
 mod moving;

@@ -1,84 +1,31 @@
 //! What is due at a server.
 
-ghost use Rattle.std.specs.Prelude.{◌≡◌, ◌≢◌, ◌≤◌, None, Some, false, true, IfOk, OnErr, is_some, length};
+ghost use Rattle.std.specs.Prelude.{◌≡◌, ◌≢◌, None, Some, false, true, IfOk, OnErr, is_some, length};
 ghost use Rattle.std.specs.List.{AllByRecursion as Each};
-ghost use Rattle.cat_model.specs.declared.reply.Kind.TheVariants as kinds;
 ghost use Rattle.raft_world.specs.Steps.{IsNumber};
 ghost use Rattle.cat_model.specs.Taken.{IsTakenAsked};
-ghost use Rattle.cluster_rules.specs.Cluster.{AtPlace, node_of, server_of};
-ghost use Rattle.cluster_rules.specs.Due.{Replies, due, early_stand, early_work, landed};
-ghost use Rattle.cluster_rules.specs.Sound.{ServerIsSound};
+ghost use Rattle.cluster_rules.specs.Due.{due, early_stand, early_work};
 ghost use Rattle.cluster_parts.specs.Evaluating.{Counts, evaluations, evaluations_of};
-ghost use Rattle.cluster_parts.specs.Looking.{IsAppliedLast, OnlyAwakeIsDue, applied_at, is_early, is_number_early};
+ghost use Rattle.cluster_parts.specs.Looking.{OnlyAwakeIsDue, applied_at, is_early, is_number_early};
 ghost use Rattle.cluster_parts.specs.Standing.{IsAwaited, Stands};
 ghost use Rattle.cluster_parts.specs.Watching.{Watching as SpecWatching};
-ghost use Rattle.cluster_parts.specs.Working.{Finds, IsFound, IsWork, whole};
+ghost use Rattle.cluster_parts.specs.Working.{Finds, IsFound, whole};
 
 use crate::duties::{halted, lost};
 use crate::early::{early_number, is_halted};
+use crate::landing::write_due;
 use crate::late::late_due;
 use crate::reading::read_due;
-use crate::replying::written;
 use crate::waiting::is_ended;
 use crate::waking::wake_due;
 use crate::watching::Watching;
 use crate::work::Work;
-use cat_model::{Kind, Memory, Steps};
+use cat_model::{Memory, Steps};
 use cat_outside::Keeper;
 use cluster_servers::Servers;
-use open_requests::{Pending, Question, Requests, Stand};
+use open_requests::{Pending, Requests, Stand};
 use std::alloc::Global;
 use std::sync::ledger::Ledger;
-
-// A write stands where it was proposed, and was applied last: the last reply is its own.
-#[tactic(auto, using(crate::proofs::LastReply::written_shown))]
-fn acked<K: Keeper>(
-    servers: &Servers<K>,
-    alloc: Global,
-    server: u32,
-    question: &Question,
-    position: u64,
-) -> Result<Work, Memory>
-    requires server { IsNumber server servers.now.world }
-    requires taken { IsTakenAsked question.now.asked }
-    requires last { IsAppliedLast question.now position (applied_at servers.now server) }
-    ensures work { IfOk result (λ work. IsWork (applied_at servers.now server) work (Replies question.now (kinds.Acked position))) }
-    ensures evaluated { IfOk result (λ work. evaluations work ≡ 0) }
-{
-    match servers.reply(alloc, server)? {
-        Some(applied) => Ok(Work::Answer {
-            number: question.number(),
-            kind: Kind::Acked { position },
-            content: written(alloc, question, applied)?,
-        }),
-        None => unreachable!(),
-    }
-}
-
-// What is due of a request whose position is applied.
-fn write_due<K: Keeper>(
-    servers: &Servers<K>,
-    alloc: Global,
-    server: u32,
-    question: &Question,
-    index: u64,
-    term: u64,
-) -> Result<Work, Memory>
-    requires server { IsNumber server servers.now.world }
-    requires taken { IsTakenAsked question.now.asked }
-    requires sound { ServerIsSound servers.now.world.agreed (node_of servers.now.world server).commit (server_of servers.now.servers server) }
-    requires awaited { IsAwaited servers.now.world (length (applied_at servers.now server)) question.now (AtPlace index term) }
-    requires applied { index ≤ length (applied_at servers.now server) }
-    ensures work { IfOk result (λ work. IsWork (applied_at servers.now server) work (Replies question.now (landed index term (applied_at servers.now server)))) }
-    ensures evaluated { IfOk result (λ work. evaluations work ≡ 0) }
-{
-    let found = servers.term_at(server, index);
-    if found == term {
-        acked(servers, alloc, server, question, index)
-    } else {
-        Ok(lost(question.number(), term, found))
-    }
-}
 
 // What is due of a held request by what it waits for.
 #[tactic(auto, using(crate::proofs::Evaluated::counts_none))]
@@ -92,8 +39,7 @@ fn stand_due<K: Keeper, L: Ledger>(
 ) -> Result<Work, Memory>
     requires server { IsNumber server servers.now.world }
     requires taken { IsTakenAsked held.now.question.asked }
-    requires sound { ServerIsSound servers.now.world.agreed (node_of servers.now.world server).commit (server_of servers.now.servers server) }
-    requires awaited { IsAwaited servers.now.world (length (applied_at servers.now server)) held.now.question held.now.stand }
+    requires awaited { IsAwaited (length (applied_at servers.now server)) held.now.stand }
     requires early { is_some (early_stand (whole servers.now requests.now) server held.now held.now.stand) ≡ true }
     ensures found { IfOk result (λ work. IsFound (applied_at servers.now server) (early_stand (whole servers.now requests.now) server held.now held.now.stand) (Some work)) }
     ensures counted { Counts evaluations steps.old steps.new result }
@@ -129,8 +75,7 @@ fn early_due<K: Keeper, L: Ledger>(
 ) -> Result<Work, Memory>
     requires server { IsNumber server servers.now.world }
     requires taken { IsTakenAsked held.now.question.asked }
-    requires sound { ServerIsSound servers.now.world.agreed (node_of servers.now.world server).commit (server_of servers.now.servers server) }
-    requires awaited { IsAwaited servers.now.world (length (applied_at servers.now server)) held.now.question held.now.stand }
+    requires awaited { IsAwaited (length (applied_at servers.now server)) held.now.stand }
     requires early { is_some (early_work (whole servers.now requests.now) server held.now) ≡ true }
     ensures found { IfOk result (λ work. IsFound (applied_at servers.now server) (early_work (whole servers.now requests.now) server held.now) (Some work)) }
     ensures counted { Counts evaluations steps.old steps.new result }

@@ -8,18 +8,14 @@ ghost use Rattle.cat_model.specs.declared.reply.Refusal.TheVariants as refusal;
 ghost use Rattle.cat_model.specs.declared.request.Mode.{Mode as SpecMode};
 ghost use Rattle.cluster_rules.specs.Replies as replies;
 ghost use Rattle.cluster_rules.specs.Replies.{Defers, Holds, Says};
-ghost use Rattle.open_requests.specs.Contents.{content_of, write_content};
+ghost use Rattle.open_requests.specs.Contents.{content_of};
 ghost use Rattle.open_requests.specs.Requests.{reply_with};
 ghost use Rattle.cluster_parts.specs.Agents.{IsThere, agent_at, own_reply};
 
 use crate::agents::Agents;
-use crate::entering::entered;
 use agent_state::unknown;
-use cat_model::{
-    AgentOp, Applied, Asked, Command, Kind, Memory, Mode, Refusal, Request, SessionRow, Shared,
-    Text,
-};
-use open_requests::{Content, Question, Reply};
+use cat_model::{AgentOp, Command, Kind, Memory, Mode, Refusal, SessionRow, Shared, Text};
+use open_requests::{Content, Reply};
 use std::alloc::Global;
 
 fn copy_of(row: Option<&SessionRow>) -> Result<Option<SessionRow>, Memory>
@@ -143,21 +139,5 @@ pub fn own_reply(
         telling(alloc, agents, number, agent, op)
     } else {
         refusing(alloc, number, op)
-    }
-}
-
-/// What a write shows that is done, with the catalog's answer.
-pub fn written(alloc: Global, question: &Question, applied: Applied) -> Result<Content, Memory>
-    ensures { IfOk result (λ content. content_of content ≡ write_content question.now question.now.asked applied) }
-{
-    match question.asked() {
-        Asked::Good(Request::Write { command }) => match entered(alloc, question, command) {
-            Ok(command) => Ok(Content::Tells { command, applied }),
-            Err(Memory) => {
-                drop(applied);
-                Err(Memory)
-            }
-        },
-        _ => Ok(Content::Blank),
     }
 }

@@ -42,6 +42,7 @@ pub fn turn<K: Keeper + Drop, L: Ledger>(
     ensures behind { OnErr result (due server (whole servers.old requests.old) ≢ None) }
     ensures counted { EvaluatesIn (lacking result) steps.old steps.new (whole servers.old requests.old) (whole servers.new requests.new) }
 {
+    servers.stays_behind(server);
     match find(servers, requests, watch, alloc, server, steps) {
         Ok(Some(work)) => match perform(servers, requests, watch, alloc, server, work) {
             Ok(()) => Ok(true),

@@ -42,6 +42,11 @@ AllFollow (n ∷ ns) (r ∷ rs) = Follows n r × AllFollow ns rs
 abbrev pub HasNext : Servers → ℕ → Type 0
 HasNext s i = length (server_of s.servers i).applied < (node_of s.world i).commit
 
+-- Server i has applied no more than its node has committed, and that has committed no more than its log has.
+pub record IsBehind (s : Servers) (i : ℕ) : Type 0 where
+  pub applied : length (server_of s.servers i).applied ≤ (node_of s.world i).commit
+  pub committed : (node_of s.world i).commit ≤ length (node_of s.world i).log
+
 -- server i applies its next position, at its clock's time
 abbrev pub applies_next : ℕ → Servers → Servers
 applies_next i s = record s {

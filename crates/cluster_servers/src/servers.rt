@@ -11,7 +11,7 @@ ghost use Rattle.raft_world.specs.Steps.{IsNumber};
 ghost use Rattle.office_rules.specs.Offices.{has_removed, looks_on, office_from};
 ghost use Rattle.replica.specs.Sparing.{SparesOthers};
 ghost use Rattle.replica.specs.States.{last_reply};
-ghost use Rattle.cluster_servers.specs.Servers.{HasNext, applies_next, officed};
+ghost use Rattle.cluster_servers.specs.Servers.{HasNext, IsBehind, applies_next, officed};
 
 use cat_model::{Answer, Applied, Chan, Entry, List, Memory, Query, Steps};
 use cat_outside::Keeper;
@@ -112,6 +112,15 @@ impl<K: Keeper> Servers<K> {
         ensures { result ≡ nat_lt (length (server_of self.now.servers s).applied) (node_of self.now.world s).commit }
     {
         self.applied(s) < self.node(s).commit()
+    }
+
+    /// A server has applied no more than it has committed, and has committed no more than its log has, whatever its
+    /// store held.
+    pub fn stays_behind(&self, s: u32)
+        requires { IsNumber s self.now.world }
+        ensures { IsBehind self.now s }
+    {
+        self.world.commits_within();
     }
 
     /// The answer to a query at all that a server has applied, with its index. It is one step, also where memory fails.

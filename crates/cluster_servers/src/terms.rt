@@ -22,8 +22,8 @@ fn term_of(found: Option<&Entry>) -> u64
 }
 
 impl<K: Keeper> Servers<K> {
-    // The entry at a position that a server has applied.
-    fn applied_entry(&self, s: u32, position: u64) -> Option<&Entry>
+    /// The entry at a position that a server has applied, if it has applied so many.
+    pub fn applied_entry(&self, s: u32, position: u64) -> Option<&Entry>
         requires { IsNumber s self.now.world }
         ensures { option_map (λ entry. entry.now) result ≡ entry_at position (server_of self.now.servers s).applied }
     {

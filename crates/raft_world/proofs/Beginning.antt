@@ -93,7 +93,7 @@ first_is servers stores nodes clocks contacts bag few size start c k b =
       count = omega (arith, few, count);
       has_clocks = ap length c ∙ length-replicate servers 0 ∙ sym count;
       has_contacts = ap length k ∙ length-replicate servers None ∙ sym count;
-      seated = λ at n l e. let r = seat_from servers 1 stores nodes start at n l e in record { id = r.0 ∙ add-one at; servers = r.1 ∙ sym count; committed = omega (arith, r.2) };
+      seated = λ at n l e. let r = seat_from servers 1 stores nodes start at n l e in record { id = r.0 ∙ add-one at; servers = r.1 ∙ sym count; committed = omega (arith, r.2); within = omega (arith, r.2) };
       come = subst (λ (z : Bag). AllMayCome (length nodes) z.packets) (sym b) tt;
       stands = tt;
     }

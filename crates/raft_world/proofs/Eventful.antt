@@ -43,15 +43,15 @@ loses p w view k bag some e =
     (packet.0, packet.1, (λ i. record (world_of p) { bag = e i }) ∙ (λ i. record (view i) { bag = record { packets = without k (view i).bag.packets; last = (view i).bag.last } }))
 
 -- the parts once a node is another that has committed no more
-swapped : (p : Parts) → Is p → (at : ℕ) (old new : Node) → at < length p.nodes → get_or p.nodes at old ≡ old → new.id ≡ old.id → new.servers ≡ old.servers → min new.commit (length new.log) ≤ count_of p.agreed
+swapped : (p : Parts) → Is p → (at : ℕ) (old new : Node) → at < length p.nodes → get_or p.nodes at old ≡ old → new.id ≡ old.id → new.servers ≡ old.servers → min new.commit (length new.log) ≤ count_of p.agreed → new.commit ≤ length new.log
     → Stays p.agreed p.nodes (set p.nodes at new) → (contacts : List (Option ℕ)) → length contacts ≡ length p.contacts → Is (record (with_node p at new) { contacts = contacts })
-swapped p is at old new l here id servers most kept contacts same =
+swapped p is at old new l here id servers most within kept contacts same =
     let size : length (set p.nodes at new) ≡ length p.nodes = length-set p.nodes at new in
     record {
       count = omega (arith, is.count, size);
       has_clocks = is.has_clocks ∙ sym size;
       has_contacts = same ∙ is.has_contacts ∙ sym size;
-      seated = seats p.nodes (count_of p.agreed) (count_of p.agreed) at old new is.seated l here (omega arith) id servers most;
+      seated = seats p.nodes (count_of p.agreed) (count_of p.agreed) at old new is.seated l here (omega arith) id servers most within;
       come = subst (λ k. AllMayCome k p.bag.packets) (sym size) is.come;
       stands = kept.stands;
     }
@@ -67,7 +67,7 @@ parted_is p is at n l here log same =
         count = is.count;
         has_clocks = is.has_clocks;
         has_contacts = is.has_contacts;
-        seated = λ j m k e. let was = is.seated j m k e in record { id = was.id; servers = was.servers; committed = omega (arith, was.committed, gone.count) };
+        seated = λ j m k e. let was = is.seated j m k e in record { id = was.id; servers = was.servers; committed = omega (arith, was.committed, gone.count); within = was.within };
         come = is.come;
         stands = gone.stands;
       },
@@ -96,8 +96,9 @@ module _ (p : Parts) (is : Is p) (w : World) (view : world_of p ≡ w) (at s : �
       let seat = is.seated at old there (sym here) in
       let kept = stays p.nodes at old new there (sym here) (λ x f. subst (λ (z : Node). HasFront x z) (sym e) f) p.agreed is.stands in
       let most : min new.commit (length new.log) ≤ count_of p.agreed = omega (arith, seat.committed, ap (λ (n : Node). n.commit) e, ap (λ (n : Node). length n.log) e) in
+      let within : new.commit ≤ length new.log = omega (arith, seat.within, ap (λ (n : Node). n.commit) e, ap (λ (n : Node). length n.log) e) in
       let Goal : World → ℕ → Type 0 = λ v k. WorldStep v (Arms k nth) (world_of (with_node p at new)) in (
-        swapped p is at old new there (sym here) (ap (λ (n : Node). n.id) e) (ap (λ (n : Node). n.servers) e) most kept p.contacts refl,
+        swapped p is at old new there (sym here) (ap (λ (n : Node). n.id) e) (ap (λ (n : Node). n.servers) e) most within kept p.contacts refl,
         subst (λ v. Goal v s) view (subst (λ k. Goal (world_of p) k) called (old, (there, sym here), λ i. record (world_of p) { nodes = set p.nodes at (e i); agreed = kept.list i })),
       )
 
@@ -113,7 +114,7 @@ module _ (p : Parts) (is : Is p) (w : World) (view : world_of p ≡ w) (at s : �
       let kept = stays_apart p.nodes at new (left p.agreed at log) gone.apart gone.stands in
       let q = parted_is p is at old there here log same in
       let Goal : World → ℕ → Type 0 = λ v k. WorldStep v (Restarts k) (world_of (record (with_node (parted p at log) at new) { contacts = set p.contacts at None })) in (
-        swapped (parted p at log) q.0 at old new there (sym here) low.0 low.1 (omega (arith, low.2)) kept (set p.contacts at None) (length-set p.contacts at None),
+        swapped (parted p at log) q.0 at old new there (sym here) low.0 low.1 (omega (arith, low.2)) (omega (arith, low.2)) kept (set p.contacts at None) (length-set p.contacts at None),
         subst (λ v. Goal v s) view (subst (λ k. Goal (world_of p) k) called
             (old, new, (there, sym here), begins, λ i. record (world_of p) { nodes = set p.nodes at new; contacts = set p.contacts at None; agreed = (kept.list ∙ gone.list) i })),
       )

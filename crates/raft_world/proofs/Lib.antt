@@ -1,6 +1,7 @@
 pub mod Counting
 pub mod Numbering
 pub mod Fronting
+pub mod Within
 pub mod Sharing
 pub mod Outgoing
 pub mod Stepped

@@ -24,6 +24,7 @@ use Rattle.raft_world.specs.Worlds.{AllMayCome, IsSeated, IsWorld, MayCome}
 use Rattle.raft_world.proofs.Fronting.{step_kept}
 use Rattle.raft_world.proofs.Outgoing.{AllGo, IsFit, IsPeer, IsShort, step_sends}
 use Rattle.raft_world.proofs.Sharing.{grown_list, grown_stands, stays}
+use Rattle.raft_world.proofs.Within.{step_within}
 
 -- a world's parts
 pub record Parts : Type 0 where
@@ -100,13 +101,13 @@ grown_same : (a : Agreed) (at c : ℕ) → c ≤ count_of a → grown a at c ≡
 grown_same a at c l = at_bool (λ b. nat_lt (count_of a) c ≡ b → cond b (Committed at c) a ≡ a) (nat_lt (count_of a) c) (λ _ e. absurd (grind (arith, nat_tests))) (λ _ e. refl) refl
 
 seat_up : (servers a b at : ℕ) (n : Node) → a ≤ b → IsSeated servers a at n → IsSeated servers b at n
-seat_up servers a b at n l s = record { id = s.id; servers = s.servers; committed = omega (arith, s.committed) }
+seat_up servers a b at n l s = record { id = s.id; servers = s.servers; committed = omega (arith, s.committed); within = s.within }
 
 -- the seats, once the node at a place is another with the same numbers
 pub seats : (nodes : List Node) (a b at : ℕ) (old new : Node) → ((j : ℕ) (n : Node) → j < length nodes → get_or nodes j n ≡ n → IsSeated (length nodes) a j n)
-    → at < length nodes → get_or nodes at old ≡ old → a ≤ b → new.id ≡ old.id → new.servers ≡ old.servers → min new.commit (length new.log) ≤ b
+    → at < length nodes → get_or nodes at old ≡ old → a ≤ b → new.id ≡ old.id → new.servers ≡ old.servers → min new.commit (length new.log) ≤ b → new.commit ≤ length new.log
     → (j : ℕ) (n : Node) → j < length (set nodes at new) → get_or (set nodes at new) j n ≡ n → IsSeated (length (set nodes at new)) b j n
-seats nodes a b at old new all l here up id servers most j n k e = go (eqb_tells j at)
+seats nodes a b at old new all l here up id servers most within j n k e = go (eqb_tells j at)
   where
     size : length (set nodes at new) ≡ length nodes
     size = length-set nodes at new
@@ -116,10 +117,10 @@ seats nodes a b at old new all l here up id servers most j n k e = go (eqb_tells
         let same : new ≡ n = sym (get_or-set_same nodes at new n l) ∙ ap (λ i. get_or (set nodes at new) i n) (sym q.1) ∙ e in
         let was = all at old l here in
         subst (λ (m : Node). IsSeated (length (set nodes at new)) b j m) same
-        (record { id = id ∙ was.id ∙ ap suc (sym q.1); servers = servers ∙ was.servers ∙ sym size; committed = most })
+        (record { id = id ∙ was.id ∙ ap suc (sym q.1); servers = servers ∙ was.servers ∙ sym size; committed = most; within = within })
     go (inr q) =
         let was = all j n (omega (arith, k, size)) (sym (get_or-set_other nodes at j new n q.1) ∙ e) in
-        record { id = was.id; servers = was.servers ∙ sym size; committed = omega (arith, was.committed) }
+        record { id = was.id; servers = was.servers ∙ sym size; committed = omega (arith, was.committed); within = was.within }
 
 module _ (p : Parts) (is : Is p) (at : ℕ) (l : at < length p.nodes) (old new : Node) (here : get_or p.nodes at old ≡ old) where
   size : length (set p.nodes at new) ≡ length p.nodes
@@ -142,7 +143,7 @@ module _ (p : Parts) (is : Is p) (at : ℕ) (l : at < length p.nodes) (old new :
         has_clocks = is.has_clocks ∙ sym size;
         has_contacts = at_bool (λ b. length (cond b (set p.contacts at (Some (get_or p.clocks at 0))) p.contacts) ≡ length (set p.nodes at new)) (says_yes sent)
             (λ _. length-set p.contacts at (Some (get_or p.clocks at 0)) ∙ is.has_contacts ∙ sym size) (λ _. is.has_contacts ∙ sym size);
-        seated = seats p.nodes (count_of p.agreed) (count_of (grown p.agreed at c)) at old new is.seated l here up.0 out.0 out.1 up.1;
+        seated = seats p.nodes (count_of p.agreed) (count_of (grown p.agreed at c)) at old new is.seated l here up.0 out.0 out.1 up.1 (step_within outcome old input new sent step seat.within);
         come = subst (λ k. AllMayCome k (posted_all (suc at) sent p.bag).packets) (sym size) (posts_come (length p.nodes) (suc at) sent p.bag (omega arith, omega arith) go is.come);
         stands = grown_stands (set p.nodes at new) at new (omega (arith, l, size)) here_now p.agreed c refl kept.stands;
       }

@@ -39,6 +39,10 @@ StepsWorking w i input w' = (acts : Acts w i input w') × (acts.outcome ≡ Work
 abbrev pub KeepsAgreement : World → World → Type 0
 KeepsAgreement w w' = IsReached w → IsReached w' × Agrees w' × (take (length w.agreed) w'.agreed ≡ w.agreed)
 
+-- No server has committed more than its log has, whatever its store held.
+abbrev pub CommitsWithin : World → Type 0
+CommitsWithin w = (s : ℕ) (n : Node) → IsServer w s n → n.commit ≤ length n.log
+
 -- the message of this number makes its receiver step, so; where there is none, nothing is said
 abbrev pub Delivers : (World → ℕ → Input → World → Type 0) → World → ℕ → World → Type 0
 Delivers steps w k w' = (p : Packet) × (numbered k w.bag.packets ≡ Some p) × steps w p.to (Receive p.from p.message) w'

@@ -18,11 +18,12 @@ AllMayCome servers [] = Unit {0}
 AllMayCome servers (p ∷ ps) = MayCome servers p × AllMayCome servers ps
 
 -- The node at a place, of so many, where so many entries are agreed: it has that place's number, and it has not
--- committed more.
+-- committed more, nor more than its log has.
 pub record IsSeated (total agreed at : ℕ) (n : Node) : Type 0 where
   pub id : n.id ≡ suc at
   pub servers : n.servers ≡ total
   pub committed : min n.commit (length n.log) ≤ agreed
+  pub within : n.commit ≤ length n.log
 
 -- What always holds of a world's parts.
 pub record IsWorld (nodes : List Node) (clocks : List ℕ) (contacts : List (Option ℕ)) (packets : List Packet) (agreed : Agreed) : Type 0 where

@@ -5,7 +5,7 @@ ghost use Rattle.std.specs.Option.{option_copied, option_map};
 ghost use Rattle.raft_model.specs.Node.{of_server};
 ghost use Rattle.raft_model.specs.World.{IsServer, numbered};
 ghost use Rattle.raft_world.specs.Packets.{IsLowest, first_of};
-ghost use Rattle.raft_world.specs.Steps.{IsNumber, contact_of};
+ghost use Rattle.raft_world.specs.Steps.{CommitsWithin, IsNumber, contact_of};
 
 use crate::agreed::Agreed;
 use crate::bag::{Bag, Packet};
@@ -63,6 +63,13 @@ impl<K: Keeper> World<K> {
         ensures { IsServer self.now s result.now }
     {
         &self.nodes[place(s)]
+    }
+
+    /// No server has committed more than its log has, whatever the stores held.
+    pub fn commits_within(&self)
+        ensures { CommitsWithin self.now }
+    {
+        let _nodes = &self.nodes;
     }
 
     /// The clock of a server, in milliseconds.

@@ -20,4 +20,4 @@ returns-in-Err g c = λ gs. nothing_acted gs c.args.watch.now c.args.server (eve
 pub returns : goal.returns
 returns g c = λ gs.
     restart_acts gs c.args.watch.now c.args.server c.args.servers.now.world c.restart.new.self.world c.args.servers.now.servers c.restart.new.self.servers c.args.requests.now c.mark.new.requests c.end_held.new.requests c.see-before.result c.see-now.result c.agreed.result.now
-    c.requires.awake c.requires.stands c.restart.ensures.agreement c.in-Ok.ensures.begins c.in-Ok.ensures.ok c.see-before.ensures.seen c.see-now.ensures.seen c.agreed.ensures c.mark.ensures c.end_held.ensures
+    c.requires.awake c.requires.stands c.in-Ok.ensures.begins c.in-Ok.ensures.ok c.see-before.ensures.seen c.see-now.ensures.seen c.agreed.ensures c.mark.ensures c.end_held.ensures

@@ -12,18 +12,15 @@ use Rattle.cluster_parts.proofs.looking.early_of.Goals as goal
 pub early_due-requires-clause-taken : goal.early_due-requires-clause-taken
 early_due-requires-clause-taken g c =
     let found = (sym c.pending.ensures ∙ ap option_copied c.in-Some.is) in
-    (each_one (IsHeld c.requires.stands.0 c.args.servers.now.world c.args.servers.now.servers c.args.requests.now.asked) (λ (h : Pending). h.question.number == c.args.number) c.args.requests.now.held c.in-Some.held.now
+    (each_one (IsHeld c.requires.stands.0 c.args.servers.now.servers c.args.requests.now.asked) (λ (h : Pending). h.question.number == c.args.number) c.args.requests.now.held c.in-Some.held.now
     (one_found (λ (h : Pending). h.question.number == c.args.number) c.args.requests.now.held c.in-Some.held.now found) c.requires.stands.1.held).taken
-
-pub early_due-requires-clause-sound : goal.early_due-requires-clause-sound
-early_due-requires-clause-sound g c = c.requires.stands.1.sound c.args.server
 
 pub early_due-requires-clause-awaited : goal.early_due-requires-clause-awaited
 early_due-requires-clause-awaited g c =
     let found = (sym c.pending.ensures ∙ ap option_copied c.in-Some.is) in
     awaited_here c.requires.stands.0 (whole c.args.servers.now c.args.requests.now) c.args.server c.args.requests.now.asked c.in-Some.held.now
     (passes (is_early c.args.servers.now c.args.server) c.args.number c.args.requests.now.held c.in-Some.held.now found c.requires.early)
-    (each_one (IsHeld c.requires.stands.0 c.args.servers.now.world c.args.servers.now.servers c.args.requests.now.asked) (λ (h : Pending). h.question.number == c.args.number) c.args.requests.now.held c.in-Some.held.now
+    (each_one (IsHeld c.requires.stands.0 c.args.servers.now.servers c.args.requests.now.asked) (λ (h : Pending). h.question.number == c.args.number) c.args.requests.now.held c.in-Some.held.now
     (one_found (λ (h : Pending). h.question.number == c.args.number) c.args.requests.now.held c.in-Some.held.now found) c.requires.stands.1.held)
 
 pub early_due-requires-clause-early : goal.early_due-requires-clause-early

@@ -10,4 +10,4 @@ returns g c =
     let copied : c.in_ok-copy.copy ≡ c.args.command.now = search rules in
     λ gs wt s. one_ended gs wt c.args.server c.args.command.now c.in_ok-copy.copy c.args.servers.now c.propose-proposed.new.self c.args.requests.now c.end_proposal.new.requests
     c.see-before.result c.see-now.result c.agreed.result.now c.propose-proposed.result c.end_proposal.result s c.requires.leads copied c.see-before.ensures.seen c.see-now.ensures.seen c.agreed.ensures
-    c.propose-proposed.ensures.answer c.propose-proposed.ensures.agreement c.propose-proposed.ensures.servers c.end_proposal.ensures
+    c.propose-proposed.ensures.answer c.propose-proposed.ensures.servers c.end_proposal.ensures

@@ -19,7 +19,8 @@ returns-in-Ok-clause-left g c = λ _.
     let number = c.requires.server in
     let before = whole c.args.servers.now c.args.requests.now in
     let after = whole c.perform.new.servers c.perform.new.requests in
-    less_left c.args.watch.now c.args.servers.now.world c.args.servers.now.servers c.args.requests.now before after c.args.server c.requires.stands refl
+    less_left c.args.watch.now c.args.servers.now.world c.args.servers.now.servers c.args.requests.now before after c.args.server c.requires.stands
+    c.stays_behind.ensures.committed refl
     (number.0, omega (arith, number.1, c.requires.stands.count)) (did_turned c.args.server c.in-Ok-Some.work before after c.in-Ok.ensures.done)
 
 pub perform-requires-clause-due : goal.perform-requires-clause-due

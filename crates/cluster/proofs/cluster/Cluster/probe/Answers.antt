@@ -28,18 +28,18 @@ invariant_of-self-2 g c =
     let ready : c.prepare.new.self ≡ record c.self.inside.requests { room = 4 } = search rules in
     (done_probe c.self.inside.agents c.self.inside.watch c.self.inside.servers c.probe-probed.new.self c.self.inside.requests c.prepare.new.self c.end_probe.new.requests c.args.server c.args.read c.args.deadline c.args.self.now c.see-before.result c.see-now.result c.agreed.result.now c.probe-probed.result c.end_probe.result
     c.self.invariant c.self.view_is c.requires.come c.requires.read c.requires.taken c.requires.go ready c.see-before.ensures.seen c.see-now.ensures.seen c.agreed.ensures
-    c.probe-probed.ensures.ok c.probe-probed.ensures.err c.probe-probed.ensures.agreement c.probe-probed.ensures.servers c.end_probe.ensures).2
+    c.probe-probed.ensures.ok c.probe-probed.ensures.err c.probe-probed.ensures.servers c.end_probe.ensures).2
 
 pub returns-clause-ok : goal.returns-clause-ok
 returns-clause-ok g c =
     let ready : c.prepare.new.self ≡ record c.self.inside.requests { room = 4 } = search rules in
     (read_probed c.self.inside.agents c.self.inside.watch c.self.inside.servers c.probe-probed.new.self c.self.inside.requests c.prepare.new.self c.end_probe.new.requests c.args.server c.args.read c.args.deadline c.args.self.now _ c.see-before.result c.see-now.result c.agreed.result.now c.probe-probed.result c.end_probe.result
     c.self.invariant c.self.view_is c.requires.come c.requires.read c.requires.taken c.requires.go ready c.see-before.ensures.seen c.see-now.ensures.seen c.agreed.ensures
-    c.probe-probed.ensures.ok c.probe-probed.ensures.err c.probe-probed.ensures.agreement c.probe-probed.ensures.servers c.end_probe.ensures refl).0
+    c.probe-probed.ensures.ok c.probe-probed.ensures.err c.probe-probed.ensures.servers c.end_probe.ensures refl).0
 
 pub returns-clause-err : goal.returns-clause-err
 returns-clause-err g c =
     let ready : c.prepare.new.self ≡ record c.self.inside.requests { room = 4 } = search rules in
     (read_probed c.self.inside.agents c.self.inside.watch c.self.inside.servers c.probe-probed.new.self c.self.inside.requests c.prepare.new.self c.end_probe.new.requests c.args.server c.args.read c.args.deadline c.args.self.now _ c.see-before.result c.see-now.result c.agreed.result.now c.probe-probed.result c.end_probe.result
     c.self.invariant c.self.view_is c.requires.come c.requires.read c.requires.taken c.requires.go ready c.see-before.ensures.seen c.see-now.ensures.seen c.agreed.ensures
-    c.probe-probed.ensures.ok c.probe-probed.ensures.err c.probe-probed.ensures.agreement c.probe-probed.ensures.servers c.end_probe.ensures refl).1
+    c.probe-probed.ensures.ok c.probe-probed.ensures.err c.probe-probed.ensures.servers c.end_probe.ensures refl).1

@@ -24,19 +24,19 @@ pub invariant_of-self-2 : goal.invariant_of-self-2
 invariant_of-self-2 g c =
     let ready : c.prepare.new.self ≡ record c.self.inside.requests { room = 4 } = search rules in
     (done_write c.self.inside.agents c.self.inside.watch c.self.inside.servers c.propose-proposed.new.self c.self.inside.requests c.prepare.new.self c.end_write.new.requests c.args.server c.args.write c.args.command c.args.self.now c.see-before.result c.see-now.result c.agreed.result.now c.number-number.result c.propose-proposed.result c.end_write.result
-    c.self.invariant c.self.view_is c.requires.come c.requires.write c.requires.command c.requires.leads c.requires.ready c.requires.free ready c.number-number.ensures c.see-before.ensures.seen c.see-now.ensures.seen c.agreed.ensures
-    c.propose-proposed.ensures.answer c.propose-proposed.ensures.agreement c.propose-proposed.ensures.servers c.end_write.ensures).2
+    c.self.invariant c.stays_behind.ensures c.self.view_is c.requires.come c.requires.write c.requires.command c.requires.leads c.requires.ready c.requires.free ready c.number-number.ensures c.see-before.ensures.seen c.see-now.ensures.seen c.agreed.ensures
+    c.propose-proposed.ensures.answer c.propose-proposed.ensures.servers c.end_write.ensures).2
 
 pub returns-clause-ok : goal.returns-clause-ok
 returns-clause-ok g c =
     let ready : c.prepare.new.self ≡ record c.self.inside.requests { room = 4 } = search rules in
     (write_handled c.self.inside.agents c.self.inside.watch c.self.inside.servers c.propose-proposed.new.self c.self.inside.requests c.prepare.new.self c.end_write.new.requests c.args.server c.args.write c.args.command c.args.self.now _ c.see-before.result c.see-now.result c.agreed.result.now c.number-number.result c.propose-proposed.result c.end_write.result
-    c.self.invariant c.self.view_is c.requires.come c.requires.write c.requires.command c.requires.leads c.requires.ready c.requires.free ready c.number-number.ensures c.see-before.ensures.seen c.see-now.ensures.seen c.agreed.ensures
-    c.propose-proposed.ensures.answer c.propose-proposed.ensures.agreement c.propose-proposed.ensures.servers c.end_write.ensures refl).0
+    c.self.invariant c.stays_behind.ensures c.self.view_is c.requires.come c.requires.write c.requires.command c.requires.leads c.requires.ready c.requires.free ready c.number-number.ensures c.see-before.ensures.seen c.see-now.ensures.seen c.agreed.ensures
+    c.propose-proposed.ensures.answer c.propose-proposed.ensures.servers c.end_write.ensures refl).0
 
 pub returns-clause-err : goal.returns-clause-err
 returns-clause-err g c =
     let ready : c.prepare.new.self ≡ record c.self.inside.requests { room = 4 } = search rules in
     (write_handled c.self.inside.agents c.self.inside.watch c.self.inside.servers c.propose-proposed.new.self c.self.inside.requests c.prepare.new.self c.end_write.new.requests c.args.server c.args.write c.args.command c.args.self.now _ c.see-before.result c.see-now.result c.agreed.result.now c.number-number.result c.propose-proposed.result c.end_write.result
-    c.self.invariant c.self.view_is c.requires.come c.requires.write c.requires.command c.requires.leads c.requires.ready c.requires.free ready c.number-number.ensures c.see-before.ensures.seen c.see-now.ensures.seen c.agreed.ensures
-    c.propose-proposed.ensures.answer c.propose-proposed.ensures.agreement c.propose-proposed.ensures.servers c.end_write.ensures refl).1
+    c.self.invariant c.stays_behind.ensures c.self.view_is c.requires.come c.requires.write c.requires.command c.requires.leads c.requires.ready c.requires.free ready c.number-number.ensures c.see-before.ensures.seen c.see-now.ensures.seen c.agreed.ensures
+    c.propose-proposed.ensures.answer c.propose-proposed.ensures.servers c.end_write.ensures refl).1

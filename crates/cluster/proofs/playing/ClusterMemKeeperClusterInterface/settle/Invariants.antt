@@ -1,4 +1,0 @@
-use Rattle.cluster.proofs.playing.ClusterMemKeeperClusterInterface.settle.Given as goal
-
-abbrev pub ghosts-settle : goal.ghosts-settle
-ghosts-settle a = record { name = a.blank.name; parts = a.blank.parts }
