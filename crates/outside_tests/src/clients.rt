@@ -6,13 +6,13 @@ use crate::echo::Echo;
 use cat_outside::Failed;
 use serve_outside::{Awaited, Limits, Link, Listener, TcpLinks, ThreadSpawner, finish, start};
 use std::alloc::Global;
-use std::io;
 use std::io::{Read, Write};
 use std::net::{Net, Shutdown, SocketAddr, TcpListener, TcpStream};
 use std::os::fd::AsRawFd;
 use std::test::Fail;
 use std::thread::Threads;
 use std::time::{Clock, Duration};
+use std::{io, thread};
 
 // How many links are shut and kept.
 const MANY: usize = 300;
@@ -113,7 +113,7 @@ where
     L: Link + Send + 'static,
     requires still_open { (L.state link).shut ≡ false }
 {
-    match start(&mut ThreadSpawner::new(), rt, Echo { link }) {
+    match start(&mut ThreadSpawner::new(), rt, alloc, Echo { link }) {
         Ok(task) => {
             let heard = says_much(alloc, client);
             drop(finish(rt, task));
@@ -145,6 +145,49 @@ fn read_ends<L: Link>(link: &mut L, what: Awaited) -> bool
 {
     link.expect(what);
     link.read(&mut [0u8; 16]) == Err(Failed)
+}
+
+// Whether a link tells within a second that its client has gone.
+fn goes<R: Clock>(rt: &R, link: &mut impl Link) -> bool {
+    for _ in 0..100 {
+        if link.has_gone() {
+            return true;
+        }
+        thread::sleep(rt, Duration::from_millis(10));
+    }
+    false
+}
+
+// Whether a client that says something and ends is seen to have gone when its bytes were read, and not before.
+fn is_seen_to_go<R: Clock, L: Link>(
+    rt: &R,
+    mut client: TcpStream,
+    link: &mut L,
+) -> Result<bool, Fail>
+    requires still_open { (L.state link.old).shut ≡ false }
+{
+    let silent = link.has_gone();
+    client.write_all(b"hello")?;
+    client.shutdown(Shutdown::Write)?;
+    thread::sleep(rt, Duration::from_millis(20));
+    let speaking = link.has_gone();
+    let heard = link.read(&mut [0u8; 16]);
+    let gone = goes(rt, link);
+    drop(client);
+    Ok(!silent && !speaking && heard == Ok(5) && gone)
+}
+
+#[test]
+fn a_client_that_ends_is_seen_to_go(rt: HostRuntime) -> Result<(), Fail> {
+    let (mut listener, address) = listening(rt)?;
+    let client = TcpStream::connect(&rt, address)?;
+    let mut link = listener.accept()?;
+    let seen = is_seen_to_go(&rt, client, &mut link);
+    link.shut();
+    drop(link);
+    drop(listener);
+    assert!(rt; seen?);
+    Ok(())
 }
 
 #[test]

@@ -2,7 +2,7 @@
 
 use cat_model::{List, Memory};
 use cat_outside::{KeepFail, Keeper};
-use serve_outside::{Keepers, MemKeepers, SureKeepers};
+use serve_outside::{Keepers, MadeStore, MemKeepers, SureKeepers};
 use std::alloc::Global;
 use std::test::Fail;
 
@@ -24,10 +24,10 @@ fn made<K: Keepers>(
     keepers: &mut K,
     server: u32,
 ) -> Result<Option<(u64, usize)>, Memory> {
-    match keepers.make(alloc, server) {
+    match keepers.make(alloc, &None, server) {
         Ok(mut store) => {
             let found = loaded(alloc, &mut store);
-            drop(store);
+            keepers.close(server, store);
             Ok(Some(found?))
         }
         Err(KeepFail::Failed) => Ok(None),
@@ -42,6 +42,14 @@ fn failing_keepers(alloc: Global) -> Result<MemKeepers, Memory> {
     Ok(MemKeepers::new(alloc, second))
 }
 
+// Whether these are the stores of servers 1 and 7.
+fn are_of_one_and_seven(made: &[MadeStore]) -> bool {
+    match made {
+        [first, second] => first.server == 1 && second.server == 7,
+        _ => false,
+    }
+}
+
 // Whether the first store and the third are made, empty, and they alone.
 fn two_are_made(alloc: Global, keepers: &mut MemKeepers) -> Result<bool, Memory> {
     let first = made(alloc, keepers, 1)?;
@@ -51,7 +59,7 @@ fn two_are_made(alloc: Global, keepers: &mut MemKeepers) -> Result<bool, Memory>
         first == Some((0, 0))
             && second.is_none()
             && third == Some((0, 0))
-            && keepers.made() == [1, 7].as_slice(),
+            && are_of_one_and_seven(keepers.made()),
     )
 }
 
@@ -67,6 +75,6 @@ fn stores_in_memory_are_made_empty(rt: HostRuntime) -> Result<(), Fail> {
 
 #[test]
 fn a_store_that_never_fails_is_made_empty(rt: HostRuntime) {
-    let found = made(rt.alloc(), &mut SureKeepers, 1);
+    let found = made(rt.alloc(), &mut SureKeepers::new(), 1);
     assert!(rt; found == Ok(Some((0, 0))));
 }

@@ -98,6 +98,20 @@ fn first_is_served(first: &mut MemLink) -> bool
     follows && first.is_shut()
 }
 
+// Whether a client in memory is there until its script says that it has gone.
+fn goes_by_script(link: &mut MemLink) -> bool {
+    !link.has_gone() && !link.has_gone() && link.has_gone()
+}
+
+#[test]
+fn a_client_in_memory_goes_by_its_script(rt: HostRuntime) -> Result<(), Fail> {
+    let mut link = MemLink::new(rt.alloc(), script(rt.alloc(), b"hello", 1, &[3])?, 1);
+    let goes = goes_by_script(&mut link);
+    drop(link);
+    assert!(rt; goes);
+    Ok(())
+}
+
 // Whether the second connection has its number, says nothing, and stays open.
 fn second_is_served(second: &mut MemLink) -> bool
     requires still_open { (told second.old).shut ≡ false }
@@ -181,12 +195,13 @@ fn is_at_end(client: &mut TcpStream) -> bool {
 // the job is refused.
 fn echoed<L: Link + Send + 'static>(
     rt: &impl Threads,
+    alloc: Global,
     client: &mut TcpStream,
     link: L,
 ) -> Option<(L, bool)>
     requires still_open { (L.state link).shut ≡ false }
 {
-    match start(&mut ThreadSpawner::new(), rt, Echo { link }) {
+    match start(&mut ThreadSpawner::new(), rt, alloc, Echo { link }) {
         Ok(task) => {
             let heard = hears_hello(client);
             Some((finish(rt, task), heard))
@@ -201,6 +216,7 @@ fn echoed<L: Link + Send + 'static>(
 // Whether the client hears its echo, and nothing behind that.
 fn is_served<Li: Listener>(
     rt: &impl Threads,
+    alloc: Global,
     listener: &mut Li,
     client: &mut TcpStream,
 ) -> Result<bool, Failed>
@@ -208,7 +224,7 @@ where
     Li::Link: Send + 'static,
 {
     let link = listener.accept()?;
-    match echoed(rt, client, link) {
+    match echoed(rt, alloc, client, link) {
         Some((link, heard)) => {
             let is_end = is_at_end(client);
             listener.close(link);
@@ -219,7 +235,7 @@ where
 }
 
 // Whether a client is served at a port that the system chooses.
-fn serves_a_client<R>(rt: &R, listener: &mut TcpLinks<R>) -> Result<bool, Fail>
+fn serves_a_client<R>(rt: &R, alloc: Global, listener: &mut TcpLinks<R>) -> Result<bool, Fail>
 where
     R: Threads
         + Net<Listener = TcpListener, Stream = TcpStream>
@@ -234,7 +250,7 @@ where
         return Ok(false);
     };
     let mut client = TcpStream::connect(rt, address)?;
-    let served = is_served(rt, listener, &mut client);
+    let served = is_served(rt, alloc, listener, &mut client);
     drop(client);
     Ok(served?)
 }
@@ -243,7 +259,7 @@ where
 fn links_over_tcp(rt: HostRuntime) -> Result<(), Fail> {
     let mut listener = TcpLinks::new(rt);
     let refused = accept_fails(&mut listener);
-    let served = serves_a_client(&rt, &mut listener);
+    let served = serves_a_client(&rt, rt.alloc(), &mut listener);
     drop(listener);
     assert!(rt; refused);
     assert!(rt; served?);

@@ -15,7 +15,7 @@ use Rattle.serve_loop.specs.declared.cause.Cause.{Cause}
 use Rattle.serve_loop.specs.declared.cause.Cause.TheVariants as cause
 use Rattle.serve_loop.specs.Complete.{AnswersAll, EndsWell, IsUnbroken}
 use Rattle.serve_loop.specs.Jobs.{agent_of}
-use Rattle.serve_loop.specs.Runs.{IsDrawn, IsServed, is_short}
+use Rattle.serve_loop.specs.Runs.{Back, IsBack, IsDrawn, IsServed, is_short, turned_of, was_short}
 use Rattle.serve_loop.specs.Serving.{AreOpen, Closes, EndsBy, Exchange, IsWhole}
 
 -- what was appended to nothing
@@ -68,6 +68,7 @@ module _ (shows : ℕ → Ask → Reply → List Mark → Type 0) (agents : ℕ)
   ended (cause.Refused r) first draw begun known requests seen new drawn shut w long u = whole_of first draw begun known requests seen new drawn shut _ (Some r) (λ es rest e. e) w
   ended cause.ReadFault first draw begun known requests seen new drawn shut w long u = absurd (not_risen first.read_faults link.read_faults new.no_read_faults u.0 w.ends.2)
   ended cause.WriteFault first draw begun known requests seen new drawn shut w long u = absurd (not_risen first.write_faults link.write_faults new.no_write_faults u.1 w.1)
+  ended cause.Left first draw begun known requests seen new drawn shut w long u = absurd (not_risen first.read_faults link.read_faults new.no_read_faults u.0 w.1)
   ended cause.Memory first draw begun known requests seen new drawn shut w long u = absurd (cc long)
 
   answered : (why : Cause) → IsServed shows agents draws Knows link why → is_short why ≡ false → IsUnbroken link → AnswersAll shows agents draws Knows link
@@ -77,9 +78,10 @@ neither : (a b : Bool) → (a || b) ≡ false → (a ≡ false) × (b ≡ false)
 neither true b e = absurd (cc e)
 neither false b e = (refl, e)
 
-pub all_answered : (shows : ℕ → Ask → Reply → List Mark → Type 0) (agents : ℕ) (draws : Option (List Draw)) (Knows : List Mark → Type 0) (links : List (LinkState × Cause)) → AllByRecursion (λ l. IsServed shows agents draws Knows l.0 l.1) links → list_any (λ l. is_short l.1) links ≡ false
-    → AllByRecursion (λ link. IsUnbroken link → AnswersAll shows agents draws Knows link) (map (λ l. l.0) links)
-all_answered shows agents draws Knows [] each long = tt
-all_answered shows agents draws Knows (l ∷ ls) each long =
-    let two = neither (is_short l.1) (list_any (λ (m : LinkState × Cause). is_short m.1) ls) long in
-    (answered shows agents draws Knows l.0 l.1 each.0 two.0, all_answered shows agents draws Knows ls each.1 two.1)
+pub all_answered : (shows : ℕ → Ask → Reply → List Mark → Type 0) (agents : ℕ) (draws : Option (List Draw)) (Knows : List Mark → Type 0) (links : List Back) → AllByRecursion (IsBack shows agents draws Knows) links → turned_of links ≡ 0 → list_any (λ b. was_short b.1) links ≡ false
+    → AllByRecursion (λ link. IsUnbroken link → AnswersAll shows agents draws Knows link) (map (λ b. b.0) links)
+all_answered shows agents draws Knows [] each none long = tt
+all_answered shows agents draws Knows ((link, None) ∷ bs) each none long = absurd (omega (arith, none))
+all_answered shows agents draws Knows ((link, Some why) ∷ bs) each none long =
+    let two = neither (is_short why) (list_any (λ (b : Back). was_short b.1) bs) long in
+    (answered shows agents draws Knows link why each.0 two.0, all_answered shows agents draws Knows bs each.1 none two.1)

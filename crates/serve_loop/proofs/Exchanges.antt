@@ -1,12 +1,10 @@
 -- What is exchanged over a connection, step by step.
 use Rattle.std.proofs.Common.{◌≡◌, ℕ, ◌+◌, ◌<◌, inl, inr, true, false, List, [], ◌∷◌, ◌++◌, length, take, drop, refl, sym, ap, ◌∙◌, subst, arith, append_assoc, append-nil, take-append-drop, Option, Some, None, Result, Ok, Err}
-use Rattle.std.specs.Prelude.{MatchOption, ◌≢◌, MatchResult, IfOk}
+use Rattle.std.specs.Prelude.{◌≢◌, MatchResult, IfErr, IfOk}
 use Rattle.std.specs.Io.KnownBytes.{append_known}
 use Rattle.std.proofs.Math.Seq.{drop-length}
-use Rattle.cat_model.specs.declared.memory.Memory.{Memory}
 use Rattle.cat_model.specs.declared.request.Asked.{Asked}
 use Rattle.cat_model.specs.declared.request.Asked.TheVariants.{Good, Bad}
-use Rattle.cat_model.specs.declared.request.Draw.{Draw}
 use Rattle.cat_model.specs.declared.request.Request.{Request}
 use Rattle.cat_model.specs.declared.reply.Mark.{Mark}
 use Rattle.cat_outside.specs.declared.faults.Failed.{Failed}
@@ -20,16 +18,17 @@ use Rattle.http_wire.specs.Reader.{raw, Takes, Moves}
 use Rattle.http_wire.specs.Replies.{continue_bytes}
 use Rattle.http_wire.specs.State.{Reader, Read, GivesAll, Told, Tells, Feeds, FeedsFrom, stop_of, given_by, seen_by}
 use Rattle.http_wire.specs.Stream.{Raw, Given, go_on, whole, refused, Messages}
-use Rattle.serve_outside.specs.Links.{LinkState, Reads}
+use Rattle.serve_outside.specs.Links.{Leaves, LinkState, Reads}
 use Rattle.turn_lock.specs.declared.knowledge.Knowledge.{Knowledge}
 use Rattle.turn_lock.specs.Lists.{Among}
 use Rattle.turn_lock.proofs.Lists.{among_left}
 use Rattle.serve_loop.specs.declared.cluster.Ask.{Ask}
 use Rattle.serve_loop.specs.declared.cause.Cause.{Cause}
 use Rattle.serve_loop.specs.declared.cause.Cause.TheVariants as cause
-use Rattle.serve_loop.specs.Replies.{refusing}
-use Rattle.serve_loop.specs.Waiting.{Grows, IsAnswered}
-use Rattle.serve_loop.specs.Serving.{Connection, Exchange, continued, replied, items_of, answer_bytes, bytes_of, count_of, last_bytes, AreOpen, OpenBefore, asked_by, IsReply, IsReplyTo, IsResponse, draw_of, unrouted, answered, AreTrue, IsLater, Passed, Came, IsCut, IsWhole, EndsBy}
+use Rattle.serve_loop.specs.declared.turning.NoReply.{NoReply}
+use Rattle.serve_loop.specs.declared.turning.NoReply.TheVariants as no_reply
+use Rattle.serve_loop.specs.Waiting.{Grows, IsAnswered, IsHeld}
+use Rattle.serve_loop.specs.Serving.{Connection, Exchange, continued, replied, items_of, answer_bytes, bytes_of, count_of, last_bytes, AreOpen, OpenBefore, asked_by, IsReply, IsReplyTo, IsResponse, IsUnanswered, draw_of, unrouted, answered, AreTrue, IsLater, Passed, Came, IsCut, EndsBy}
 use Rattle.serve_loop.specs.Stages.{IsAfterWrite, StopsBy, Wrote, Stage, Talks, Owes, OwesRefusal, Comes, GoesOn, IsTaking}
 use Rattle.serve_loop.proofs.OwnTurns.{grows_none, grows_on}
 use Rattle.serve_loop.proofs.Written.{known_nil, known_on, rose_from}
@@ -54,6 +53,11 @@ later_wrote first old new w l = let a = w.ends in let b = w.read_faults in let c
 later_read : (first old new : LinkState) (into : List ℕ) (r : Result ℕ Failed) → Reads old into r new → IsLater first old → IsLater first new
 later_read first old new into r w l = let a = w.at_end.later in let b = w.cause.later in let c = w.write_faults in let d = l.ends in let e = l.read_faults in let f = l.write_faults in
     record { number = w.number ∙ l.number; ends = omega arith; read_faults = omega arith; write_faults = omega arith }
+
+later_left : (first old new : LinkState) → Leaves old true new → IsLater first old → IsLater first new
+later_left first old new w l =
+    let a = ap (λ (k : LinkState). k.ends) w.rest in let b = w.later in let c = ap (λ (k : LinkState). k.write_faults) w.rest in let d = l.ends in let e = l.read_faults in let f = l.write_faults in
+    record { number = ap (λ (k : LinkState). k.number) w.rest ∙ l.number; ends = omega arith; read_faults = omega arith; write_faults = omega arith }
 
 -- what a reader that goes on has read gives no refusal
 gives_none : (stream : List ℕ) (items : List Given) (held : List ℕ) → Read stream items held → GivesAll stream items None
@@ -128,16 +132,19 @@ module _ (shows : ℕ → Ask → Reply → List Mark → Type 0) (c : Connectio
   replies m n reply (Good request) v e a = answered request (sym e) a
   replies m n reply (Bad why) v e is = unrouted why (sym e) is
 
-  pub routed_reply : (m : Raw) (n : ℕ) (r : Result Reply Memory) (asked : Asked) (v : Knowledge Mark) → asked ≡ asked_by m → IfOk r (IsResponse shows c asked n v) → IfOk r (λ reply. IsReply shows c m n reply v)
+  pub routed_reply : (m : Raw) (n : ℕ) (r : Result Reply NoReply) (asked : Asked) (v : Knowledge Mark) → asked ≡ asked_by m → IfOk r (IsResponse shows c asked n v) → IfOk r (λ reply. IsReply shows c m n reply v)
   routed_reply m n (Ok reply) asked v e i = replies m n reply asked v e i
   routed_reply m n (Err f) asked v e i = tt
 
-  pub answered_reply : (request : Request) (n : ℕ) (asked : Asked) (d : Draw) (r : Result Reply Memory) (v : Knowledge Mark) → asked ≡ Good request → d ≡ draw_of c.draw n
-      → IfOk r (λ reply. IsAnswered shows (record { agent = c.agent; asked = asked; draw = d }) reply v.seen v.mine) → IfOk r (IsReplyTo shows c request n v)
-  answered_reply request n asked d (Ok reply) v e f a =
-      subst (λ (z : Asked). IsAnswered shows (record { agent = c.agent; asked = z; draw = draw_of c.draw n }) reply v.seen v.mine) e
-      (subst (λ (z : Draw). IsAnswered shows (record { agent = c.agent; asked = asked; draw = z }) reply v.seen v.mine) f a)
-  answered_reply request n asked d (Err m) v e f a = tt
+  pub answered_by : (request : Request) (n : ℕ) (a : Ask) (r : Result Reply NoReply) (v : Knowledge Mark) → a ≡ record { agent = c.agent; asked = Good request; draw = draw_of c.draw n }
+      → IfOk r (λ reply. IsAnswered shows a reply v.seen v.mine) → IfOk r (IsReplyTo shows c request n v)
+  answered_by request n a (Ok reply) v e x = subst (λ (z : Ask). IsAnswered shows z reply v.seen v.mine) e x
+  answered_by request n a (Err why) v e x = tt
+
+  pub held_by : (request : Request) (n : ℕ) (a : Ask) (r : Result Reply NoReply) (v : Knowledge Mark) → a ≡ record { agent = c.agent; asked = Good request; draw = draw_of c.draw n }
+      → IfErr r (λ why. why ≡ no_reply.Left → IsHeld a v) → IfErr r (λ why. why ≡ no_reply.Left → IsUnanswered shows c (Good request) n v)
+  held_by request n a (Ok reply) v e x = tt
+  held_by request n a (Err why) v e x = λ l. subst (λ (z : Ask). IsHeld z v) e (x l)
 
   -- all that is due was written
   came_whole : (link : LinkState) (v : Knowledge Mark) (es : List Exchange) (stream rest : List ℕ) → Passed shows c link v es (stream ++ rest) (bytes_of es) → GivesAll stream (items_of es) None → Came shows c link v es None rest []
@@ -173,6 +180,7 @@ module _ (shows : ℕ → Ask → Reply → List Mark → Type 0) (c : Connectio
   stopped cause.Closed old new v requests l s x = absurd s
   stopped (cause.Refused why) old new v requests l s x = absurd s
   stopped cause.ReadFault old new v requests l s x = absurd s
+  stopped cause.Left old new v requests l s x = absurd s
 
   -- a Continue
   pub continues : (s : Stage) (new : LinkState) (rest : List ℕ) (r : Result Unit Cause) → Wrote s.link continue_bytes r new → Owes shows c s rest go_on → GoesOn shows c r (record s { link = new }) rest
@@ -254,6 +262,38 @@ module _ (shows : ℕ → Ask → Reply → List Mark → Type 0) (c : Connectio
         → GoesOn shows c r (record s { link = new; requests = n }) rest
     gave_next new (Ok v) w x = gave new w x
     gave_next new (Err why) w x = subst (λ (z : Cause). EndsBy shows c z new s.known n) (sym x.1) (gave_last new w x.0)
+
+  -- the client went away while its request waited
+  pub leaves : (s : Stage) (new : LinkState) (w : Knowledge Mark) (rest : List ℕ) (m : Raw) (n : ℕ) → Owes shows c s rest (whole m) → Grows s.known w → Leaves s.link true new → n ≡ s.requests + 1 → IsUnanswered shows c (asked_by m) n w
+      → EndsBy shows c cause.Left new w s.requests
+  leaves s new w rest m n o g gone e u =
+      let p = passed_later s.link s.known w o.es _ _ g o.passed in (
+        record {
+          es = o.es;
+          last = m;
+          stream = o.stream;
+          rest = rest;
+          passed = record {
+            heard = ap (λ (k : LinkState). k.heard) gone.rest ∙ p.heard;
+            said = ap (λ (k : LinkState). k.said) gone.rest ∙ p.said;
+            are_true = p.are_true;
+            grown = p.grown;
+            later = later_left c.first s.link new gone p.later;
+          };
+          gives = gives_none o.stream (items_of o.es ++ whole m ∷ []) s.reader.held o.told;
+          unanswered = subst (λ (k : ℕ). IsUnanswered shows c (asked_by m) k w) e u;
+          count = o.count;
+          are_open = o.are_open;
+        },
+        rose_from c.first.read_faults s.link.read_faults new.read_faults p.later.read_faults (gone.counted refl),
+      )
+
+  -- what is owed over a link at which nothing has changed
+  pub owes_at : (s : Stage) (new : LinkState) (rest : List ℕ) (given : Given) → new ≡ s.link → Owes shows c s rest given → Owes shows c (record s { link = new }) rest given
+  owes_at s new rest given e o = subst (λ (l : LinkState). Owes shows c (record s { link = l }) rest given) (sym e) o
+
+  pub cut_at : (s : Stage) (new : LinkState) (w : Knowledge Mark) → new ≡ s.link → Grows s.known w → IsCut shows c s.link s.known s.requests → IsCut shows c new w s.requests
+  cut_at s new w e g x = subst (λ (l : LinkState). IsCut shows c l w s.requests) (sym e) (cut_later s.link s.known w s.requests g x)
 
   -- the reply to what is refused
   pub refuses : (s : Stage) (new : LinkState) (why : Rejection) {u : Unit {0}} → Wrote s.link (last_bytes (Some why)) (Ok u) new → OwesRefusal shows c s.link s.known s.requests why → EndsBy shows c (cause.Refused why) new s.known s.requests
@@ -407,39 +447,3 @@ module _ (shows : ℕ → Ask → Reply → List Mark → Type 0) (c : Connectio
   some_used s after piece fed x feeds takes_some taking some =
       let f : FeedsFrom None s.reader piece fed.used fed.got after = subst (λ (o : Option Stop). FeedsFrom o s.reader piece fed.used fed.got after) x.going feeds in
       some_of fed.used piece fed.got s.reader.held after.held f.0 takes_some taking some
-
--- A connection that is shut behind its end has ended in the same way.
-module _ (shows : ℕ → Ask → Reply → List Mark → Type 0) (c : Connection) (link : LinkState) where
-  abbrev shut_link : LinkState
-  shut_link = record link { shut = true }
-
-  came_shut : (v : Knowledge Mark) (es : List Exchange) (rejection : Option Rejection) (rest unwritten : List ℕ) → Came shows c link v es rejection rest unwritten → Came shows c shut_link v es rejection rest unwritten
-  came_shut v all rejection rest unwritten x = let p = x.passed in let l = p.later in record {
-    stream = x.stream;
-    written = x.written;
-    gives = x.gives;
-    due = x.due;
-    passed = record {
-      heard = p.heard;
-      said = p.said;
-      are_true = p.are_true;
-      grown = p.grown;
-      later = record { number = l.number; ends = l.ends; read_faults = l.read_faults; write_faults = l.write_faults };
-    };
-  }
-
-  cut_shut : (v : Knowledge Mark) (n : ℕ) → IsCut shows c link v n → IsCut shows c shut_link v n
-  cut_shut v n x = record { es = x.es; rejection = x.rejection; rest = x.rest; unwritten = x.unwritten; came = came_shut v x.es x.rejection x.rest x.unwritten x.came; least = x.least; most = x.most; open_before = x.open_before }
-
-  whole_shut : (Ends : List Exchange → List ℕ → Type 0) (rejection : Option Rejection) (v : Knowledge Mark) (n : ℕ) → IsWhole shows c Ends rejection link v n → IsWhole shows c Ends rejection shut_link v n
-  whole_shut Ends rejection v n x = record { es = x.es; rest = x.rest; came = came_shut v x.es rejection x.rest [] x.came; count = x.count; ends = x.ends }
-
-  ends_at : (why : Cause) (v : Knowledge Mark) (n : ℕ) → EndsBy shows c why link v n → EndsBy shows c why shut_link v n
-  ends_at cause.Closed v n x = whole_shut _ None v n x
-  ends_at (cause.Refused why) v n x = whole_shut _ (Some why) v n x
-  ends_at cause.ReadFault v n x = whole_shut _ None v n x
-  ends_at cause.WriteFault v n x = (cut_shut v n x.0, x.1)
-  ends_at cause.Memory v n x = cut_shut v n x
-
-  pub ends_shut : (d : Connection) (now : LinkState) (why : Cause) (v : Knowledge Mark) (n : ℕ) → c ≡ d → now ≡ shut_link → EndsBy shows c why link v n → EndsBy shows d why now v n
-  ends_shut d now why v n e f x = subst (λ (z : Connection). EndsBy shows z why now v n) e (subst (λ (z : LinkState). EndsBy shows c why z v n) (sym f) (ends_at why v n x))

@@ -3,6 +3,8 @@ pub mod Clocks
 pub mod OwnTurns
 pub mod Written
 pub mod Exchanges
+pub mod Shutting
+pub mod Leaving
 pub mod Tasks
 pub mod Runs
 pub mod Complete

@@ -1,6 +1,6 @@
 -- A turn for one's own request.
 use Rattle.std.proofs.Common.{◌≡◌, ℕ, inl, inr, ⊎_elim, List, [], ◌∷◌, ◌++◌, length, drop, refl, sym, ap, ◌∙◌, subst, append_assoc, append-nil, Option, Some, None, Result, Ok, Err}
-use Rattle.std.specs.Prelude.{MatchOption, MatchResult, IfOk, IfSome}
+use Rattle.std.specs.Prelude.{MatchResult, IfOk}
 use Rattle.std.proofs.Math.Seq.{drop-append_seam}
 use Rattle.cat_model.specs.declared.memory.Memory.{Memory}
 use Rattle.cat_model.specs.declared.reply.Mark.{Mark}
@@ -18,7 +18,6 @@ use Rattle.serve_loop.specs.Marks.{AddsAsked, AddsCut, AddsQuiet, AreKept, answe
 use Rattle.serve_loop.specs.Collects.{Collects}
 use Rattle.serve_loop.specs.Turns.{Exchanges, Makes, Readies, Turns}
 use Rattle.cluster_rules.specs.Sound.{IsAmong}
-use Rattle.cat_model.specs.declared.request.Asked.{Asked}
 use Rattle.serve_loop.specs.Waiting.{Grows, IsAnswered, IsBehind, Looks, Stands, Waits}
 use Rattle.serve_loop.proofs.MarkLists.{append_none, cut_cut, in_left, in_right, joined, makes_quiet, none_append, quiet_cut, quiet_makes, quiet_quiet}
 

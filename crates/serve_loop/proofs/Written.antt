@@ -32,6 +32,7 @@ stops_from cause.Memory a b c l s = s
 stops_from cause.Closed a b c l s = s
 stops_from (cause.Refused why) a b c l s = s
 stops_from cause.ReadFault a b c l s = s
+stops_from cause.Left a b c l s = s
 
 pub after_none : (link : LinkState) → IsAfterWrite link link
 after_none link = record { number = refl; heard = refl; ends = refl; read_faults = refl; write_faults = omega arith; shut = refl }

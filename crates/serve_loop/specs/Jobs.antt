@@ -1,6 +1,5 @@
 -- The jobs of connections.
 use Rattle.std.specs.Prelude.{◌≡◌, ℕ, ◌+◌, ◌-◌, ◌%◌, true, List, All}
-use Rattle.cat_model.specs.declared.request.Asked.{Asked}
 use Rattle.cat_model.specs.declared.reply.Mark.{Mark}
 use Rattle.cluster_rules.specs.Replies.{Reply}
 use Rattle.serve_outside.specs.Links.{LinkState}

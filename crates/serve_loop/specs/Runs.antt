@@ -1,7 +1,6 @@
 -- The connections of a run.
-use Rattle.std.specs.Prelude.{◌≡◌, ℕ, ◌+◌, ◌-◌, ◌^◌, ◌≤◌, ◌⊎◌, Bool, true, false, List, [], ◌∷◌, ◌++◌, length, map, min, ⊤, Option, Some, None, Result, Ok, Err, OnOk}
+use Rattle.std.specs.Prelude.{◌≡◌, ℕ, ◌+◌, ◌-◌, ◌^◌, ◌≤◌, ◌⊎◌, Bool, true, false, List, [], ◌∷◌, ◌++◌, length, map, min, ◌||◌, ⊤, Option, Some, None, MatchOption, Result, Ok, Err, OnOk}
 use Rattle.std.specs.List.{AllByRecursion, list_any}
-use Rattle.cat_model.specs.declared.request.Asked.{Asked}
 use Rattle.cat_model.specs.declared.request.Draw.{Draw}
 use Rattle.cat_model.specs.declared.reply.Mark.{Mark}
 use Rattle.cat_model.specs.declared.reply.Refusal.TheVariants.{NoWorker}
@@ -96,6 +95,30 @@ outcome_of (Ok u) true = Err stops.Memory
 outcome_of (Ok u) false = Ok u
 outcome_of (Err why) short = Err why
 
+-- A link that was handed back, with the cause of its end where it was served.
+abbrev pub Back : Type 0
+Back = LinkState × Option Cause
+
+-- how many of them were turned away
+abbrev pub turned_of : List Back → ℕ
+turned_of [] = 0
+turned_of ((link, None) ∷ backs) = turned_of backs + 1
+turned_of ((link, Some why) ∷ backs) = turned_of backs
+
+-- it was served, and ended for want of memory
+abbrev pub was_short : Option Cause → Bool
+was_short None = false
+was_short (Some why) = is_short why
+
+-- so many connections are accepted: all that the listener can number, where no count is told
+abbrev pub most_of : Option ℕ → ℕ
+most_of None = 2 ^ 64 - 1
+most_of (Some count) = count
+
+-- what was drawn stays the draw of its number
+abbrev pub KeepsDraws : Option (List Draw) → Option (List Draw) → Type 0
+KeepsDraws draws draws' = (n : ℕ) (draw : Draw) → IsDrawn draws n draw → IsDrawn draws' n draw
+
 -- `Knows` tells which beginnings of the marks were seen
 module _ (shows : ℕ → Ask → Reply → List Mark → Type 0) (agents : ℕ) (draws : Option (List Draw)) (Knows : List Mark → Type 0) where
   -- The link came new, was served to its end, which had this cause, and was shut. Its number says whose agent was asked
@@ -112,15 +135,7 @@ module _ (shows : ℕ → Ask → Reply → List Mark → Type 0) (agents : ℕ)
     pub ends : EndsBy shows (record { agent = agent_of agents link.number; draw = draw; first = first; begun = begun }) why link known requests
     pub shut : link.shut ≡ true
 
-  -- so many links were served and handed back; `short` tells whether one of them ended for want of memory
-  pub record AllServed (old new : List LinkState) (count : ℕ) (short : Bool) : Type 0 where
-    pub links : List (LinkState × Cause)
-    pub are : new ≡ old ++ map (λ l. l.0) links
-    pub each : AllByRecursion (λ l. IsServed l.0 l.1) links
-    pub count_is : length links ≡ count
-    pub short_is : short ≡ list_any (λ l. is_short l.1) links
-
-  -- one link more
+  -- one link more was served and handed back; `short` tells whether it ended for want of memory
   pub record ServesOne (old new : List LinkState) (short : Bool) : Type 0 where
     pub link : LinkState
     pub why : Cause
@@ -128,18 +143,36 @@ module _ (shows : ℕ → Ask → Reply → List Mark → Type 0) (agents : ℕ)
     pub are : new ≡ old ++ link ∷ []
     pub short_is : short ≡ is_short why
 
-  -- Each link that came was handed back: first those that were turned away, and then all others, which were served.
-  -- `lacked` counts one more that was turned away for want of memory than the spawner's faults tell. Where all is well
-  -- there is none, and none of the others ended for want of memory.
+  -- Some of the tasks ended, whose links were served and handed back. `short` tells whether one of them, or one before,
+  -- ended for want of memory.
+  pub record Joins (old new : List LinkState) (tasks tasks' : ℕ) (short short' : Bool) : Type 0 where
+    pub links : List (LinkState × Cause)
+    pub are : new ≡ old ++ map (λ l. l.0) links
+    pub each : AllByRecursion (λ l. IsServed l.0 l.1) links
+    pub count : length links + tasks' ≡ tasks
+    pub short_is : short' ≡ (short || list_any (λ l. is_short l.1) links)
+
+  -- the link was turned away, or served to its end
+  abbrev pub IsBack : Back → Type 0
+  IsBack back = MatchOption back.1 (IsTurnedAway back.0) (λ why. IsServed back.0 why)
+
+  -- So many links were given since: each was handed back, or has one of so many tasks. At least as many faults of the
+  -- spawner were counted as links were turned away, and `short` tells whether one of the others ended for want of memory.
+  pub record Handed (old new : List LinkState) (faults faults' given tasks : ℕ) (short : Bool) : Type 0 where
+    pub links : List Back
+    pub are : new ≡ old ++ map (λ b. b.0) links
+    pub each : AllByRecursion IsBack links
+    pub count : length links + tasks ≡ given
+    pub few : min (faults + turned_of links) (2 ^ 64 - 1) ≤ faults'
+    pub short_is : short ≡ list_any (λ b. was_short b.1) links
+
+  -- Each link that came was handed back, in whatever order: turned away, or served to its end. `lacked` counts one more
+  -- that was turned away for want of memory than the spawner's faults tell. Where all is well there is none, and none of
+  -- the others ended for want of memory.
   pub record HandsBack (old new : List LinkState) (faults faults' given : ℕ) (result : Result Unit Stop) : Type 0 where
-    pub turned : ℕ
-    pub served : ℕ
     pub lacked : ℕ
     pub short : Bool
-    pub between : List LinkState
-    pub away : TurnedAway old between faults (faults' + lacked) turned
-    pub all : AllServed between new served short
-    pub count : turned + served ≡ given
+    pub all : Handed old new faults (faults' + lacked) given 0 short
     pub most : lacked ≤ 1
     pub well : OnOk result ((lacked ≡ 0) × (short ≡ false))
     pub lack : result ≡ Err stops.Memory → (lacked ≡ 1) ⊎ (short ≡ true)

@@ -23,7 +23,7 @@ use Rattle.serve_loop.specs.declared.cluster.Ask.{Ask}
 use Rattle.serve_loop.specs.declared.cause.Cause.{Cause}
 use Rattle.serve_loop.specs.declared.cause.Cause.TheVariants as cause
 use Rattle.serve_loop.specs.Replies.{refusing, text_of, head_of}
-use Rattle.serve_loop.specs.Waiting.{Grows, IsAnswered}
+use Rattle.serve_loop.specs.Waiting.{Grows, IsAnswered, IsHeld}
 
 -- A connection: the agent that is asked for it, the words that were drawn for it, and its link and the knowledge of its
 -- pass when it began.
@@ -163,6 +163,24 @@ module _ (shows : ℕ → Ask → Reply → List Mark → Type 0) (c : Connectio
     pub count : requests ≡ count_of es
     pub ends : Ends es rest
 
+  -- the n-th request was asked, and has no reply
+  abbrev pub IsUnanswered : Asked → ℕ → Knowledge Mark → Type 0
+  IsUnanswered (Good request) n known = IsHeld (record { agent = c.agent; asked = Good request; draw = draw_of c.draw n }) known
+  IsUnanswered (Bad why) n known = ⊥
+
+  -- The client went away while its last request waited: all requests before were answered, the last one was asked, and
+  -- nothing was written to it.
+  pub record IsLeft (link : LinkState) (known : Knowledge Mark) (requests : ℕ) : Type 0 where
+    pub es : List Exchange
+    pub last : Raw
+    pub stream : List ℕ
+    pub rest : List ℕ
+    pub passed : Passed link known es (stream ++ rest) (bytes_of es)
+    pub gives : GivesAll stream (items_of es ++ whole last ∷ []) None
+    pub unanswered : IsUnanswered (asked_by last) (requests + 1) known
+    pub count : requests ≡ count_of es
+    pub are_open : AreOpen es
+
   -- How a connection ended, by its cause: `requests` replies were written whole. Nothing is served behind a request that
   -- asks to close, nor is the link read to its end there (RFC 9112, section 9.6).
   abbrev pub EndsBy : Cause → LinkState → Knowledge Mark → ℕ → Type 0
@@ -170,4 +188,5 @@ module _ (shows : ℕ → Ask → Reply → List Mark → Type 0) (c : Connectio
   EndsBy (cause.Refused why) link known requests = IsWhole (λ es rest. (rest ≡ []) × AreOpen es) (Some why) link known requests
   EndsBy cause.ReadFault link known requests = IsWhole (λ es rest. (rest ≡ []) × AreOpen es × Rose c.first.read_faults link.read_faults) None link known requests
   EndsBy cause.WriteFault link known requests = IsCut link known requests × Rose c.first.write_faults link.write_faults
+  EndsBy cause.Left link known requests = IsLeft link known requests × Rose c.first.read_faults link.read_faults
   EndsBy cause.Memory link known requests = IsCut link known requests

@@ -1,7 +1,6 @@
 -- A connection while it is served.
 use Rattle.std.specs.Prelude.{◌≡◌, ℕ, ◌≤◌, false, List, [], ◌∷◌, ◌++◌, Some, None, Result, Ok, Err, OnOk, IfErr}
 use Rattle.std.specs.Io.KnownBytes.{append_known}
-use Rattle.cat_model.specs.declared.request.Asked.{Asked}
 use Rattle.cat_model.specs.declared.reply.Mark.{Mark}
 use Rattle.cat_outside.specs.Causes.{Rose}
 use Rattle.cluster_rules.specs.Replies.{Reply}

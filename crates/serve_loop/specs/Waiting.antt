@@ -1,13 +1,16 @@
 -- A request from its asking to its reply, over the marks that a pass has seen and the numbers that it opened.
-use Rattle.std.specs.Prelude.{◌≡◌, ℕ, List, ◌++◌}
+use Rattle.std.specs.Prelude.{◌≡◌, ℕ, true, List, ◌++◌, Result, Ok, Err}
 use Rattle.cat_model.specs.declared.reply.Mark.{Mark}
 use Rattle.cluster_rules.specs.Replies.{Reply}
 use Rattle.cluster_rules.specs.Sound.{IsAmong}
+use Rattle.serve_outside.specs.Links.{LinkState, Leaves}
 use Rattle.turn_lock.specs.declared.knowledge.Knowledge.{Knowledge}
 use Rattle.turn_lock.specs.Lists.{Among, EachOnce, numbers}
 use Rattle.serve_loop.specs.declared.cluster.Ask.{Ask}
 use Rattle.serve_loop.specs.declared.cluster.Collected.{Collected}
 use Rattle.serve_loop.specs.declared.cluster.Collected.TheVariants as collected
+use Rattle.serve_loop.specs.declared.turning.NoReply.{NoReply}
+use Rattle.serve_loop.specs.declared.turning.NoReply.TheVariants as no_reply
 use Rattle.serve_loop.specs.Marks.{answered_mark, answers, asked_mark, opens, takes}
 
 -- what was seen and opened begins as before
@@ -22,6 +25,17 @@ pub record Waits (n : ℕ) (ask : Ask) (seen : List Mark) (mine : List ℕ) : Ty
   pub own : Among n mine
   pub asked : IsAmong (asked_mark n ask) seen
   pub untaken : Among n (numbers takes seen) → ⊥
+
+-- the request was asked by this pass and is held, its reply is not taken
+abbrev pub IsHeld : Ask → Knowledge Mark → Type 0
+IsHeld ask known = (n : ℕ) × Waits n ask known.seen known.mine
+
+-- A link behind a request that has a reply or none: where there is none since its client went away that is counted, and
+-- else nothing has changed.
+abbrev pub IsAfterAsk : {T : Type 0} → Result T NoReply → LinkState → LinkState → Type 0
+IsAfterAsk (Err no_reply.Left) old new = Leaves old true new
+IsAfterAsk (Err no_reply.Memory) old new = new ≡ old
+IsAfterAsk (Ok reply) old new = new ≡ old
 
 -- The reply to a request that was asked once, by this pass: it is that of the one Answered mark of its number among
 -- the marks that were seen then, and shows what they tell.

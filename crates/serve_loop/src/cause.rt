@@ -9,6 +9,8 @@ pub enum Cause {
     Refused(Rejection),
     ReadFault,
     WriteFault,
+    /// The client went away while its last request waited.
+    Left,
     /// There was no memory, or no number for one more request.
     Memory,
 }

@@ -14,6 +14,9 @@ const MOST_MS: u64 = 600_000;
 /// How long a request waits before it looks again that waits for no index, or longer than its wait.
 const PAUSE_MS: u64 = 20;
 
+/// After how many milliseconds of waiting the link is asked whether its client has gone.
+const LOOK_MS: u64 = 5_000;
+
 /// Until when a request waits for others to wake it, by the clock of turns. From then on it looks again and again.
 #[derive(Clone, Copy)]
 pub(crate) struct Patience {
@@ -51,10 +54,15 @@ pub(crate) fn patience_of(ask: &Ask, now: u64) -> Patience {
 }
 
 impl Patience {
-    /// For how many milliseconds it waits, at this time, before it looks again.
+    /// Whether its time is over, so that it looks for its reply.
+    pub(crate) fn is_over(self, now: u64) -> bool {
+        now >= self.until
+    }
+
+    /// For how many milliseconds it waits, at this time, before it looks for its reply or its client.
     pub(crate) fn left(self, now: u64) -> u64
-        ensures { 0 < result }
+        ensures { (0 < result) × (result ≤ 5000) }
     {
-        self.until.saturating_sub(now).max(PAUSE_MS)
+        self.until.saturating_sub(now).max(PAUSE_MS).min(LOOK_MS)
     }
 }

@@ -28,6 +28,16 @@ pub(crate) type TaskOf<R, C, Cl, G, L> = Task<
     Finished<L, Served<C>>,
 >;
 
+/// The jobs of a run that are not joined yet.
+#[derive(Drop)]
+pub(crate) struct Jobs<T> {
+    pub tasks: Vec<T>,
+    /// The place of the one that is looked at next.
+    pub at: usize,
+    /// Whether a connection whose job was joined ended for want of memory.
+    pub short: bool,
+}
+
 /// What all connections of a run share.
 #[derive(Drop)]
 pub struct Server<R, S: History, Cl, G> {

@@ -1,6 +1,6 @@
 //! A connection, from its first byte to its end.
 
-ghost use Rattle.std.specs.Prelude.{◌≡◌, ◌+◌, ◌<◌, ◌≤◌, [], ℕ, List, IfOk, MatchResult, OnOk, drop, false, true, length, option_map, take};
+ghost use Rattle.std.specs.Prelude.{◌≡◌, ◌+◌, ◌<◌, ◌≤◌, [], ℕ, List, IfErr, IfOk, MatchResult, OnOk, drop, false, true, length, option_map, take};
 ghost use Rattle.cat_model.specs.declared.reply.Mark.{Mark};
 ghost use Rattle.turn_lock.specs.declared.knowledge.Knowledge.{Knowledge};
 ghost use Rattle.std.specs.Arc.{arc_value};
@@ -13,18 +13,20 @@ ghost use Rattle.http_wire.specs.Stream.{go_on, whole};
 ghost use Rattle.serve_outside.specs.Links.{Reads};
 ghost use Rattle.serve_loop.specs.Boards.{IsOurs, known};
 ghost use Rattle.serve_loop.specs.Services.{connection, stage};
-ghost use Rattle.serve_loop.specs.Serving.{EndsBy, IsReply, IsReplyTo, IsResponse, asked_by, draw_of};
+ghost use Rattle.serve_loop.specs.Serving.{EndsBy, IsReply, IsReplyTo, IsResponse, IsUnanswered, asked_by, draw_of};
 ghost use Rattle.serve_loop.specs.Stages.{Comes, GoesOn, IsTaking, Owes, OwesRefusal, Talks};
-ghost use Rattle.serve_loop.specs.Waiting.{Grows};
+ghost use Rattle.serve_loop.specs.Waiting.{Grows, IsAfterAsk};
 ghost use Rattle.serve_loop.specs.declared.cause.Cause.TheVariants as cause;
+ghost use Rattle.serve_loop.specs.declared.turning.NoReply.TheVariants as no_reply;
+ghost use Rattle.serve_loop.specs.Replies.{refusing as spec_refusing};
 
 use crate::cause::Cause;
 use crate::cluster::{Ask, SharedCluster};
 use crate::replies::{Response, refusing};
 use crate::served::Served;
-use crate::turning::ask_and_wait;
+use crate::turning::{NoReply, ask_and_wait};
 use crate::writing::{send_answer, send_continue, send_refusal};
-use cat_model::{Asked, Draw, Memory, Request, Shared};
+use cat_model::{Asked, Draw, Memory, Refusal, Request, Shared};
 use cat_outside::Failed;
 use crossbeam_utils::CachePadded;
 use http_routes::laws::routes_are_taken;
@@ -102,54 +104,87 @@ fn ends_here(close: bool) -> Result<(), Cause>
     if close { Err(Cause::Closed) } else { Ok(()) }
 }
 
-// The reply to the n-th request, which asks for this.
+// What the n-th request asks of its agent.
+fn asking<R, C: SharedCluster, Cl, G, L>(
+    service: &Service<R, Served<C>, Cl, G, L>,
+    request: Request,
+    n: u64,
+) -> Result<Ask, Memory>
+    ensures { IfOk result (λ ask. ask ≡ record { agent = service.now.agent; asked = Good request; draw = draw_of service.now.draw n }) }
+{
+    Ok(Ask {
+        agent: service.agent,
+        asked: Shared::new(service.alloc, Asked::Good(request))?,
+        draw: nth_draw(service.draw, n),
+    })
+}
+
+// The reply to the n-th request, which asks for this. The link is asked whether its client is still there.
 fn ask<R: Wait, C: SharedCluster, Cl: Clock, G: Gate, L: Link>(
     service: &Service<R, Served<C>, Cl, G, L>,
     pass: &mut Pass<Served<C>>,
+    link: &mut L,
     request: Request,
     n: u64,
-) -> Result<Reply, Memory>
+) -> Result<Reply, NoReply>
     requires ours { IsOurs (arc_value service.now.board) pass.old }
     requires agent { (0 < service.now.agent) × (service.now.agent ≤ C.agents) }
     requires taken { IsTakenAsked (Good request) }
     ensures ours { IsOurs (arc_value service.now.board) pass.new }
     ensures grown { Grows (known pass.old) (known pass.new) }
+    ensures link { IsAfterAsk result (L.state link.old) (L.state link.new) }
     ensures reply { IfOk result (IsReplyTo C.shows (connection L.state service.now) request n (known pass.new)) }
+    ensures left { IfErr result (λ why. why ≡ no_reply.Left → IsUnanswered C.shows (connection L.state service.now) (Good request) n (known pass.new)) }
 {
-    let ask = Ask {
-        agent: service.agent,
-        asked: Shared::new(service.alloc, Asked::Good(request))?,
-        draw: nth_draw(service.draw, n),
-    };
-    let lock = &**service.board;
-    ask_and_wait(
-        &service.rt,
-        service.alloc,
-        lock,
-        pass,
-        &service.clock,
-        &*service.gate,
-        ask,
-    )
+    match asking(service, request, n) {
+        Ok(ask) => {
+            let lock = &**service.board;
+            ask_and_wait(
+                &service.rt,
+                service.alloc,
+                lock,
+                pass,
+                &service.clock,
+                &*service.gate,
+                link,
+                ask,
+            )
+        }
+        Err(Memory) => Err(NoReply::Memory),
+    }
+}
+
+// A refusal.
+fn refused(why: Refusal) -> Result<Reply, NoReply>
+    ensures reply { IfOk result (λ reply. reply ≡ spec_refusing why) }
+    ensures left { IfErr result (λ why. why ≡ no_reply.Memory) }
+{
+    match refusing(why) {
+        Ok(reply) => Ok(reply),
+        Err(Memory) => Err(NoReply::Memory),
+    }
 }
 
 // The reply to the n-th request, as it was routed.
 fn respond<R: Wait, C: SharedCluster, Cl: Clock, G: Gate, L: Link>(
     service: &Service<R, Served<C>, Cl, G, L>,
     pass: &mut Pass<Served<C>>,
+    link: &mut L,
     asked: Asked,
     n: u64,
-) -> Result<Reply, Memory>
+) -> Result<Reply, NoReply>
     requires ours { IsOurs (arc_value service.now.board) pass.old }
     requires agent { (0 < service.now.agent) × (service.now.agent ≤ C.agents) }
     requires taken { IsTakenAsked asked }
     ensures ours { IsOurs (arc_value service.now.board) pass.new }
     ensures grown { Grows (known pass.old) (known pass.new) }
+    ensures link { IsAfterAsk result (L.state link.old) (L.state link.new) }
     ensures reply { IfOk result (IsResponse C.shows (connection L.state service.now) asked n (known pass.new)) }
+    ensures left { IfErr result (λ why. why ≡ no_reply.Left → IsUnanswered C.shows (connection L.state service.now) asked n (known pass.new)) }
 {
     match asked {
-        Asked::Good(request) => ask(service, pass, request, n),
-        Asked::Bad(why) => refusing(why),
+        Asked::Good(request) => ask(service, pass, link, request, n),
+        Asked::Bad(why) => refused(why),
     }
 }
 
@@ -173,22 +208,25 @@ fn reply_to<R: Wait, C: SharedCluster, Cl: Clock, G: Gate, L: Link>(
     service: &Service<R, Served<C>, Cl, G, L>,
     routes: &Routes,
     pass: &mut Pass<Served<C>>,
+    link: &mut L,
     message: &RawRequest,
     n: u64,
-) -> Result<Response, Memory>
+) -> Result<Response, NoReply>
     requires ours { IsOurs (arc_value service.now.board) pass.old }
     requires agent { (0 < service.now.agent) × (service.now.agent ≤ C.agents) }
     ensures ours { IsOurs (arc_value service.now.board) pass.new }
     ensures grown { Grows (known pass.old) (known pass.new) }
+    ensures link { IsAfterAsk result (L.state link.old) (L.state link.new) }
     ensures reply { IfOk result (λ r. IsReply C.shows (connection L.state service.now) (raw message.now) n r.reply (known pass.new)) }
     ensures filter { IfOk result (λ r. option_map expression_of r.filter ≡ filter_at (raw message.now).target) }
+    ensures left { IfErr result (λ why. why ≡ no_reply.Left → IsUnanswered C.shows (connection L.state service.now) (asked_by (raw message.now)) n (known pass.new)) }
 {
     match routed(service.alloc, routes, message) {
-        Ok(Routed { asked, filter }) => match respond(service, pass, asked, n) {
+        Ok(Routed { asked, filter }) => match respond(service, pass, link, asked, n) {
             Ok(reply) => Ok(Response { reply, filter }),
-            Err(Memory) => Err(Memory),
+            Err(why) => Err(why),
         },
-        Err(Memory) => Err(Memory),
+        Err(Memory) => Err(NoReply::Memory),
     }
 }
 
@@ -260,13 +298,14 @@ impl<L: Link, C: SharedCluster> Serving<L, Served<C>> {
         let Some(n) = self.requests.checked_add(1) else {
             return Err(Cause::Memory);
         };
-        match reply_to(service, routes, &mut self.pass, message, n) {
+        match reply_to(service, routes, &mut self.pass, &mut self.link, message, n) {
             Ok(response) => {
                 let given = self.give(service, message, &response, n);
                 drop(response);
                 given
             }
-            Err(Memory) => Err(Cause::Memory),
+            Err(NoReply::Memory) => Err(Cause::Memory),
+            Err(NoReply::Left) => Err(Cause::Left),
         }
     }
 

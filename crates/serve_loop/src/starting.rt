@@ -1,19 +1,22 @@
 //! The connections of a run are accepted, and a job of its own is started for each.
 
-ghost use Rattle.std.specs.Prelude.{◌≡◌, ◌+◌, ◌<◌, ◌≤◌, [], false, IfErr, IfOk, IfSome, MatchOption, MatchResult, None, Err, OnOk, length};
+ghost use Rattle.std.specs.Prelude.{◌≡◌, ◌+◌, ◌<◌, ◌≤◌, [], false, IfErr, IfOk, IfSome, List, MatchOption, MatchResult, None, Err, OnOk, length};
 ghost use Rattle.std.specs.Arc.{arc_value};
+ghost use Rattle.cat_model.specs.declared.reply.Mark.{Mark as SpecMark};
 ghost use Rattle.cat_outside.specs.Causes.{Rose};
+ghost use Rattle.cluster_rules.specs.Sound.{IsAmong};
 ghost use Rattle.http_wire.specs.State.{Told};
 ghost use Rattle.serve_outside.specs.Links.{IsNew};
 ghost use Rattle.serve_outside.specs.Tasks.{IsKept, note_of};
 ghost use Rattle.serve_loop.specs.declared.run.Stop.TheVariants as stops;
-ghost use Rattle.serve_loop.specs.Boards.{IsOurs};
+ghost use Rattle.serve_loop.specs.Boards.{IsOurs, known};
 ghost use Rattle.serve_loop.specs.Jobs.{AllTasks, agent_of};
-ghost use Rattle.serve_loop.specs.Runs.{HasDrawn, IsStarted, IsStartedAs, Starts, TurnedAway, TurnsAway, lacking};
+ghost use Rattle.serve_loop.specs.Runs.{Handed, HasDrawn, IsStarted, IsStartedAs, KeepsDraws, Starts, TurnedAway, TurnsAway, lacking};
 
 use crate::cluster::SharedCluster;
+use crate::finishing::sweep;
 use crate::job::{Finished, ServeJob};
-use crate::run::{Server, Stop, TaskOf, give_back};
+use crate::run::{Jobs, Server, Stop, TaskOf, give_back};
 use crate::served::Served;
 use crate::serving::Board;
 use crate::writing::send_refusing;
@@ -40,6 +43,7 @@ fn parts<R, C: SharedCluster, Cl, G: Drop>(
 >
     requires ours { IsOurs (arc_value server.now.board) pass.old }
     ensures ours { IsOurs (arc_value server.now.board) pass.new }
+    ensures told { (known pass.new).told ≡ (known pass.old).told }
     ensures reader { IfOk result (λ r. (r.0.stop ≡ None) × Told [] [] r.0.held r.0.stop) }
     ensures board { IfOk result (λ r. arc_value r.1 ≡ arc_value server.now.board) }
     ensures pass { IfOk result (λ r. IsOurs (arc_value server.now.board) r.3) }
@@ -54,6 +58,15 @@ fn parts<R, C: SharedCluster, Cl, G: Drop>(
     }
 }
 
+// The agent of the n-th connection.
+fn agent_at(agents: u32, n: u64) -> u32
+    requires agents { 0 < agents }
+    requires number { 0 < n }
+    ensures { result ≡ agent_of agents n }
+{
+    ((n - 1) % u64::from(agents)) as u32 + 1
+}
+
 // The job of the n-th connection, or its link where there is no memory for a job.
 fn job_of<
     R: Wait + Copy + Drop,
@@ -66,13 +79,14 @@ fn job_of<
     pass: &mut Pass<Served<C>>,
     link: L,
     draw: Draw,
-    n: u32,
+    n: u64,
 ) -> Result<ServeJob<R, Served<C>, Cl, G, L>, L>
     requires ours { IsOurs (arc_value server.now.board) pass.old }
     requires agents { (0 < server.now.agents) × (server.now.agents ≡ C.agents) }
     requires number { 0 < n }
     requires unshut { (L.state link).shut ≡ false }
     ensures ours { IsOurs (arc_value server.now.board) pass.new }
+    ensures told { (known pass.new).told ≡ (known pass.old).told }
     ensures ready { IfOk result (⟦<ServeJob<R, Served<C>, Cl, G, L> as Job>⟧.ready) }
     ensures job { IfOk result (λ job. (job.link ≡ link) × (job.draw ≡ draw) × (job.agent ≡ agent_of C.agents n)) }
     ensures pass { IfOk result (λ job. IsOurs (arc_value server.now.board) job.pass) }
@@ -85,7 +99,7 @@ fn job_of<
             board,
             clock: server.clock,
             gate,
-            agent: (n - 1) % server.agents + 1,
+            agent: agent_at(server.agents, n),
             draw,
             link,
             reader,
@@ -126,6 +140,7 @@ where
     requires ready { ⟦<ServeJob<R, Served<C>, Cl, G, L::Link> as Job>⟧.ready job }
     requires new { IsNew (L.Link.state job.link).number (L.Link.state job.link) }
     ensures ours { IsOurs (arc_value server.now.board) pass.new }
+    ensures told { (seen : List SpecMark) → IsAmong seen (known pass.old).told → IsAmong seen (known pass.new).told }
     ensures given { L.given listener.new ≡ L.given listener.old }
     ensures faults { L.faults listener.new ≡ L.faults listener.old }
     ensures port { L.listens_on listener.new ≡ L.listens_on listener.old }
@@ -135,7 +150,7 @@ where
         (TurnedAway (L.closed listener.old) (L.closed listener.new) (Sp.faults spawner.old) (Sp.faults spawner.new) 1)
         (λ _. TurnedAway (L.closed listener.old) (L.closed listener.new) (Sp.faults spawner.old) (Sp.faults spawner.new) 0) }
 {
-    match start(spawner, &server.rt, job) {
+    match start(spawner, &server.rt, server.alloc, job) {
         Ok(task) => Some(task),
         Err(job) => {
             let ServeJob {
@@ -165,7 +180,7 @@ fn start_one<
     listener: &mut L,
     spawner: &mut Sp,
     draw: Draw,
-    n: u32,
+    n: u64,
 ) -> Result<Option<TaskOf<R, C, Cl, G, L::Link>>, Stop>
 where
     L::Link: Send + 'static,
@@ -173,6 +188,7 @@ where
     requires agents { (0 < server.now.agents) × (server.now.agents ≡ C.agents) }
     requires number { n ≡ L.given listener.old + 1 }
     ensures ours { IsOurs (arc_value server.now.board) pass.new }
+    ensures told { (seen : List SpecMark) → IsAmong seen (known pass.old).told → IsAmong seen (known pass.new).told }
     ensures given { MatchResult result (λ _. L.given listener.new ≡ n) (λ why. L.given listener.new ≡ L.given listener.old + lacking (Err why)) }
     ensures kept { IfOk result (λ o. IfSome o (IsKept ⟦<NoteOf<ServeJob<R, Served<C>, Cl, G, L::Link>> as Promise<Finished<L::Link, Served<C>>>>⟧.kept_by)) }
     ensures job { IfOk result (λ o. IfSome o (λ task. IsStartedAs n draw (arc_value server.now.board) C.agents L.Link.state (note_of task).0.value)) }
@@ -214,7 +230,7 @@ fn start_next<
     words: &mut W,
     spawner: &mut Sp,
     tasks: &mut Vec<TaskOf<R, C, Cl, G, L::Link>>,
-    n: u32,
+    n: u64,
 ) -> Result<(), Stop>
 where
     L::Link: Send + 'static,
@@ -224,8 +240,10 @@ where
     requires drawn { HasDrawn (W.draws words.old) (L.given listener.old) }
     requires tasks { AllTasks tasks.old.items ⟦<NoteOf<ServeJob<R, Served<C>, Cl, G, L::Link>> as Promise<Finished<L::Link, Served<C>>>>⟧.kept_by (λ p. IsStarted (arc_value server.now.board) C.agents (W.draws words.old) L.Link.state p.0.value) }
     ensures ours { IsOurs (arc_value server.now.board) pass.new }
+    ensures told { (seen : List SpecMark) → IsAmong seen (known pass.old).told → IsAmong seen (known pass.new).told }
     ensures given { OnOk result (L.given listener.new ≡ n) }
     ensures drawn { OnOk result (HasDrawn (W.draws words.new) n) }
+    ensures later { KeepsDraws (W.draws words.old) (W.draws words.new) }
     ensures tasks { AllTasks tasks.new.items ⟦<NoteOf<ServeJob<R, Served<C>, Cl, G, L::Link>> as Promise<Finished<L::Link, Served<C>>>>⟧.kept_by (λ p. IsStarted (arc_value server.now.board) C.agents (W.draws words.new) L.Link.state p.0.value) }
     ensures starts { Starts (L.closed listener.old) (L.closed listener.new) (Sp.faults spawner.old) (Sp.faults spawner.new) (L.given listener.old) (L.given listener.new) (length tasks.old.items) (length tasks.new.items) result }
     ensures counted { L.faults listener.old ≤ L.faults listener.new }
@@ -248,7 +266,7 @@ where
     }
 }
 
-// Accepts so many connections and starts their jobs.
+// Accepts so many connections and starts their jobs. Before each one it joins some of those that have ended.
 pub(crate) fn start_tasks<
     R: Threads + Wait + Copy + Send + Drop + 'static,
     C: SharedCluster + Send + 'static,
@@ -263,26 +281,29 @@ pub(crate) fn start_tasks<
     listener: &mut L,
     words: &mut W,
     spawner: &mut Sp,
-    tasks: &mut Vec<TaskOf<R, C, Cl, G, L::Link>>,
-    count: u32,
+    jobs: &mut Jobs<TaskOf<R, C, Cl, G, L::Link>>,
+    count: u64,
 ) -> Result<(), Stop>
 where
     L::Link: Send + 'static,
     requires ours { IsOurs (arc_value server.now.board) pass.old }
     requires agents { (0 < server.now.agents) × (server.now.agents ≡ C.agents) }
     requires fresh { (L.given listener.old ≡ 0) × HasDrawn (W.draws words.old) 0 }
-    requires tasks { AllTasks tasks.old.items ⟦<NoteOf<ServeJob<R, Served<C>, Cl, G, L::Link>> as Promise<Finished<L::Link, Served<C>>>>⟧.kept_by (λ p. IsStarted (arc_value server.now.board) C.agents (W.draws words.old) L.Link.state p.0.value) }
+    requires none { (jobs.old.tasks.items ≡ []) × (jobs.old.short ≡ false) }
+    requires tasks { AllTasks jobs.old.tasks.items ⟦<NoteOf<ServeJob<R, Served<C>, Cl, G, L::Link>> as Promise<Finished<L::Link, Served<C>>>>⟧.kept_by (λ p. IsStarted (arc_value server.now.board) C.agents (W.draws words.old) L.Link.state p.0.value) }
     ensures ours { IsOurs (arc_value server.now.board) pass.new }
+    ensures told { (seen : List SpecMark) → IsAmong seen (known pass.old).told → IsAmong seen (known pass.new).told }
     ensures given { OnOk result (L.given listener.new ≡ count) }
-    ensures tasks { AllTasks tasks.new.items ⟦<NoteOf<ServeJob<R, Served<C>, Cl, G, L::Link>> as Promise<Finished<L::Link, Served<C>>>>⟧.kept_by (λ p. IsStarted (arc_value server.now.board) C.agents (W.draws words.new) L.Link.state p.0.value) }
-    ensures starts { Starts (L.closed listener.old) (L.closed listener.new) (Sp.faults spawner.old) (Sp.faults spawner.new) (L.given listener.old) (L.given listener.new) (length tasks.old.items) (length tasks.new.items) result }
+    ensures tasks { AllTasks jobs.new.tasks.items ⟦<NoteOf<ServeJob<R, Served<C>, Cl, G, L::Link>> as Promise<Finished<L::Link, Served<C>>>>⟧.kept_by (λ p. IsStarted (arc_value server.now.board) C.agents (W.draws words.new) L.Link.state p.0.value) }
+    ensures handed { Handed C.shows C.agents (W.draws words.new) (λ seen. IsAmong seen (known pass.new).told) (L.closed listener.old) (L.closed listener.new) (Sp.faults spawner.old) (Sp.faults spawner.new + lacking result) (L.given listener.new) (length jobs.new.tasks.items) jobs.new.short }
     ensures cause { IfErr result (λ why. why ≡ stops.Listener → Rose (L.faults listener.old) (L.faults listener.new)) }
     ensures port { L.listens_on listener.new ≡ L.listens_on listener.old }
 {
     let mut n = 0;
     while n < count {
         n += 1;
-        match start_next(server, pass, listener, words, spawner, tasks, n) {
+        sweep(server, pass, listener, &*words, jobs);
+        match start_next(server, pass, listener, words, spawner, &mut jobs.tasks, n) {
             Ok(()) => {}
             Err(why) => return Err(why),
         }

@@ -1,19 +1,21 @@
 //! A connection's request, from its asking to its reply.
 
-ghost use Rattle.std.specs.Prelude.{◌≡◌, IfOk};
+ghost use Rattle.std.specs.Prelude.{◌≡◌, IfErr, IfOk};
+ghost use Rattle.serve_outside.specs.Links.{Leaves};
 ghost use Rattle.turn_lock.specs.Lists.{Among};
 ghost use Rattle.turn_lock.specs.Passes.{IsFree, IsSame};
 ghost use Rattle.serve_loop.specs.declared.cluster.Ask.{Ask as SpecAsk};
+ghost use Rattle.serve_loop.specs.declared.turning.NoReply.TheVariants as no_reply;
 ghost use Rattle.serve_loop.specs.Boards.{known};
 ghost use Rattle.serve_loop.specs.Turns.{MayAsk};
-ghost use Rattle.serve_loop.specs.Waiting.{Grows, IsAnswered, IsBehind, Stands, Waits};
+ghost use Rattle.serve_loop.specs.Waiting.{Grows, IsAfterAsk, IsAnswered, IsBehind, IsHeld, Stands, Waits};
 
 use crate::cluster::{Ask, Collected, SharedCluster};
 use crate::patience::{Patience, patience_of};
 use crate::served::{NOBODY, Served, Turned};
 use cat_model::Memory;
 use open_requests::Reply;
-use serve_outside::{Clock, Gate};
+use serve_outside::{Clock, Gate, Link};
 use std::alloc::Global;
 use std::sync::Wait;
 use turn_lock::{HistoryLock, Pass};
@@ -67,51 +69,101 @@ pub(crate) fn next_turn<R: Wait, C: SharedCluster, G: Gate>(
     turned
 }
 
-/// Asks, and waits until the reply is there.
-pub(crate) fn ask_and_wait<R: Wait, C: SharedCluster, Cl: Clock, G: Gate>(
+/// Why a request has no reply.
+#[derive(Clone, Copy, Debug, PartialEq, Eq)]
+pub(crate) enum NoReply {
+    /// There was no memory.
+    Memory,
+    /// Its client went away.
+    Left,
+}
+
+// A request that waits: its number, how often it had been woken, and until when it waits for that.
+#[derive(Clone, Copy)]
+struct Held {
+    number: u64,
+    rings: u64,
+    patience: Patience,
+}
+
+// Whether the reply may be there, or the request is to look for it again.
+fn may_look<Cl: Clock, G: Gate>(clock: &Cl, gate: &G, held: &Held) -> bool {
+    gate.rings(held.number) != held.rings || held.patience.is_over(clock.now_ms())
+}
+
+// Waits until the reply may be there or the client has gone, and says whether it has. Every few seconds it asks the link.
+fn waits_in_vain<R: Wait, Cl: Clock, G: Gate, L: Link>(
+    rt: &R,
+    clock: &Cl,
+    gate: &G,
+    link: &mut L,
+    held: &Held,
+) -> bool
+    ensures { Leaves (L.state link.old) result (L.state link.new) }
+{
+    for _ in rt.forever() {
+        gate.idle(held.number, held.rings, held.patience.left(clock.now_ms()));
+        if may_look(clock, gate, held) {
+            return false;
+        }
+        if link.has_gone() {
+            return true;
+        }
+    }
+    unreachable!()
+}
+
+/// Asks, and waits until the reply is there or the client has gone.
+pub(crate) fn ask_and_wait<R: Wait, C: SharedCluster, Cl: Clock, G: Gate, L: Link>(
     rt: &R,
     alloc: Global,
     lock: &HistoryLock<Served<C>>,
     pass: &mut Pass<Served<C>>,
     clock: &Cl,
     gate: &G,
+    link: &mut L,
     ask: Ask,
-) -> Result<Reply, Memory>
+) -> Result<Reply, NoReply>
     requires own { pass.old.seat.table_id ≡ lock.now.table.shared.table_id }
     requires free { IsFree pass.old.seat }
     requires may { MayAsk C.agents ask }
     ensures own { IsSame pass.old.seat pass.new.seat }
     ensures free { IsFree pass.new.seat }
     ensures grown { Grows (known pass.old) (known pass.new) }
+    ensures link { IsAfterAsk result (L.state link.old) (L.state link.new) }
     ensures answered { IfOk result (λ reply. IsAnswered C.shows ask reply (known pass.new).seen (known pass.new).mine) }
+    ensures left { IfErr result (λ why. why ≡ no_reply.Left → IsHeld ask (known pass.new)) }
 {
     let now = clock.now_ms();
     let patience = patience_of(&ask, now);
     match first_turn(rt, alloc, lock, pass, now, gate, ask) {
-        Ok(turned) => wait_for(rt, alloc, lock, pass, clock, gate, patience, turned),
-        Err(Memory) => Err(Memory),
+        Ok(turned) => wait_for(rt, alloc, lock, pass, clock, gate, link, patience, turned),
+        Err(Memory) => Err(NoReply::Memory),
     }
 }
 
-// Looks whenever its answer may have come, until the reply is there.
-fn wait_for<R: Wait, C: SharedCluster, Cl: Clock, G: Gate>(
+// Looks whenever its answer may have come, until the reply is there or the client has gone.
+fn wait_for<R: Wait, C: SharedCluster, Cl: Clock, G: Gate, L: Link>(
     rt: &R,
     alloc: Global,
     lock: &HistoryLock<Served<C>>,
     pass: &mut Pass<Served<C>>,
     clock: &Cl,
     gate: &G,
+    link: &mut L,
     patience: Patience,
     turned: Turned,
-) -> Result<Reply, Memory>
+) -> Result<Reply, NoReply>
     requires own { pass.old.seat.table_id ≡ lock.now.table.shared.table_id }
     requires free { IsFree pass.old.seat }
     requires stands { (ask : SpecAsk) × Stands C.shows turned.number ask turned.got (known pass.old) }
     ensures own { IsSame pass.old.seat pass.new.seat }
     ensures free { IsFree pass.new.seat }
     ensures grown { Grows (known pass.old) (known pass.new) }
+    ensures link { IsAfterAsk result (L.state link.old) (L.state link.new) }
     ensures answered { IfOk result (λ reply. (ask : SpecAsk) → Stands C.shows turned.number ask turned.got (known pass.old)
         → IsAnswered C.shows ask reply (known pass.new).seen (known pass.new).mine) }
+    ensures left { IfErr result (λ why. why ≡ no_reply.Left → (ask : SpecAsk) → Stands C.shows turned.number ask turned.got (known pass.old) → IsHeld ask (known pass.new)) }
 {
     let Turned {
         mut number,
@@ -124,14 +176,21 @@ fn wait_for<R: Wait, C: SharedCluster, Cl: Clock, G: Gate>(
             Collected::NotYet => {}
             Collected::Gone => unreachable!(),
         }
-        gate.idle(number, rings, patience.left(clock.now_ms()));
+        let held = Held {
+            number,
+            rings,
+            patience,
+        };
+        if waits_in_vain(rt, clock, gate, link, &held) {
+            return Err(NoReply::Left);
+        }
         match next_turn(rt, alloc, lock, pass, clock.now_ms(), gate, number) {
             Ok(turned) => {
                 number = turned.number;
                 got = turned.got;
                 rings = turned.rings;
             }
-            Err(Memory) => return Err(Memory),
+            Err(Memory) => return Err(NoReply::Memory),
         }
     }
     unreachable!()

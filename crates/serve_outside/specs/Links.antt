@@ -1,14 +1,15 @@
 -- What a connection tells, and what its calls do to that.
-use Rattle.std.specs.Prelude.{◌≡◌, ℕ, Bool, false, true, List, [], ◌++◌, length, take, Option, Result, MatchResult}
+use Rattle.std.specs.Prelude.{◌≡◌, ℕ, ◌≤◌, Bool, false, true, List, [], ◌++◌, length, take, Option, Result, MatchResult}
 use Rattle.std.specs.Option.{ForSome}
 use Rattle.std.specs.Io.{ReadsAtMost, WritesAtMost}
 use Rattle.std.specs.Io.KnownBytes.{append_known}
-use Rattle.cat_outside.specs.Causes.{HasCause, WriteHasCause, CountsEnd}
+use Rattle.cat_outside.specs.Causes.{Rose, HasCause, WriteHasCause, CountsEnd}
 use Rattle.cat_outside.specs.declared.faults.Failed.{Failed}
 use Rattle.cat_outside.specs.declared.faults.KeepFail.{KeepFail}
 
 -- What a connection tells: its number, the bytes read from it and written to it where it tells them, how often a read
--- found the end, how many reads and writes failed, and whether it is shut.
+-- found the end, how many reads and writes failed, and whether it is shut. That its client has gone while a request
+-- waited counts as a read that failed.
 pub record LinkState : Type 0 where
   pub number : ℕ
   pub heard : Option (List ℕ)
@@ -49,6 +50,13 @@ pub record Writes (old : LinkState) (piece : List ℕ) (result : Result ℕ Keep
   pub ends : new.ends ≡ old.ends
   pub read_faults : new.read_faults ≡ old.read_faults
   pub shut : new.shut ≡ old.shut
+
+-- a look whether the client has gone: that counts as a failed read, and else nothing changes
+pub record Leaves (old : LinkState) (gone : Bool) (new : LinkState) : Type 0 where
+  pub still : gone ≡ false → new ≡ old
+  pub counted : gone ≡ true → Rose old.read_faults new.read_faults
+  pub later : old.read_faults ≤ new.read_faults
+  pub rest : new ≡ record old { read_faults = new.read_faults }
 
 -- the connection is shut, and nothing else has changed
 abbrev pub Shuts : LinkState → LinkState → Type 0

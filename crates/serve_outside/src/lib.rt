@@ -21,7 +21,7 @@ mod words;
 pub use awaited::{Awaited, Limits};
 pub use bells::Bells;
 pub use job::{Job, NoteOf, Task};
-pub use keepers::{Keepers, MemKeepers, SureKeepers};
+pub use keepers::{Folder, Keepers, MadeStore, MemKeepers, SureKeepers};
 pub use link::{Link, Listener};
 pub use machine::{MachineClock, SeededWords};
 pub use mem_link::{MemLink, Script};

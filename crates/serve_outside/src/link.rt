@@ -1,6 +1,6 @@
 ghost use Rattle.std.specs.Prelude.{◌≡◌, ℕ, ◌+◌, List, [], ◌∷◌, ◌++◌, false, IfOk, MatchResult, Option, Some};
 ghost use Rattle.cat_outside.specs.Causes.{HasCause};
-ghost use Rattle.serve_outside.specs.Links.{LinkState, IsNew, Reads, Writes, Shuts};
+ghost use Rattle.serve_outside.specs.Links.{LinkState, IsNew, Reads, Writes, Leaves, Shuts};
 
 use crate::Awaited;
 use cat_outside::{Failed, KeepFail};
@@ -23,6 +23,11 @@ pub trait Link: Drop {
     fn write(&mut self, piece: &[u8]) -> Result<usize, KeepFail>
         requires still_open { (state self.old).shut ≡ false }
         ensures { Writes (state self.old) piece.now result (state self.new) };
+
+    /// Whether the client has gone, asked without waiting: nothing that it sent is left to be read, and it has ended or the
+    /// connection broke. That counts as a read that failed; else nothing changes.
+    fn has_gone(&mut self) -> bool
+        ensures { Leaves (state self.old) result (state self.new) };
 
     /// Closes the connection for good.
     fn shut(&mut self)

@@ -14,7 +14,7 @@ pub struct Script {
     pub bytes: Bytes,
     /// The most bytes that one read gives, of which 0 counts as 1.
     pub most: usize,
-    /// The numbers of the reads and writes that fail, counted from 1.
+    /// The numbers of the reads and writes that fail, and of the looks that find the client gone, counted from 1.
     pub failing: List<u64>,
 }
 
@@ -107,7 +107,7 @@ impl MemLink {
 
 impl Link for MemLink {
     ghost use Rattle.serve_outside.specs.InMemory.{told, readable};
-    ghost use Rattle.serve_outside.specs.Links.{Reads, Writes};
+    ghost use Rattle.serve_outside.specs.Links.{Leaves, Reads, Writes};
 
     ghost state = { told };
 
@@ -155,6 +155,20 @@ impl Link for MemLink {
         }
         self.calls = call;
         Ok(piece.len())
+    }
+
+    // Its client waits for whatever comes, unless the look is one of the listed calls.
+    fn has_gone(&mut self) -> bool
+        ensures leaves { Leaves (told self.old) result (told self.new) }
+        ensures listed { result ≡ is_listed self.old.script.failing (counted self.old.calls) }
+        ensures calls { (self.new.calls ≡ counted self.old.calls) × (self.new.script ≡ self.old.script) }
+    {
+        self.calls = self.calls.saturating_add(1);
+        let gone = is_listed(&self.script.failing, self.calls);
+        if gone {
+            self.read_faults = self.read_faults.saturating_add(1);
+        }
+        gone
     }
 
     fn shut(&mut self) {

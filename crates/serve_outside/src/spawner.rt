@@ -2,8 +2,10 @@ ghost use Rattle.std.specs.Prelude.{◌≡◌, ℕ, ◌+◌, ◌≤◌, true, fa
 ghost use Rattle.cat_outside.specs.Causes.{Rose};
 ghost use Rattle.serve_outside.specs.Tasks.{note_of, IsKept};
 
-use crate::job::{Job, NoteOf, Task};
+use crate::job::{Job, NoteOf, Task, Told};
+use std::alloc::Global;
 use std::snapshot::Snapshot;
+use std::sync::Arc;
 use std::sync::atomic::{AtomicBool, Ordering};
 use std::thread;
 use std::thread::{Promise, Threads};
@@ -32,6 +34,7 @@ pub trait Spawner {
 pub fn start<S: Spawner, R: Threads, J: Job + Send + 'static>(
     spawner: &mut S,
     rt: &R,
+    alloc: Global,
     job: J,
 ) -> Result<Task<NoteOf<J>, J::Done>, J>
 where
@@ -49,7 +52,7 @@ where
     if !spawner.has_threads() {
         return Ok(Task::Ended(note, job.run()));
     }
-    match in_thread(rt, job) {
+    match in_thread(rt, alloc, job) {
         Ok(task) => Ok(task),
         Err(done) => {
             spawner.count_missed();
@@ -58,9 +61,33 @@ where
     }
 }
 
+// A place where a job tells that it has ended, for the job and for whoever asks it.
+fn telling(alloc: Global) -> (Told, Told) {
+    let Ok(told) = Arc::new(alloc, AtomicBool::new(false)) else {
+        return (None, None);
+    };
+    match Arc::try_clone(&told) {
+        Ok(own) => (Some(own), Some(told)),
+        Err(_) => (None, None),
+    }
+}
+
+// Runs a job, and tells that it has ended.
+fn run_and_tell<J: Job>(job: J, told: Told) -> J::Done
+    requires { J.ready job }
+    ensures { J.keeps job result }
+{
+    let done = job.run();
+    if let Some(told) = told {
+        told.store(true, Ordering::SeqCst);
+    }
+    done
+}
+
 // A thread for the job; or what the job gave here, where no thread can be made.
 fn in_thread<R: Threads, J: Job + Send + 'static>(
     rt: &R,
+    alloc: Global,
     job: J,
 ) -> Result<Task<NoteOf<J>, J::Done>, J::Done>
 where
@@ -70,8 +97,9 @@ where
     ensures here { IfErr result (λ done. J.keeps job done) }
 {
     let note = NoteOf(Snapshot::of(&job));
-    match thread::spawn_with(rt, note, move || job.run()) {
-        Ok(handle) => Ok(Task::Running(handle)),
+    let (own, told) = telling(alloc);
+    match thread::spawn_with(rt, note, move || run_and_tell(job, own)) {
+        Ok(handle) => Ok(Task::Running(handle, told)),
         Err(refused) => Err((refused.value)()),
     }
 }
@@ -96,7 +124,7 @@ where
     }
     let promise = NoteOf(Snapshot::of(&job));
     match thread::spawn_with(rt, promise, move || job.run()) {
-        Ok(handle) => Task::Running(handle),
+        Ok(handle) => Task::Running(handle, None),
         Err(refused) => {
             stop.store(true, Ordering::SeqCst);
             Task::Ended(note, (refused.value)())
@@ -111,6 +139,6 @@ pub fn finish<R: Threads, P: Promise<D> + Drop, D>(rt: &R, task: Task<P, D>) -> 
 {
     match task {
         Task::Ended(_, done) => done,
-        Task::Running(handle) => handle.join(rt),
+        Task::Running(handle, _) => handle.join(rt),
     }
 }

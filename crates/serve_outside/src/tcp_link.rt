@@ -48,6 +48,22 @@ fn write_to(stream: &mut Option<TcpStream>, piece: &[u8]) -> io::Result<usize>
     }
 }
 
+// Whether nothing is left to be read, and the client has ended or the connection broke. A stream that cannot be set to
+// wait again is of no more use.
+fn has_ended(stream: &TcpStream) -> bool {
+    if stream.set_nonblocking(true).is_err() {
+        return false;
+    }
+    let seen = stream.peek(&mut [0]);
+    if stream.set_nonblocking(false).is_err() {
+        return true;
+    }
+    match seen {
+        Ok(count) => count == 0,
+        Err(fault) => fault.kind() != ErrorKind::WouldBlock,
+    }
+}
+
 impl<R: Clock + Drop> TcpLink<R> {
     ghost use Rattle.serve_outside.specs.Links.{IsNew};
 
@@ -146,6 +162,17 @@ impl<R: Clock + Drop> Link for TcpLink<R> {
                 Err(KeepFail::Failed)
             }
         }
+    }
+
+    fn has_gone(&mut self) -> bool {
+        let gone = match &self.stream {
+            Some(stream) => has_ended(stream),
+            None => false,
+        };
+        if gone {
+            self.fail_read();
+        }
+        gone
     }
 
     fn shut(&mut self) {

@@ -4,7 +4,8 @@ use Rattle.http_wire.specs.State.{Told}
 use Rattle.serve_loop.specs.Boards.{known}
 use Rattle.serve_loop.specs.Serving.{Connection}
 use Rattle.serve_loop.specs.Stages.{Talks}
-use Rattle.serve_loop.proofs.Exchanges.{begins, ends_shut}
+use Rattle.serve_loop.proofs.Exchanges.{begins}
+use Rattle.serve_loop.proofs.Shutting.{ends_shut}
 use Rattle.serve_loop.proofs.job.serve_connection.Goals as goal
 
 pub serve-cause-requires-clause-talks : goal.serve-cause-requires-clause-talks

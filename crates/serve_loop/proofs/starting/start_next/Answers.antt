@@ -5,7 +5,7 @@ use Rattle.cat_model.specs.declared.request.Draw.{Draw}
 use Rattle.serve_loop.specs.declared.run.Stop.TheVariants as stops
 use Rattle.serve_loop.specs.Jobs.{HasEnded}
 use Rattle.serve_loop.specs.Runs.{HasDrawn}
-use Rattle.serve_loop.proofs.Runs.{has_drawn, started_more, starts_none}
+use Rattle.serve_loop.proofs.Runs.{has_drawn, keeps_drawn, started_more, starts_none}
 use Rattle.serve_loop.proofs.starting.start_next.Goals as goal
 
 pub returns-in-Ok-Some-clause-tasks : goal.returns-in-Ok-Some-clause-tasks
@@ -24,3 +24,9 @@ returns-in-Ok-None-clause-drawn g c =
 pub returns-in-Err-clause-starts : goal.returns-in-Err-clause-starts
 returns-in-Err-clause-starts g c =
     starts_none (g.L.Listener.closed c.args.listener.now) (g.Sp.Spawner.faults c.args.spawner.now) (g.L.Listener.given c.args.listener.now) (length c.args.tasks.now.items) (length c.reserve.new.self.items) (Err stops.Memory) (ap (λ (l : List _). length l) c.reserve.ensures.items)
+
+pub returns-in-Ok-Some-clause-later : goal.returns-in-Ok-Some-clause-later
+returns-in-Ok-Some-clause-later g c = keeps_drawn (g.W.Words.draws c.args.words.now) (g.W.Words.draws c.draw-draw.new.self) c.draw-draw.result c.draw-draw.ensures
+
+pub returns-in-Ok-None-clause-later : goal.returns-in-Ok-None-clause-later
+returns-in-Ok-None-clause-later g c = keeps_drawn (g.W.Words.draws c.args.words.now) (g.W.Words.draws c.draw-draw.new.self) c.draw-draw.result c.draw-draw.ensures

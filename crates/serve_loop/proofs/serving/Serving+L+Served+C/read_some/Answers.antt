@@ -1,6 +1,6 @@
 use Rattle.std.proofs.Common.{arith}
 use Rattle.serve_loop.specs.Services.{connection, stage}
-use Rattle.serve_loop.proofs.Exchanges.{read_end, read_fault, read_more}
+use Rattle.serve_loop.proofs.Exchanges.{read_end, read_fault}
 use Rattle.serve_loop.proofs.serving.Serving+L+Served+C.read_some.Goals as goal
 
 pub returns-in-Ok-eq0-clause-goes_on : goal.returns-in-Ok-eq0-clause-goes_on
