@@ -38,7 +38,7 @@ pub fn play<R: Threads + Wait + time::Clock + Copy + Send + Sync + Drop + 'stati
         &mut listener,
         &mut CountWords::new(),
         &mut MemSpawner::new(List::new(alloc)),
-        &mut SureKeepers,
+        &mut SureKeepers::new(),
     );
     Ok(Played {
         status: outcome.into_status(),

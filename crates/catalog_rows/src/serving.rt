@@ -103,7 +103,7 @@ fn serve_by<
         &mut listener,
         &mut CountWords::new(),
         spawner,
-        &mut SureKeepers,
+        &mut SureKeepers::new(),
     );
     Ok(Ended {
         status: outcome.into_status(),

@@ -5,11 +5,12 @@ use Rattle.load_player.specs.declared.load.Load.{Load}
 use Rattle.load_player.specs.Load.{AsksForLoad}
 use Rattle.server.specs.declared.options.Options.{Options}
 use Rattle.server.specs.Options.{AsksFor}
+use Rattle.server.proofs.Asking.{words_are}
 use Rattle.catalog_top.specs.Status.{IsLoadStatus}
 
 -- they ask for no server
 pub asks_load_no_server : (words : List (List ℕ)) (load : Load) (options : Options) → AsksForLoad words load → AsksFor words options → ⊥
-asks_load_no_server words load options x y = cc (sym x.are ∙ y.are)
+asks_load_no_server words load options x y = cc (sym x.are ∙ words_are words options y)
 
 -- a load's words are never wrong
 pub load_not_two : (n : ℕ) → IsLoadStatus n → n ≡ 2 → ⊥

@@ -1,6 +1,6 @@
 -- How a server's end is told.
 use Rattle.std.proofs.Common.{◌≡◌, ℕ, Result, Ok, Err, refl, ap, subst}
-use Rattle.std.specs.Prelude.{IfErr, MatchResult, OnErr, OnOk}
+use Rattle.std.specs.Prelude.{IfErr, MatchResult, OnErr}
 use Rattle.cat_outside.specs.Causes.{Rose}
 use Rattle.script_player.specs.declared.report.Report.{Report}
 use Rattle.server.specs.declared.running.Stop as server
@@ -38,10 +38,3 @@ not_nine (Err server.TheVariants.Listener) o k k' t counts n = counts
 not_nine (Err server.TheVariants.Sink) o k k' t counts n = counts
 not_nine (Err server.TheVariants.Keepers) o k k' t counts n = absurd (n (ap (λ (z : Outcome). z.status) t))
 not_nine (Err server.TheVariants.Memory) o k k' t counts n = counts
-
-pub zero_of : (r : Result Report server.Stop) (o : Outcome) (P : Type 0) → IsToldAs r o → OnOk r P → o.status ≡ 0 → P
-zero_of (Ok report) o P t p e = p
-zero_of (Err server.TheVariants.Listener) o P t p e = absurd (cc (status_of o _ 0 t e))
-zero_of (Err server.TheVariants.Sink) o P t p e = absurd (cc (status_of o _ 0 t e))
-zero_of (Err server.TheVariants.Keepers) o P t p e = absurd (cc (status_of o _ 0 t e))
-zero_of (Err server.TheVariants.Memory) o P t p e = absurd (cc (status_of o _ 0 t e))

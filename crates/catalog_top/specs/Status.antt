@@ -11,7 +11,7 @@ use Rattle.catalog_top.specs.declared.outcome.Stop.{Stop}
 use Rattle.catalog_top.specs.declared.outcome.Stop.TheVariants as stop
 
 -- done, wrong words, a refused line, a source that failed, a sink that failed, a listener that failed, a script above a
--- limit, want of memory, a durable store that could not be made
+-- limit, want of memory, a durable store that could not be made or read
 abbrev pub IsStatus : ℕ → Type 0
 IsStatus n = (n ≡ 0) ⊎ ((n ≡ 2) ⊎ ((n ≡ 3) ⊎ ((n ≡ 4) ⊎ ((n ≡ 5) ⊎ ((n ≡ 6) ⊎ ((n ≡ 7) ⊎ ((n ≡ 8) ⊎ (n ≡ 9))))))))
 

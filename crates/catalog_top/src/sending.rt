@@ -1,4 +1,4 @@
-//! That a cluster over stores in memory may go to another thread, as the turns of a server ask. Each part of it has a
+//! That a cluster may go to another thread if its stores may, as the turns of a server ask. Each part of it has a
 //! function of its own, since a search over the whole at once gives up.
 
 ghost use denote.Param.Send.{IsSend};
@@ -20,8 +20,6 @@ ghost use Rattle.agent_state.specs.contracts.agent.Agent as agent;
 ghost use Rattle.open_requests.specs.contracts.content.Content as content;
 ghost use Rattle.open_requests.specs.contracts.out.Out as out;
 ghost use Rattle.open_requests.specs.contracts.requests.Requests as requests;
-ghost use Rattle.cat_outside.specs.contracts.mem_keeper.MemKeeper as mem_keeper;
-ghost use Rattle.cat_outside.specs.contracts.mem_keeper.MemKeeperKeeper.TheImpl.{ghosts};
 ghost use Rattle.raft_world.specs.contracts.world.World as world;
 ghost use Rattle.cluster_servers.specs.contracts.servers.Servers as servers;
 ghost use Rattle.watch_registry.specs.contracts.registry.WatchRegistry as registry;
@@ -31,7 +29,7 @@ ghost use Rattle.cluster.specs.contracts.cluster.Cluster as cluster;
 
 use agent_state::Agent;
 use cat_model::{Applied, Asked, Command, Shared};
-use cat_outside::MemKeeper;
+use cat_outside::Keeper;
 use catalog_store::Store;
 use catalog_table::CatalogTable;
 use cluster::Cluster;
@@ -191,27 +189,27 @@ fn watches_send()
     sends::<Watch>();
 }
 
-fn worlds_send()
-    ensures { IsSend (world.the_row mem_keeper.the_row ghosts) }
+fn worlds_send<K: Keeper + Drop + Send + 'static>()
+    ensures { IsSend (world.the_row K.row ⟦<K as Keeper>⟧) }
 {
-    sends::<World<MemKeeper>>();
+    sends::<World<K>>();
 }
 
-fn servers_send()
-    ensures { IsSend (servers.the_row mem_keeper.the_row ghosts) }
+fn servers_send<K: Keeper + Drop + Send + 'static>()
+    ensures { IsSend (servers.the_row K.row ⟦<K as Keeper>⟧) }
 {
     replicas_send();
-    worlds_send();
-    sends::<Servers<MemKeeper>>();
+    worlds_send::<K>();
+    sends::<Servers<K>>();
 }
 
-/// A law, which does nothing: a cluster over stores in memory may go to another thread.
-pub fn clusters_send()
-    ensures { IsSend (cluster.the_row mem_keeper.the_row ghosts) }
+/// A law, which does nothing: a cluster over stores that may go to another thread may go there too.
+pub fn clusters_send<K: Keeper + Drop + Send + 'static>()
+    ensures { IsSend (cluster.the_row K.row ⟦<K as Keeper>⟧) }
 {
-    servers_send();
+    servers_send::<K>();
     agents_send();
     requests_send();
     watches_send();
-    sends::<Cluster<MemKeeper>>();
+    sends::<Cluster<K>>();
 }

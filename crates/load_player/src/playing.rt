@@ -10,7 +10,7 @@ ghost use Rattle.load_player.specs.Played.{PlayedLoad, WritesLoadPart};
 
 use crate::load::Load;
 use cat_model::Memory;
-use cat_outside::{KeepFail, Sink};
+use cat_outside::{KeepFail, MemKeeper, Sink};
 use cluster_interface::ClusterInterface;
 use load_script::{make_load, summarize};
 use script_player::{Found, Report, play_finding, write_all};
@@ -18,7 +18,7 @@ use std::alloc::Global;
 
 /// Plays the load's script on servers of the type `S`, writes the line that sums it up, and reports the run. After a
 /// failed write, or for want of memory, a first part of the line is written.
-pub fn play_load<S: ClusterInterface, Si: Sink>(
+pub fn play_load<S: ClusterInterface<K = MemKeeper>, Si: Sink>(
     alloc: Global,
     load: &Load,
     sink: &mut Si,
@@ -42,7 +42,7 @@ pub fn play_load<S: ClusterInterface, Si: Sink>(
 
 // Plays the load with this seed and size, no line of which is refused. It reports the run, with the numbers of the
 // requests that found something.
-fn play_drawn<S: ClusterInterface>(
+fn play_drawn<S: ClusterInterface<K = MemKeeper>>(
     alloc: Global,
     seed: u64,
     size: u32,

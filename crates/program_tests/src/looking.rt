@@ -1,13 +1,14 @@
 //! A read that waits on a connection, by a clock and a gate of the test's own.
 
-ghost use Rattle.std.specs.Prelude.{◌≡◌, IfOk};
+ghost use Rattle.std.specs.Prelude.{◌≡◌, ◌∷◌, [], IfOk, Some, true};
 ghost use Rattle.std.specs.Arc.{arc_value};
+ghost use Rattle.cat_model.specs.Keeping.{nothing_kept};
+ghost use Rattle.cluster_interface.specs.Starting.{store_of};
 ghost use Rattle.serve_loop.specs.Boards.{IsOurs};
 
 use cat_model::{Bytes, Draw, List, Memory};
 use cat_outside::MemKeeper;
 use cluster::Cluster;
-use cluster_interface::empty_stores;
 use crossbeam_utils::CachePadded;
 use http_wire::RequestReader;
 use serve_loop::{Board, Cause, ServeJob, Served, SharedCluster, serve_connection};
@@ -90,15 +91,18 @@ fn is_answered<J: ClusterSize, R: Wait + Drop>(
     alloc: Global,
     steps: &Arc<Steps, Global>,
 ) -> Result<bool, Memory>
-    requires { J.size ≡ record { servers = 1; agents = 1 } }
+    requires { J.size ≡ record { stores = store_of (Some nothing_kept) 0 0 true ∷ []; agents = 1 } }
 {
     let script = Script {
         bytes: Bytes::new(alloc, WAITS)?,
         most: usize::MAX,
         failing: List::new(alloc),
     };
-    let stores = empty_stores(alloc, 1)?;
-    let cluster = ServingCluster::<J, Cluster<MemKeeper>>::begin(alloc, stores, 1, 4096)?;
+    let mut stores = List::new(alloc);
+    stores.push(MemKeeper::new(alloc, List::new(alloc)))?;
+    let Ok(cluster) = ServingCluster::<J, Cluster<MemKeeper>>::begin(alloc, stores, 1, 4096) else {
+        return Err(Memory);
+    };
     let (board, pass) = board_over(alloc, cluster)?;
     let clock = StepClock {
         steps: Arc::try_clone(steps)?,

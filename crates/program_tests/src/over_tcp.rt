@@ -5,12 +5,12 @@ use cat_outside::{MemSink, MemSource};
 use catalog_top::{Machine, run};
 use serve_outside::{Bells, MachineClock, SeededWords, SureKeepers, TcpLinks, ThreadSpawner};
 use std::alloc::Global;
-use std::io::Read;
+use std::io::{Read, Write};
 use std::net::{Ipv4Addr, Net, SocketAddr, TcpListener, TcpStream};
 use std::sync::Wait;
 use std::thread::Threads;
 use std::time::Duration;
-use std::{thread, time};
+use std::{str, thread, time};
 
 // The address of a port of 127.0.0.1.
 fn local(port: u16) -> SocketAddr {
@@ -66,7 +66,18 @@ pub fn hears(
 
 pub const FOUND: &[u8] = b"HTTP/1.1 200 OK\r\n";
 
-// Whether a server of three servers and two agents serves so many connections to their end.
+pub const NOT_FOUND: &[u8] = b"HTTP/1.1 404 Not Found\r\n";
+
+// Sends a request with this body.
+pub fn ask(alloc: Global, stream: &mut TcpStream, line: &str, body: &str) -> Option<()> {
+    let len = body.len();
+    let text = format!(in alloc;
+        "{line} HTTP/1.1\r\nHost: here\r\nContent-Length: {len}\r\n\r\n{body}"
+    ).ok()?;
+    stream.write_all(text.as_str().as_bytes()).ok()
+}
+
+// Whether a server of three servers and two agents serves so many connections to their end, and no request is left.
 pub fn serve<
     R: Threads
         + Wait
@@ -81,11 +92,20 @@ pub fn serve<
     let text = format!(in alloc;
         "serve --servers 3 --agents 2 --port {port} --connections {connections}"
     ).ok()?;
-    serve_words(rt, alloc, text.as_str())
+    serve_words(rt, alloc, text.as_str(), " open 0\n")
 }
 
-// Whether a server of these words, which end with how many connections it serves, serves them to their end.
-fn serve_words<
+// Whether the text has this part.
+fn has(text: &[u8], part: &str) -> bool {
+    match str::from_utf8(text) {
+        Ok(text) => text.contains(part),
+        Err(_) => false,
+    }
+}
+
+// Whether a server of these words, which end with how many connections it serves, serves them to their end, and its text
+// has this part.
+pub fn serve_words<
     R: Threads
         + Wait
         + time::Clock
@@ -95,7 +115,7 @@ fn serve_words<
         + Sync
         + Drop
         + 'static,
->(rt: R, alloc: Global, text: &str) -> Option<bool> {
+>(rt: R, alloc: Global, text: &str, part: &str) -> Option<bool> {
     let words: Vec<&str> = text.split(' ').collect(alloc).ok()?;
     let mut source = MemSource::new(Bytes::new(alloc, b"").ok()?, List::new(alloc));
     let mut sink = MemSink::new(alloc, List::new(alloc));
@@ -113,9 +133,9 @@ fn serve_words<
         &mut TcpLinks::new(rt),
         &mut SeededWords::new(&rt),
         &mut ThreadSpawner::new(),
-        &mut SureKeepers,
+        &mut SureKeepers::new(),
     );
-    Some(outcome.into_status() == 0 && sink.bytes().ends_with(b" open 0\n"))
+    Some(outcome.into_status() == 0 && has(sink.bytes(), part))
 }
 
 // A port on which nothing listens.

@@ -1,9 +1,8 @@
 //! Requests that wait, over TCP and threads: one that the write of another connection answers, and one that the end of a
 //! session answers while nobody asks.
 
-use crate::over_tcp::{FOUND, connect, free_port, hear, hears, serve};
+use crate::over_tcp::{FOUND, NOT_FOUND, ask, connect, free_port, hear, hears, serve};
 use std::alloc::Global;
-use std::io::Write;
 use std::net::{Net, TcpListener, TcpStream};
 use std::process::Abort;
 use std::sync::Wait;
@@ -11,8 +10,6 @@ use std::test::Fail;
 use std::thread::Threads;
 use std::time::Duration;
 use std::{str, thread, time};
-
-const NOT_FOUND: &[u8] = b"HTTP/1.1 404 Not Found\r\n";
 
 // How long the writer lets the waiter wait.
 const PAUSE_MS: u64 = 500;
@@ -26,15 +23,6 @@ enum Part {
     Serves,
     Waits,
     Writes,
-}
-
-// Sends a request with this body.
-fn ask(alloc: Global, stream: &mut TcpStream, line: &str, body: &str) -> Option<()> {
-    let len = body.len();
-    let text = format!(in alloc;
-        "{line} HTTP/1.1\r\nHost: here\r\nContent-Length: {len}\r\n\r\n{body}"
-    ).ok()?;
-    stream.write_all(text.as_str().as_bytes()).ok()
 }
 
 // The machine's time in milliseconds.

@@ -7,3 +7,4 @@ pub mod Turning
 pub mod Runs
 pub mod Openings
 pub mod Endings
+pub mod FirstStart

@@ -15,13 +15,14 @@ use crate::report::Report;
 use crate::stage::{Played, play};
 use crate::starting::start;
 use cat_model::{List, Memory};
+use cat_outside::MemKeeper;
 use cluster_interface::ClusterInterface;
 use http_routes::Routes;
 use std::alloc::Global;
 
 /// Plays the script as `play_script` does, but writes nothing: it reports the run, with the numbers of the requests
 /// that found something. There is no report where a line is refused.
-pub fn play_finding<S: ClusterInterface>(
+pub fn play_finding<S: ClusterInterface<K = MemKeeper>>(
     alloc: Global,
     script: &[u8],
 ) -> Result<Option<(Report, Found)>, Memory>
@@ -40,7 +41,7 @@ pub fn play_finding<S: ClusterInterface>(
 }
 
 // Plays the lines of an opened script.
-fn find_opened<S: ClusterInterface>(
+fn find_opened<S: ClusterInterface<K = MemKeeper>>(
     alloc: Global,
     routes: &Routes,
     opened: &Opened,

@@ -18,7 +18,7 @@ use crate::stage::{Played, play};
 use crate::starting::start;
 use crate::text::{end_text, refused_text};
 use cat_model::{Bytes, List, Memory};
-use cat_outside::{KeepFail, Sink};
+use cat_outside::{KeepFail, MemKeeper, Sink};
 use cluster_interface::ClusterInterface;
 use http_routes::Routes;
 use std::alloc::Global;
@@ -26,7 +26,7 @@ use std::alloc::Global;
 /// Plays the script on servers of the type `S` that are started as its first line says, writes what its lines give and
 /// then a last line, and reports the run. There is no report where a line is refused: then the last line says which one,
 /// and why. After a failed write, or for want of memory, a first part of the text is written.
-pub fn play_script<S: ClusterInterface, Si: Sink>(
+pub fn play_script<S: ClusterInterface<K = MemKeeper>, Si: Sink>(
     alloc: Global,
     sink: &mut Si,
     script: &[u8],
@@ -50,7 +50,7 @@ pub fn play_script<S: ClusterInterface, Si: Sink>(
 }
 
 // Plays the lines of an opened script.
-fn play_opened<S: ClusterInterface, Si: Sink>(
+fn play_opened<S: ClusterInterface<K = MemKeeper>, Si: Sink>(
     alloc: Global,
     routes: &Routes,
     sink: &mut Si,

@@ -1,5 +1,5 @@
 -- How a server ends, from its parts.
-use Rattle.std.proofs.Common.{◌≡◌, ℕ, List, Option, Some, Result, Ok, Err, reverse, refl, sym, ap, ◌∙◌, subst}
+use Rattle.std.proofs.Common.{◌≡◌, ◌⊎◌, inl, ℕ, List, Option, Some, Result, Ok, Err, sym, subst}
 use Rattle.std.specs.Prelude.{IfErr, IfOk, OnErr, OnOk}
 use Rattle.std.specs.Io.KnownBytes.{Appends}
 use Rattle.std.proofs.KnownBytes.{Appends-trans}
@@ -11,42 +11,36 @@ use Rattle.script_player.specs.declared.report.Report.{Report}
 use Rattle.script_player.specs.Run.{IsReportOf, WritesPart}
 use Rattle.script_player.specs.Text.{last_text}
 use Rattle.serve_outside.specs.Links.{LinkState}
-use Rattle.turn_lock.specs.Lists.{IsFront}
+use Rattle.serve_outside.specs.Stores.{AddsMade, Made, made_from}
 use Rattle.serve_loop.specs.declared.run.Stop as loop
-use Rattle.serve_loop.specs.Runs.{HandsBack}
+use Rattle.serve_loop.specs.Runs.{most_of}
 use Rattle.serving_rules.specs.Serving.{Size, Serves}
 use Rattle.serving_rules.proofs.Holding.{holds}
-use Rattle.serving_cluster.specs.Shown.{Shows}
 use Rattle.server.specs.declared.options.Options.{Options}
 use Rattle.server.specs.declared.running.Stop.{Stop}
 use Rattle.server.specs.declared.running.Stop.TheVariants as stops
-use Rattle.server.specs.Served.{GivesBack, Serve, Served, WritesFront, WritesWhole, all_back, none_given, of_first, size_of}
+use Rattle.server.specs.Served.{Fits, GivesBack, Serve, Served, ServedBy, WritesFront, WritesWhole, all_back, none_given, of_first}
 use Rattle.server.specs.Text.{listening_text}
 use Rattle.server.proofs.Texts.{front_all, part_whole, whole_all}
 
 -- the links of a run, whose listener had given none before
-module _ (o : Options) (size : Size) (e : size ≡ size_of o) (draws : Option (List Draw)) (closed closed₁ closed' : List LinkState) (same : closed₁ ≡ closed) (faults faults' given : ℕ) (c : Cluster) (ended : Result Unit loop.Stop) where
-  links_of : HandsBack Shows size.agents draws (λ seen. IsFront seen (reverse c.past)) closed₁ closed' faults faults' given ended → Serve o draws c closed closed' faults faults' given ended
-  links_of links =
-      subst (λ (l : List LinkState). HandsBack Shows o.agents draws (λ seen. IsFront seen (reverse c.past)) l closed' faults faults' given ended) same
-      (subst (λ (z : Size). HandsBack Shows z.agents draws (λ seen. IsFront seen (reverse c.past)) closed₁ closed' faults faults' given ended) e links)
+module _ (o : Options) (size : Size) (f : Fits o size) (draws : Option (List Draw)) (closed closed₁ closed' : List LinkState) (same : closed₁ ≡ closed) (faults faults' given : ℕ) (c : Cluster) (ended : Result Unit loop.Stop) where
+  links_of : Serve size draws c closed₁ closed' faults faults' given ended → Serve size draws c closed closed' faults faults' given ended
+  links_of links = subst (λ (l : List LinkState). Serve size draws c l closed' faults faults' given ended) same links
 
-  serves_of : Serves size c → Serves (size_of o) c
-  serves_of serves = subst (λ (z : Size). Serves z c) e serves
-
-  pub back_of : Serves size c → HandsBack Shows size.agents draws (λ seen. IsFront seen (reverse c.past)) closed₁ closed' faults faults' given ended → GivesBack o draws closed closed' faults faults' given
-  back_of serves links = all_back c ended (serves_of serves) (links_of links)
+  pub back_of : Serves size c → Serve size draws c closed₁ closed' faults faults' given ended → GivesBack o draws closed closed' faults faults' given
+  back_of serves links = all_back size c ended f serves (links_of links)
 
   pub served_of : (port : Option ℕ) → port ≡ Some o.port → (held mid held' : Option (List ℕ)) (r : Result Report Stop) → Serves size c
-      → HandsBack Shows size.agents draws (λ seen. IsFront seen (reverse c.past)) closed₁ closed' faults faults' given ended
-      → OnOk ended (given ≡ o.connections) → Appends held mid (listening_text o.port) → OnOk r (Appends mid held' (last_text Whole c)) → IfOk r (IsReportOf c (events_in c.past)) → OnOk r (ended ≡ Ok tt)
-      → IfOk r (Served o draws closed closed' faults faults' given port held held')
+      → Serve size draws c closed₁ closed' faults faults' given ended
+      → OnOk ended (given ≡ most_of o.connections) → Appends held mid (listening_text o.port) → OnOk r (Appends mid held' (last_text Whole c)) → IfOk r (IsReportOf c (events_in c.past)) → OnOk r (ended ≡ Ok tt)
+      → IfOk r (ServedBy size o draws closed closed' faults faults' given port held held')
   served_of port at held mid held' (Ok report) serves links count first text tells whole = record {
     reached = c;
-    serves = serves_of serves;
-    holds = holds (size_of o) c (serves_of serves);
-    links = subst (λ (z : Result Unit loop.Stop). Serve o draws c closed closed' faults faults' given z) whole (links_of links);
-    count = subst (λ (z : Result Unit loop.Stop). OnOk z (given ≡ o.connections)) whole count;
+    serves = serves;
+    holds = holds size c serves;
+    links = subst (λ (z : Result Unit loop.Stop). Serve size draws c closed closed' faults faults' given z) whole (links_of links);
+    count = subst (λ (z : Result Unit loop.Stop). OnOk z (given ≡ most_of o.connections)) whole count;
     listens = at;
     written = Appends-trans held mid held' (listening_text o.port) (last_text Whole c) first text;
     tells = tells;
@@ -55,12 +49,25 @@ module _ (o : Options) (size : Size) (e : size ≡ size_of o) (draws : Option (L
 
   pub front_of : (held mid held' : Option (List ℕ)) (r : Result Report Stop) → Serves size c → Appends held mid (listening_text o.port) → OnErr r (WritesPart mid held' (last_text Whole c)) → OnErr r (WritesFront o held held')
   front_of held mid held' (Ok report) serves first part = tt
-  front_of held mid held' (Err why) serves first part = front_all o held mid held' c (serves_of serves) first part
+  front_of held mid held' (Err why) serves first part = front_all o size f held mid held' c serves first part
 
   pub lined_of : (held mid held' : Option (List ℕ)) (r : Result Report Stop) → Serves size c → Appends held mid (listening_text o.port)
       → IfErr r (λ why. why ≡ stops.Listener → Appends mid held' (last_text Whole c)) → IfErr r (λ why. why ≡ stops.Listener → WritesWhole o held held')
   lined_of held mid held' (Ok report) serves first lined = tt
-  lined_of held mid held' (Err why) serves first lined = λ is. whole_all o held mid held' c (serves_of serves) first (lined is)
+  lined_of held mid held' (Err why) serves first lined = λ is. whole_all o size f held mid held' c serves first (lined is)
+
+-- what was served by the cluster of this size was served by just the stores that were made
+pub served_all : (o : Options) (made made₁ made' : Option (List Made)) (size : Size) → Fits o size → AddsMade made made₁ (made_from o.folder 1 size.stores) → made' ≡ made₁
+    → (draws : Option (List Draw)) (closed closed' : List LinkState) (faults faults' given : ℕ) (port : Option ℕ) (held held' : Option (List ℕ)) (r : Result Report Stop)
+    → IfOk r (ServedBy size o draws closed closed' faults faults' given port held held') → IfOk r (Served o made made' draws closed closed' faults faults' given port held held')
+served_all o made made₁ made' size f are same draws closed closed' faults faults' given port held held' (Ok report) run = record {
+  size = size;
+  fits = f;
+  stores_are = subst (λ (m : Option (List Made)). AddsMade made m (made_from o.folder 1 size.stores)) (sym same) are;
+  run = run;
+  holds = λ none. run.holds (inl (f.empty none).0);
+}
+served_all o made made₁ made' size f are same draws closed closed' faults faults' given port held held' (Err why) run = tt
 
 -- no link was given
 pub back_none : (o : Options) (draws : Option (List Draw)) (closed closed' : List LinkState) (faults faults' given : ℕ) → given ≡ 0 → closed' ≡ closed → GivesBack o draws closed closed' faults faults' given

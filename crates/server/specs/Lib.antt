@@ -1,4 +1,5 @@
 pub mod Options
 pub mod Text
+pub mod Stores
 pub mod Served
 pub mod Complete

@@ -1,6 +1,7 @@
 //! A server of HTTP connections over one cluster: from the words that ask for it to the last line that it writes.
 #![tactic(auto)]
 
+mod beginning;
 pub mod laws;
 mod machine;
 mod options;

@@ -1,6 +1,7 @@
 //! A server, from its options to its last line.
 
-ghost use Rattle.std.specs.Prelude.{◌≡◌, ◌<◌, [], All, Err, IfErr, IfOk, MatchResult, Ok, OnErr, OnOk, length};
+ghost use Rattle.std.specs.Prelude.{◌≡◌, ◌⊎◌, ◌<◌, [], All, Err, IfErr, IfOk, MatchResult, None, Ok, OnErr, OnOk, Some, length, map, true};
+ghost use Rattle.std.specs.Option.{ForSome};
 ghost use Rattle.std.specs.Arc.{arc_value};
 ghost use Rattle.std.specs.Io.KnownBytes.{Appends};
 ghost use Rattle.cat_outside.specs.Causes.{Rose};
@@ -11,18 +12,21 @@ ghost use Rattle.script_runs.specs.Plays.{Whole};
 ghost use Rattle.turn_lock.specs.Lists.{IsFront};
 ghost use Rattle.serve_loop.specs.declared.run.Stop.TheVariants as loop;
 ghost use Rattle.serve_loop.specs.Boards.{IsOurs, known};
-ghost use Rattle.serve_loop.specs.Runs.{HandsBack, HasDrawn};
-ghost use Rattle.cat_outside.specs.KeepersInMemory.{empty_store};
+ghost use Rattle.serve_loop.specs.Runs.{HandsBack, HasDrawn, most_of};
+ghost use Rattle.cat_model.specs.Keeping.{nothing_kept};
+ghost use Rattle.cluster_interface.specs.Starting.{KeepsLimits, store_of};
+ghost use Rattle.serve_outside.specs.Stores.{AddsMade, made_from};
 ghost use Rattle.serving_rules.specs.Serving.{Serves};
 ghost use Rattle.server.specs.Options.{IsWithin};
 ghost use Rattle.server.specs.Served as spec;
 ghost use Rattle.server.specs.Text.{listening_text as listening_text_of};
 
+use crate::beginning::begin_over;
 use crate::machine::Machine;
 use crate::options::Options;
 use crate::stores::make_stores;
 use cat_model::{List, Memory};
-use cat_outside::{Failed, KeepFail, MemKeeper, Sink};
+use cat_outside::{Failed, KeepFail, Keeper, Sink};
 use cluster_interface::ClusterInterface;
 use crossbeam_utils::CachePadded;
 use script_player::{Report, write_all, write_report};
@@ -44,8 +48,8 @@ pub enum Stop {
     Listener,
     #[error("the sink failed")]
     Sink,
-    /// A durable store could not be made. Nothing is written, and nothing was listened on.
-    #[error("a durable store could not be made")]
+    /// A durable store could not be made, or not be read. Nothing is written, and nothing was listened on.
+    #[error("a durable store could not be made or read")]
     Keepers,
     /// There was no memory, for the server or for one of its connections.
     #[error("out of memory")]
@@ -65,9 +69,6 @@ impl From<KeepFail> for Stop {
         }
     }
 }
-
-/// The most messages that are settled before the first connection.
-const MOST: u32 = 4096;
 
 // The line that says where the server listens.
 fn listening_text(alloc: Global, port: u16) -> Result<Vec<u8>, AllocError>
@@ -149,7 +150,7 @@ fn serve_over<
 >(
     machine: Machine<R, Cl, G>,
     cluster: C,
-    options: &Options,
+    options: &Options<'_>,
     listener: &mut L,
     words: &mut W,
     spawner: &mut Sp,
@@ -159,7 +160,7 @@ where
     requires agents { (0 < options.now.agents) × (options.now.agents ≡ C.agents) }
     requires fresh { (L.given listener.old ≡ 0) × HasDrawn (W.draws words.old) 0 }
     ensures links { IfOk result (λ r. HandsBack C.shows C.agents (W.draws words.new) (λ seen. IsFront seen (C.marks r.0)) (L.closed listener.old) (L.closed listener.new) (Sp.faults spawner.old) (Sp.faults spawner.new) (L.given listener.new) r.1) }
-    ensures count { IfOk result (λ r. OnOk r.1 (L.given listener.new ≡ options.now.connections)) }
+    ensures count { IfOk result (λ r. OnOk r.1 (L.given listener.new ≡ most_of options.now.connections)) }
     ensures cause { IfOk result (λ r. IfErr r.1 (λ why. why ≡ loop.Listener → Rose (L.faults listener.old) (L.faults listener.new))) }
     ensures port { IfOk result (λ r. L.listens_on listener.new ≡ L.listens_on listener.old) }
     ensures none { OnErr result ((listener.new ≡ listener.old) × (words.new ≡ words.old) × (spawner.new ≡ spawner.old)) }
@@ -239,8 +240,8 @@ fn end<J: ClusterSize, S: ClusterInterface, Si: Sink>(
     }
 }
 
-// Serves by a cluster over these empty stores, of the size that `J` tells.
-fn serve_sized<
+// Serves by a cluster of this size, from the line that says where it listens to the last one.
+fn serve_begun<
     J: ClusterSize + Send + 'static,
     S: ClusterInterface + Send + 'static,
     R: Threads + Wait + Copy + Send + Drop + 'static,
@@ -252,8 +253,8 @@ fn serve_sized<
     Sp: Spawner,
 >(
     machine: Machine<R, Cl, G>,
-    options: &Options,
-    stores: List<MemKeeper>,
+    options: &Options<'_>,
+    cluster: ServingCluster<J, S>,
     sink: &mut Si,
     listener: &mut L,
     words: &mut W,
@@ -261,12 +262,11 @@ fn serve_sized<
 ) -> Result<Report, Stop>
 where
     L::Link: Send + 'static,
-    requires size { J.size ≡ spec.size_of options.now }
-    requires count { length stores ≡ options.now.servers }
-    requires empty { All (λ store. store ≡ empty_store) stores }
+    S::K: Send + 'static,
+    requires fits { spec.Fits options.now J.size }
     requires bounds { IsWithin options.now }
     requires fresh { (L.given listener.old ≡ 0) × HasDrawn (W.draws words.old) 0 }
-    ensures served { IfOk result (spec.Served options.now (W.draws words.new) (L.closed listener.old) (L.closed listener.new) (Sp.faults spawner.old) (Sp.faults spawner.new) (L.given listener.new) (L.listens_on listener.new) (Si.held sink.old) (Si.held sink.new)) }
+    ensures served { IfOk result (spec.ServedBy J.size options.now (W.draws words.new) (L.closed listener.old) (L.closed listener.new) (Sp.faults spawner.old) (Sp.faults spawner.new) (L.given listener.new) (L.listens_on listener.new) (Si.held sink.old) (Si.held sink.new)) }
     ensures back { spec.GivesBack options.now (W.draws words.new) (L.closed listener.old) (L.closed listener.new) (Sp.faults spawner.old) (Sp.faults spawner.new) (L.given listener.new) }
     ensures part { OnErr result (spec.WritesFront options.now (Si.held sink.old) (Si.held sink.new)) }
     ensures lined { IfErr result (λ why. why ≡ Stop.Listener → spec.WritesWhole options.now (Si.held sink.old) (Si.held sink.new)) }
@@ -274,9 +274,6 @@ where
         (λ why. spec.CountsServing why (L.faults listener.old) (L.faults listener.new) (Si.faults sink.old) (Si.faults sink.new)) }
 {
     let alloc = machine.alloc;
-    let Ok(cluster) = ServingCluster::<J, S>::begin(alloc, stores, options.agents, MOST) else {
-        return Err(Stop::Memory);
-    };
     match listen(alloc, sink, listener, options.port) {
         Ok(()) => match serve_over(machine, cluster, options, listener, words, spawner) {
             Ok((cluster, ended)) => end(alloc, sink, cluster, ended),
@@ -286,10 +283,59 @@ where
     }
 }
 
+// Serves by a cluster over these stores, of the size that `J` tells.
+fn serve_sized<
+    J: ClusterSize + Send + 'static,
+    S: ClusterInterface + Send + 'static,
+    R: Threads + Wait + Copy + Send + Drop + 'static,
+    Cl: Clock + Copy + Send + Drop + 'static,
+    G: Gate + Send + Sync + Drop + 'static,
+    Si: Sink,
+    L: Listener,
+    W: Words,
+    Sp: Spawner,
+    Ks: Keepers<K = S::K>,
+>(
+    machine: Machine<R, Cl, G>,
+    options: &Options<'_>,
+    stores: List<Ks::K>,
+    sink: &mut Si,
+    listener: &mut L,
+    words: &mut W,
+    spawner: &mut Sp,
+    keepers: &mut Ks,
+) -> Result<Report, Stop>
+where
+    L::Link: Send + 'static,
+    S::K: Send + 'static,
+    requires size { J.size ≡ record { stores = map (λ k. store_of (S.K.held k) (S.K.armed k) (S.K.faults k) (S.K.sure k)) stores; agents = options.now.agents } }
+    requires fits { spec.Fits options.now J.size }
+    requires count { length stores ≡ options.now.servers }
+    requires unused { All (λ k. (S.K.armed k ≡ 0) × (S.K.faults k ≡ 0)) stores }
+    requires limits { All (λ k. ForSome (S.K.held k) KeepsLimits) stores }
+    requires bounds { IsWithin options.now }
+    requires fresh { (L.given listener.old ≡ 0) × HasDrawn (W.draws words.old) 0 }
+    ensures served { IfOk result (spec.ServedBy J.size options.now (W.draws words.new) (L.closed listener.old) (L.closed listener.new) (Sp.faults spawner.old) (Sp.faults spawner.new) (L.given listener.new) (L.listens_on listener.new) (Si.held sink.old) (Si.held sink.new)) }
+    ensures back { spec.GivesBack options.now (W.draws words.new) (L.closed listener.old) (L.closed listener.new) (Sp.faults spawner.old) (Sp.faults spawner.new) (L.given listener.new) }
+    ensures part { OnErr result (spec.WritesFront options.now (Si.held sink.old) (Si.held sink.new)) }
+    ensures lined { IfErr result (λ why. why ≡ Stop.Listener → spec.WritesWhole options.now (Si.held sink.old) (Si.held sink.new)) }
+    ensures cause { MatchResult result (λ _. Si.faults sink.new ≡ Si.faults sink.old)
+        (λ why. spec.CountsStop why (L.faults listener.old) (L.faults listener.new) (Si.faults sink.old) (Si.faults sink.new)) }
+    ensures keepers { MatchResult result (λ _. Ks.faults keepers.new ≡ Ks.faults keepers.old) (λ why. spec.CountsKeepers why (Ks.faults keepers.old) (Ks.faults keepers.new)) }
+    ensures untouched { IfErr result (λ why. why ≡ Stop.Keepers → (sink.new ≡ sink.old) × (listener.new ≡ listener.old) × (words.new ≡ words.old) × (spawner.new ≡ spawner.old)) }
+    ensures made { Ks.made keepers.new ≡ Ks.made keepers.old }
+{
+    match begin_over::<J, S, Ks>(machine.alloc, keepers, stores, options.agents) {
+        Ok(cluster) => serve_begun(machine, options, cluster, sink, listener, words, spawner),
+        Err(KeepFail::Failed) => Err(Stop::Keepers),
+        Err(KeepFail::Memory) => Err(Stop::Memory),
+    }
+}
+
 /// Serves as the options say, over servers of the type `S`, whose stores are made first, those of servers 1, 2, .. in
-/// this order: server 1 stands for election, the port is listened on, which a line says, and so many connections are
-/// served, each by a job of its own. Then comes the last line, which tells the length of the agreed log and the requests
-/// without a reply. The report is of the cluster that is left.
+/// this order, and read: server 1 stands for election, the port is listened on, which a line says, and so many connections
+/// are served, each by a job of its own. Then comes the last line, which tells the length of the agreed log and the
+/// requests without a reply. The report is of the cluster that is left.
 pub fn serve<
     S: ClusterInterface + Send + 'static,
     R: Threads + Wait + Copy + Send + Drop + 'static,
@@ -299,10 +345,10 @@ pub fn serve<
     L: Listener,
     W: Words,
     Sp: Spawner,
-    Ks: Keepers,
+    Ks: Keepers<K = S::K>,
 >(
     machine: Machine<R, Cl, G>,
-    options: &Options,
+    options: &Options<'_>,
     sink: &mut Si,
     listener: &mut L,
     words: &mut W,
@@ -311,23 +357,23 @@ pub fn serve<
 ) -> Result<Report, Stop>
 where
     L::Link: Send + 'static,
+    S::K: Send + 'static,
     requires bounds { IsWithin options.now }
     requires fresh { (L.given listener.old ≡ 0) × HasDrawn (W.draws words.old) 0 }
-    ensures served { IfOk result (spec.Served options.now (W.draws words.new) (L.closed listener.old) (L.closed listener.new) (Sp.faults spawner.old) (Sp.faults spawner.new) (L.given listener.new) (L.listens_on listener.new) (Si.held sink.old) (Si.held sink.new)) }
+    ensures served { IfOk result (spec.Served options.now (Ks.made keepers.old) (Ks.made keepers.new) (W.draws words.new) (L.closed listener.old) (L.closed listener.new) (Sp.faults spawner.old) (Sp.faults spawner.new) (L.given listener.new) (L.listens_on listener.new) (Si.held sink.old) (Si.held sink.new)) }
     ensures back { spec.GivesBack options.now (W.draws words.new) (L.closed listener.old) (L.closed listener.new) (Sp.faults spawner.old) (Sp.faults spawner.new) (L.given listener.new) }
     ensures part { OnErr result (spec.WritesFront options.now (Si.held sink.old) (Si.held sink.new)) }
     ensures lined { IfErr result (λ why. why ≡ Stop.Listener → spec.WritesWhole options.now (Si.held sink.old) (Si.held sink.new)) }
     ensures cause { MatchResult result (λ _. Si.faults sink.new ≡ Si.faults sink.old)
         (λ why. spec.CountsStop why (L.faults listener.old) (L.faults listener.new) (Si.faults sink.old) (Si.faults sink.new)) }
 
-    // Which store could not be made is counted, and then nothing else was touched.
+    // That a store could not be made or read is counted, and then nothing else was touched.
     ensures keepers { MatchResult result (λ _. Ks.faults keepers.new ≡ Ks.faults keepers.old) (λ why. spec.CountsKeepers why (Ks.faults keepers.old) (Ks.faults keepers.new)) }
     ensures untouched { IfErr result (λ why. why ≡ Stop.Keepers → (sink.new ≡ sink.old) × (listener.new ≡ listener.old) × (words.new ≡ words.old) × (spawner.new ≡ spawner.old)) }
-    ensures made { OnOk result (Appends (Ks.made keepers.old) (Ks.made keepers.new) (spec.server_numbers options.now.servers)) }
 {
-    match make_stores(machine.alloc, keepers, options.servers) {
-        Ok(stores) => serve_sized::<Brand, S, R, Cl, G, Si, L, W, Sp>(
-            machine, options, stores, sink, listener, words, spawner,
+    match make_stores(machine.alloc, keepers, options) {
+        Ok(stores) => serve_sized::<Brand, S, R, Cl, G, Si, L, W, Sp, Ks>(
+            machine, options, stores, sink, listener, words, spawner, keepers,
         ),
         Err(KeepFail::Failed) => Err(Stop::Keepers),
         Err(KeepFail::Memory) => Err(Stop::Memory),

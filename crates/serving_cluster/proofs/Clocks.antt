@@ -1,5 +1,5 @@
 -- The tick of one server's clock leaves the clocks of all others, and how many servers there are.
-use Rattle.std.proofs.Common.{◌≡◌, ◌≢◌, ◌⊎◌, inl, inr, ℕ, zero, suc, ◌+◌, ◌^◌, ◌<◌, ◌≤◌, Bool, true, false, cond, List, [], ◌∷◌, ◌++◌, length, take, reverse, refl, sym, ◌∙◌, ap, subst, append-nil, arith, Option, Some, None, Result, Ok, Err}
+use Rattle.std.proofs.Common.{◌≡◌, ◌≢◌, ◌⊎◌, inl, inr, ℕ, zero, suc, ◌+◌, ◌^◌, ◌<◌, ◌≤◌, Bool, true, false, List, [], ◌∷◌, ◌++◌, length, take, reverse, refl, sym, ◌∙◌, ap, subst, append-nil, arith, Some, None, Result, Ok, Err}
 use Rattle.std.specs.Prelude.{OnOk, nat_le, nat_lt, ◌&&◌, if◌then◌else◌}
 use Rattle.cat_model.specs.declared.command.Command.{Command}
 use Rattle.cat_model.specs.declared.memory.Memory.{Memory}
@@ -17,7 +17,7 @@ use Rattle.cluster_rules.proofs.Tools.{le_tells_not, set_other}
 use Rattle.cluster_turns.proofs.Keeping.{tended_servers, works_keep}
 use Rattle.script_runs.specs.declared.misfit.Misfit.{Misfit}
 use Rattle.script_runs.specs.declared.misfit.Misfit.TheVariants.{NoServer, Clock}
-use Rattle.script_runs.specs.Lines.{clock_misfit, misfit, server_misfit}
+use Rattle.script_runs.specs.Lines.{clock_misfit, misfit}
 use Rattle.turn_lock.specs.Lists.{Among, numbers}
 use Rattle.turn_lock.proofs.Lists.{among_left, among_right, numbers_append}
 use Rattle.serve_loop.specs.Marks.{TicksAll, TicksNone, ticks}

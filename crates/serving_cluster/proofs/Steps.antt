@@ -1,6 +1,6 @@
 -- What the calls of a cluster put behind its marks, and that it goes on to serve.
-use Rattle.std.proofs.Common.{◌≡◌, ◌+◌, ◌<◌, ◌≤◌, ◌⊎◌, ℕ, suc, Bool, true, false, inl, inr, List, [], ◌∷◌, ◌++◌, length, reverse, arith, refl, sym, ap, ◌∙◌, subst, append-nil, Option, Some, None, Result, Ok, Err}
-use Rattle.std.proofs.lemmas.List.{reverse-reverse}
+use Rattle.std.proofs.Common.{◌≡◌, ◌+◌, ◌<◌, ◌≤◌, ◌⊎◌, ℕ, suc, Bool, true, false, inl, inr, List, [], ◌∷◌, ◌++◌, length, map, reverse, arith, refl, sym, ap, ◌∙◌, subst, append-nil, Option, Some, None, Result, Ok, Err}
+use Rattle.std.proofs.lemmas.List.{length-map, reverse-reverse}
 use Rattle.std.specs.List.{AllByRecursion}
 use Rattle.std.specs.Prelude.{IfOk, OnErr, OnOk, nat_le, if◌then◌else◌}
 use Rattle.cat_model.specs.declared.memory.Memory.{Memory}
@@ -14,18 +14,19 @@ use Rattle.cluster_rules.specs.Lasting.{Lasting}
 use Rattle.cluster_rules.specs.Replies.{Out, Replied, Reply, came, reply_of}
 use Rattle.cluster_rules.specs.Cluster.{Cluster}
 use Rattle.cluster_rules.specs.Past.{HasNoOut, IsNotHeld}
-use Rattle.cluster_rules.specs.Reached.{IsAgentNumber, Settling, none, pair}
+use Rattle.cluster_rules.specs.Reached.{IsAgentNumber, IsBegun, Settling, none, pair}
 use Rattle.cluster_rules.specs.Step.{ClusterStep, marked, noted}
 use Rattle.cluster_rules.specs.Sound.{IsAmong, entered_in}
-use Rattle.cluster_rules.proofs.Numbers.{sound_kept}
-use Rattle.cluster_rules.proofs.Theirs.{gone_taken, theirs}
+use Rattle.cluster_rules.proofs.Numbers.{booked_kept}
+use Rattle.cluster_rules.proofs.Theirs.{gone_taken, replied, theirs}
+use Rattle.cluster_rules.proofs.Starting.{begun_servers}
 use Rattle.cluster_turns.specs.Turns.{FindsNoMemory}
 use Rattle.cluster_interface.specs.Interface.{SettlesTo}
 use Rattle.cluster_turns.specs.Pairs.{IsPartlySettled, IsPartOfPair, settled}
+use Rattle.raft_model.specs.Node.{Store}
 use Rattle.raft_model.proofs.Tests.{at_bool}
 use Rattle.cluster_rules.proofs.Tools.{le_tells_not}
 use Rattle.script_runs.specs.declared.misfit.Misfit.TheVariants.{NoServer}
-use Rattle.script_runs.specs.Holds.{IsFirstStart}
 use Rattle.script_runs.specs.Lines.{misfit}
 use Rattle.script_runs.proofs.Fitting.{event_fits}
 use Rattle.turn_lock.specs.Lists.{Among, EachOnce, numbers}
@@ -37,12 +38,12 @@ use Rattle.serve_loop.specs.Marks.{AddsAsked, AddsCut, AddsQuiet, AreKept, Deliv
 use Rattle.serve_loop.proofs.Clocks.{by_none, none_none, ticks_none}
 use Rattle.serve_loop.proofs.MarkLists.{append_none, in_right, joined, quiet_cut, quiet_none, quiet_quiet}
 use Rattle.serving_rules.specs.Keeping.{Keeps}
-use Rattle.serving_rules.specs.Serving.{IsSized, Serves, Size}
+use Rattle.serving_rules.specs.Serving.{Serves, Size}
 use Rattle.serving_rules.proofs.Keeping.{step_keeps}
 use Rattle.serving_cluster.specs.Shared.{IsOpen, shared_of}
 use Rattle.serving_cluster.specs.Ticks.{Ticked, TicksOne, TicksUpTo}
-use Rattle.serving_rules.proofs.Serving.{agent_ticked_on, asked_on, elected, is_sound, none_closed, partly_on, settled_on, taken_on, ticked_on}
-use Rattle.serving_cluster.specs.Shown.{Shows, log_of, question}
+use Rattle.serving_rules.proofs.Serving.{agent_ticked_on, asked_on, elected, is_booked, is_sound, none_closed, partly_on, settled_on, taken_on, ticked_on}
+use Rattle.serving_cluster.specs.Shown.{ShowsOver, log_of, question}
 use Rattle.serving_cluster.proofs.Marks.{Silent, Went, are_kept, asked_event, cut_event, opened, quiet_event, quietly, ticked_event, took, unticked_event, went_event}
 use Rattle.serving_cluster.proofs.Reverses.{among_or_not, in_back, in_reverse, once_last, reverse_cons}
 
@@ -296,9 +297,9 @@ one_taken : (number : ℕ) (c : Cluster) → reverse (mark.Taken number ∷ c.pa
 one_taken number c = reverse_cons (mark.Taken number) c.past
 
 -- a request's mark is that of its question
-pub shows : (size : Size) (number : ℕ) (c : Cluster) (reply : Reply) (before after : List Out) → Serves size c → c.tray ≡ before ++ Replied reply ∷ after → reply.number ≡ number → (a : Ask) → IsAmong (asked_mark number a) (marks c) → Shows number a reply (marks c)
-shows size number c reply before after s there e a asked =
-    let sound = is_sound size c s in
+pub shows : (size : Size) (number : ℕ) (c : Cluster) (reply : Reply) (before after : List Out) → Serves size c → c.tray ≡ before ++ Replied reply ∷ after → reply.number ≡ number → (a : Ask) → IsAmong (asked_mark number a) (marks c) → ShowsOver size.stores number a reply (marks c)
+shows size number c reply before after s there e a asked = λ kept.
+    let sound = is_sound size c s kept in
     let t = (theirs c sound before after reply there).1 (question number a) (in_back (came (question number a)) c.past asked) (sym e) in
     let log : log_of (marks c) ≡ c.world.agreed = ap entered_in (reverse-reverse c.past) ∙ sound.parts.counts.entries in
     record {
@@ -306,10 +307,10 @@ shows size number c reply before after s there e a asked =
       lasts = subst (λ l. Lasting (question number a) reply.kind l) (sym log) t.1;
     }
 
-given : (size : Size) (number : ℕ) (c : Cluster) (reply : Reply) (before after : List Out) → Serves size c → c.tray ≡ before ++ Replied reply ∷ after → reply.number ≡ number → IsGiven Shows number reply (marks c)
+given : (size : Size) (number : ℕ) (c : Cluster) (reply : Reply) (before after : List Out) → Serves size c → c.tray ≡ before ++ Replied reply ∷ after → reply.number ≡ number → IsGiven (ShowsOver size.stores) number reply (marks c)
 given size number c reply before after s there e = record {
   number_is = e;
-  answered = in_reverse (answered_mark reply) c.past (theirs c (is_sound size c s) before after reply there).0;
+  answered = in_reverse (answered_mark reply) c.past (replied c (is_booked size c s) before after reply there).1;
   shown = shows size number c reply before after s there e;
 }
 
@@ -318,18 +319,18 @@ gone : (size : Size) (number : ℕ) (c : Cluster) → Serves size c → HasNoOut
 gone size number c s out held = either (among_or_not number (numbers opens (marks c)))
   where
     either : Among number (numbers opens (marks c)) ⊎ (Among number (numbers opens (marks c)) → ⊥) → (Among number (numbers opens (marks c)) → ⊥) ⊎ Among number (numbers takes (marks c))
-    either (inl a) = inr (took number c.past (gone_taken c (is_sound size c s) number out held (opened number c.past a)))
+    either (inl a) = inr (took number c.past (gone_taken c (is_booked size c s) number out held (opened number c.past a)))
     either (inr b) = inl b
 
 -- a collected reply
-pub collects_reply : (size : Size) (number : ℕ) (c c' : Cluster) (reply : Reply) → Serves size c → taking.Collects number (from_cluster.TheVariants.Ready reply) c c' → Collects Shows number (collected.Ready reply) (marks c) (marks c')
+pub collects_reply : (size : Size) (number : ℕ) (c c' : Cluster) (reply : Reply) → Serves size c → taking.Collects number (from_cluster.TheVariants.Ready reply) c c' → Collects (ShowsOver size.stores) number (collected.Ready reply) (marks c) (marks c')
 collects_reply size number c c' reply s (t, e) =
     (ap (λ (z : Cluster). marks z) t.is ∙ (ap (λ n. reverse (mark.Taken n ∷ c.past)) e ∙ one_taken number c), given size number c reply t.before t.after s t.there e)
 
 pub reply_serves : (size : Size) (number : ℕ) (c c' : Cluster) (reply : Reply) → Serves size c → taking.Collects number (from_cluster.TheVariants.Ready reply) c c' → Serves size c'
 reply_serves size number c c' reply s (t, e) = subst (Serves size) (sym t.is) (taken_on size reply.number c (Replied reply) t.before t.after s refl t.there)
 
-pub collects_gone : (size : Size) (number : ℕ) (c c' : Cluster) → Serves size c → taking.Collects number from_cluster.TheVariants.Gone c c' → Collects Shows number collected.Gone (marks c) (marks c')
+pub collects_gone : (size : Size) (number : ℕ) (c c' : Cluster) → Serves size c → taking.Collects number from_cluster.TheVariants.Gone c c' → Collects (ShowsOver size.stores) number collected.Gone (marks c) (marks c')
 collects_gone size number c c' s (e, out, held) = (ap (λ (z : Cluster). marks z) e, gone size number c s out held)
 
 pub never_closed : (size : Size) (number at : ℕ) (c c' : Cluster) → Serves size c → taking.Collects number (from_cluster.TheVariants.Closed at) c c' → ⊥
@@ -342,7 +343,7 @@ is_open size number c c' (from_cluster.TheVariants.Closed at) s t = never_closed
 is_open size number c c' (from_cluster.TheVariants.NotYet wanted) s t = tt
 is_open size number c c' from_cluster.TheVariants.Gone s t = tt
 
-pub collects : (size : Size) (number : ℕ) (c c' : Cluster) (r : from_cluster.Collected) → Serves size c → taking.Collects number r c c' → Collects Shows number (shared_of r) (marks c) (marks c')
+pub collects : (size : Size) (number : ℕ) (c c' : Cluster) (r : from_cluster.Collected) → Serves size c → taking.Collects number r c c' → Collects (ShowsOver size.stores) number (shared_of r) (marks c) (marks c')
 collects size number c c' (from_cluster.TheVariants.Ready reply) s t = collects_reply size number c c' reply s t
 collects size number c c' (from_cluster.TheVariants.Closed at) s t = absurd (never_closed size number at c c' s t)
 collects size number c c' (from_cluster.TheVariants.NotYet wanted) s t = ap (λ (z : Cluster). marks z) t.0
@@ -362,18 +363,18 @@ collect_serves size number c c' (from_cluster.TheVariants.NotYet wanted) s t = s
 collect_serves size number c c' from_cluster.TheVariants.Gone s t = subst (Serves size) (sym t.0) s
 
 -- server 1 is there to stand for election
-pub first_fits : (c : Cluster) (servers : ℕ) → length c.servers ≡ servers → 0 < servers → misfit c (event.Timeout 1) ≡ None
+pub first_fits : {A : Type 0} (store : A → Store) (keepers : List A) (c : Cluster) → IsBegun (map store keepers) c → 0 < length keepers → misfit c (event.Timeout 1) ≡ None
 unfolding misfit
-first_fits c servers e some = at_bool (λ b. (if b then None else Some NoServer) ≡ None) (nat_le 1 (length c.servers)) (λ _. refl) (λ f. absurd (none (le_tells_not 1 (length c.servers) f)))
+first_fits store keepers c b some = at_bool (λ b. (if b then None else Some NoServer) ≡ None) (nat_le 1 (length c.servers)) (λ _. refl) (λ f. absurd (none (le_tells_not 1 (length c.servers) f)))
   where
     none : length c.servers < 1 → ⊥
-    none l = omega (arith, e, some, l)
+    none l = let e = begun_servers (map store keepers) c b in let n = length-map keepers store in omega (arith, e, n, some, l)
 
-pub first_serves : (size : Size) (c c' : Cluster) → IsFirstStart c → IsSized size c → misfit c (event.Timeout 1) ≡ None → ClusterStep c (event.Timeout 1) c' true → Serves size c'
+pub first_serves : (size : Size) (c c' : Cluster) → IsBegun size.stores c → length c.agents ≡ size.agents → misfit c (event.Timeout 1) ≡ None → ClusterStep c (event.Timeout 1) c' true → Serves size c'
 first_serves size c c' first count fits step = elected size c c' true first count (event_fits c (event.Timeout 1) fits) step
 
 pub begun_serves : (given size : Size) (most : ℕ) (c c' : Cluster) (pairs : ℕ) → given ≡ size → Serves given c → SettlesTo most c c' pairs → Serves size c'
 begun_serves given size most c c' pairs e s (mid, all, is, few, stops) = subst (λ n. Serves n c') e (settled_on given pairs c mid c' s all is)
 
 pub kept : (size : Size) (c : Cluster) → Serves size c → AreKept (marks c)
-kept size c s = are_kept c.past (sound_kept c (is_sound size c s))
+kept size c s = are_kept c.past (booked_kept c (is_booked size c s))

@@ -1,3 +1,4 @@
+pub mod Begun
 pub mod Shown
 pub mod Shared
 pub mod Ticks

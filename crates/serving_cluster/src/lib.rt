@@ -5,4 +5,4 @@
 mod serving;
 mod sharing;
 
-pub use serving::{ClusterSize, ServingCluster};
+pub use serving::{ClusterSize, NotBegun, ServingCluster};

@@ -6,7 +6,7 @@ ghost use Rattle.cluster_rules.specs.Cluster.{clock_of};
 ghost use Rattle.serve_loop.specs.Collects.{Collects};
 ghost use Rattle.serve_loop.specs.Marks.{AddsAsked, AddsCut, AddsQuiet, Delivers, TicksAll, TicksBy, TicksNone};
 ghost use Rattle.serve_loop.specs.Turns.{MayAsk};
-ghost use Rattle.serving_cluster.specs.Shown.{Shows};
+ghost use Rattle.serving_cluster.specs.Shown.{ShowsOver};
 ghost use Rattle.serving_cluster.specs.Shared.{IsOpen, shared_of};
 ghost use Rattle.serving_cluster.specs.Ticks.{TicksOne, TicksWholly};
 
@@ -138,7 +138,7 @@ impl<J: ClusterSize, S: ClusterInterface> ServingCluster<J, S> {
 
     // Takes a request's reply, if it is there. No request is closed, since no server restarts.
     fn take_reply(&mut self, number: u64) -> Collected
-        ensures got { Collects Shows number result (reverse self.old.past) (reverse self.new.past) }
+        ensures got { Collects (ShowsOver J.size.stores) number result (reverse self.old.past) (reverse self.new.past) }
         ensures world { self.new.world ≡ self.old.world }
     {
         let collected = self.cluster.collect(number);
@@ -149,7 +149,7 @@ impl<J: ClusterSize, S: ClusterInterface> ServingCluster<J, S> {
 impl<J: ClusterSize, S: ClusterInterface> SharedCluster for ServingCluster<J, S> {
     ghost use Rattle.std.specs.Prelude.{◌≡◌, [], length, reverse};
     ghost use Rattle.cluster_rules.specs.Cluster.{clock_of};
-    ghost use Rattle.serving_cluster.specs.Shown.{Shows};
+    ghost use Rattle.serving_cluster.specs.Shown.{ShowsOver};
 
     ghost marks = { λ c. reverse c.past };
 
@@ -163,7 +163,7 @@ impl<J: ClusterSize, S: ClusterInterface> SharedCluster for ServingCluster<J, S>
 
     ghost tray = { λ c. c.tray };
 
-    ghost shows = { Shows };
+    ghost shows = { ShowsOver J.size.stores };
 
     fn kept(&self) {
         // What the type keeps is at hand once the cluster is read, whatever is read of it.

@@ -1,4 +1,4 @@
-use Rattle.catalog_top.proofs.Serving.{nine_of, not_nine, short_of, six_of, zero_of}
+use Rattle.catalog_top.proofs.Serving.{nine_of, not_nine, short_of, six_of}
 use Rattle.catalog_top.proofs.program.served.Goals as goal
 
 pub returns-clause-short : goal.returns-clause-short
@@ -17,6 +17,3 @@ returns-clause-keepers g c = λ nine.
 pub returns-clause-keepers_only : goal.returns-clause-keepers_only
 returns-clause-keepers_only g c =
     not_nine c.serve-ended.result c.told.result (g.Ks.Keepers.faults c.args.keepers.now) (g.Ks.Keepers.faults c.serve-ended.new.keepers) c.told.ensures c.serve-ended.ensures.keepers
-
-pub returns-clause-made : goal.returns-clause-made
-returns-clause-made g c = zero_of c.serve-ended.result c.told.result _ c.told.ensures c.serve-ended.ensures.made

@@ -1,5 +1,8 @@
+use Rattle.std.proofs.Common.{Some, true, [], ◌∷◌}
+use Rattle.cat_model.specs.Keeping.{nothing_kept}
+use Rattle.cluster_interface.specs.Starting.{store_of}
 use Rattle.program_tests.proofs.looking.a_read_that_waits_looks_twice.Given as goal
 
--- the cluster is of one server and one agent
+-- the cluster is of one server over an empty store, and one agent
 abbrev pub ghosts-is_answered : goal.ghosts-is_answered
-ghosts-is_answered g a = record { size = record { servers = 1; agents = 1 } }
+ghosts-is_answered g a = record { size = record { stores = store_of (Some nothing_kept) 0 0 true ∷ []; agents = 1 } }

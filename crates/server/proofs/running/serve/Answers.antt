@@ -1,17 +1,21 @@
-use Rattle.server.proofs.Counts.{all_made, counts_keepers, counts_stop, on_ok}
+use Rattle.std.proofs.Common.{◌≡◌, ℕ, subst}
+use Rattle.std.specs.Prelude.{MatchResult}
+use Rattle.server.specs.Served.{CountsKeepers}
+use Rattle.server.proofs.Ends.{served_all}
+use Rattle.server.proofs.Making.{fits_made}
 use Rattle.server.proofs.running.serve.Goals as goal
 
-pub returns-in-Ok-clause-cause : goal.returns-in-Ok-clause-cause
-returns-in-Ok-clause-cause g c =
-    counts_stop c.serve_sized.result (g.L.Listener.faults c.args.listener.now) (g.L.Listener.faults c.serve_sized.new.listener) (g.Si.Sink.faults c.args.sink.now) (g.Si.Sink.faults c.serve_sized.new.sink) c.serve_sized.ensures.cause
+pub serve_sized-requires-clause-fits : goal.serve_sized-requires-clause-fits
+serve_sized-requires-clause-fits g c κs within =
+    fits_made (λ k. g.S.K.Keeper.held k) (λ k. g.S.K.Keeper.armed k) (λ k. g.S.K.Keeper.faults k) (λ k. g.S.K.Keeper.sure k) c.args.options.now c.in-Ok.stores c.in-Ok.ensures.count (λ none. c.in-Ok.ensures.empty none)
+
+pub returns-in-Ok-clause-served : goal.returns-in-Ok-clause-served
+returns-in-Ok-clause-served g c =
+    served_all c.args.options.now (g.Ks.Keepers.made c.args.keepers.now) (g.Ks.Keepers.made c.make_stores.new.keepers) (g.Ks.Keepers.made c.serve_sized.new.keepers) _
+    (fits_made (λ k. g.S.K.Keeper.held k) (λ k. g.S.K.Keeper.armed k) (λ k. g.S.K.Keeper.faults k) (λ k. g.S.K.Keeper.sure k) c.args.options.now c.in-Ok.stores c.in-Ok.ensures.count (λ none. c.in-Ok.ensures.empty none))
+    c.in-Ok.ensures.made c.serve_sized.ensures.made
+    _ _ _ _ _ _ _ _ _ c.serve_sized.result c.serve_sized.ensures.served
 
 pub returns-in-Ok-clause-keepers : goal.returns-in-Ok-clause-keepers
 returns-in-Ok-clause-keepers g c =
-    counts_keepers c.serve_sized.result (g.Ks.Keepers.faults c.args.keepers.now) (g.Ks.Keepers.faults c.make_stores.new.keepers) (g.L.Listener.faults c.args.listener.now) (g.L.Listener.faults c.serve_sized.new.listener) (g.Si.Sink.faults c.args.sink.now) (g.Si.Sink.faults c.serve_sized.new.sink) c.in-Ok.ensures.cause.ok c.serve_sized.ensures.cause
-
-pub returns-in-Ok-clause-untouched : goal.returns-in-Ok-clause-untouched
-returns-in-Ok-clause-untouched g c =
-    all_made c.serve_sized.result (g.L.Listener.faults c.args.listener.now) (g.L.Listener.faults c.serve_sized.new.listener) (g.Si.Sink.faults c.args.sink.now) (g.Si.Sink.faults c.serve_sized.new.sink) _ c.serve_sized.ensures.cause
-
-pub returns-in-Ok-clause-made : goal.returns-in-Ok-clause-made
-returns-in-Ok-clause-made g c = on_ok c.serve_sized.result _ c.in-Ok.ensures.made
+    subst (λ (n : ℕ). MatchResult c.serve_sized.result (λ _. g.Ks.Keepers.faults c.serve_sized.new.keepers ≡ n) (λ why. CountsKeepers why n (g.Ks.Keepers.faults c.serve_sized.new.keepers))) c.in-Ok.ensures.cause.ok c.serve_sized.ensures.keepers

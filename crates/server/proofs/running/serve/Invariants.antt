@@ -1,6 +1,7 @@
-use Rattle.server.specs.Served.{size_of}
+use Rattle.std.proofs.Common.{map}
+use Rattle.cluster_interface.specs.Starting.{store_of}
 use Rattle.server.proofs.running.serve.Given as goal
 
--- the cluster is of the size that the options say
+-- the cluster is over the stores that were made
 abbrev pub ghosts-serve_sized : goal.ghosts-serve_sized
-ghosts-serve_sized g a = record { size = size_of a.options.now }
+ghosts-serve_sized g a = record { size = record { stores = map (λ k. store_of (g.S.K.Keeper.held k) (g.S.K.Keeper.armed k) (g.S.K.Keeper.faults k) (g.S.K.Keeper.sure k)) a.stores; agents = a.options.now.agents } }

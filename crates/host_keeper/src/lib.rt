@@ -1,0 +1,13 @@
+//! The durable stores of a server's servers: in memory, or each in a file of a folder.
+#![tactic(auto)]
+
+mod faults;
+mod folder;
+mod host_keeper;
+mod host_keepers;
+mod opening;
+mod scanning;
+
+pub use faults::{Fault, Refusal};
+pub use host_keeper::HostKeeper;
+pub use host_keepers::HostKeepers;
