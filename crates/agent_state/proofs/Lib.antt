@@ -1,2 +1,4 @@
 pub mod NodeNames
+pub mod Orders
+pub mod Replaced
 pub mod Turning

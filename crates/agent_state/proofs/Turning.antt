@@ -1,8 +1,7 @@
 -- Checks that the time changes, and those that it leaves as they are.
-use Rattle.std.proofs.Common.{◌≡◌, ℕ, ◌+◌, Bool, true, false, not, cond, List, [], ◌∷◌, map, refl, sym, true≢false}
+use Rattle.std.proofs.Common.{◌≡◌, ℕ, ◌+◌, Bool, true, false, not, cond, refl, sym, ap, true≢false}
 use Rattle.std.specs.Prelude.{◌&&◌, nat_le, codes}
-use Rattle.std.specs.List.{list_any}
-use Rattle.std.proofs.lemmas.Bool.{and_parts, or_parts}
+use Rattle.std.proofs.lemmas.Bool.{and_parts}
 use Rattle.cat_model.specs.declared.row.Status.TheVariants.{Critical}
 use Rattle.cat_model.proofs.SameLemmas.{status_decides, text_decides}
 use Rattle.agent_rules.specs.Agents.{Watched, expired}
@@ -19,15 +18,12 @@ says_already w h =
     let t = (text_decides w.row.output (codes "TTL expired")).0 parts.1 in
     λ i. record w { row = record w.row { status = sym s i; output = sym t i } }
 
-unturned : (now : ℕ) (w : Watched) → turns now w ≡ false → expired now w ≡ w
+pub unturned : (now : ℕ) (w : Watched) → turns now w ≡ false → w ≡ expired now w
 unturned now w = go (nat_le (w.since + w.ttl) now)
   where
-    go : (b : Bool) → (b && not (says_expired w)) ≡ false → cond b (record w { row = record w.row { status = Critical; output = codes "TTL expired" } }) w ≡ w
-    go true h = says_already w (told (says_expired w) h)
+    go : (b : Bool) → (b && not (says_expired w)) ≡ false → w ≡ cond b (record w { row = record w.row { status = Critical; output = codes "TTL expired" } }) w
+    go true h = sym (says_already w (told (says_expired w) h))
     go false h = refl
 
-pub none_turns : (now : ℕ) (ws : List Watched) → list_any (turns now) ws ≡ false → map (expired now) ws ≡ ws
-none_turns now [] h = refl
-none_turns now (w ∷ ws) h =
-    let parts = or_parts _ _ h in
-    λ i. unturned now w parts.0 i ∷ none_turns now ws parts.1 i
+pub turned : (now : ℕ) (w : Watched) → nat_le (w.since + w.ttl) now ≡ true → record w { row = record w.row { status = Critical; output = codes "TTL expired" } } ≡ expired now w
+turned now w h = ap (λ b. cond b (record w { row = record w.row { status = Critical; output = codes "TTL expired" } }) w) (sym h)

@@ -1,1 +1,4 @@
 pub mod Expiring
+pub mod Order
+pub mod Own
+pub mod Replacing

@@ -1,9 +1,11 @@
 ghost use Rattle.std.specs.Prelude.{◌≡◌, ◌+◌, ◌<◌, ◌^◌, OnErr, OnOk, IfOk};
+ghost use Rattle.node_rows.specs.Tags.{all_tagged};
 ghost use Rattle.agent_rules.specs.Agents as rules;
 
-use crate::checks::{any_turns, expired_checks};
+use crate::checks::expire_checks;
 use crate::watched::Watched;
-use cat_model::{List, Memory, ServiceRow};
+use cat_model::{Memory, ServiceRow};
+use node_rows::{Retag, retag_all};
 use std::alloc::Global;
 use std::marker::Model;
 
@@ -14,8 +16,8 @@ const SYNC_MS: u64 = 60_000;
 /// sync by that clock. Its own check, which is always there and passes, is not among the checks.
 #[derive(Debug, Drop)]
 pub struct Agent {
-    pub(crate) services: List<ServiceRow>,
-    pub(crate) checks: List<Watched>,
+    pub(crate) services: Vec<ServiceRow>,
+    pub(crate) checks: Vec<Watched>,
     pub(crate) clock: u64,
     // The next sync comes a minute after this.
     pub(crate) synced: u64,
@@ -24,10 +26,13 @@ pub struct Agent {
 impl Model for Agent {
     ghost use Rattle.std.specs.Prelude.{◌+◌};
     ghost use Rattle.agent_rules.specs.Agents as rules;
+    ghost use Rattle.agent_state.specs.Order.{ChecksAscend, ServicesAscend};
 
     ghost Value = { rules.Agent };
 
-    ghost view = { λ g. record { services = g.services; checks = g.checks; clock = g.clock; next_sync = g.synced + 60000 } };
+    ghost view = { λ g. record { services = g.services.items; checks = g.checks.items; clock = g.clock; next_sync = g.synced + 60000 } };
+
+    ghost invariant = { λ g. ServicesAscend g.services.items × ChecksAscend g.checks.items };
 }
 
 impl Agent {
@@ -36,8 +41,8 @@ impl Agent {
         ensures { result ≡ rules.new_agent }
     {
         Agent {
-            services: List::new(alloc),
-            checks: List::new(alloc),
+            services: Vec::new(alloc),
+            checks: Vec::new(alloc),
             clock: 0,
             synced: 0,
         }
@@ -62,7 +67,6 @@ impl Agent {
 
     /// So many milliseconds are over: a check whose TTL is over turns critical, and after a sync whose time has come the
     /// next one comes a minute later. After want of memory all is as before.
-    #[tactic(auto, using(crate::proofs::Turning::none_turns))]
     pub fn tick(&mut self, alloc: Global, ms: u64) -> Result<(), Memory>
         requires { self.old.clock + ms < 2 ^ 64 }
         ensures ok { OnOk result (self.new ≡ rules.ticked ms self.old) }
@@ -70,9 +74,7 @@ impl Agent {
     {
         let is_due = self.wants_sync(ms);
         let now = self.clock + ms;
-        if any_turns(now, self.checks.as_slice()) {
-            self.checks = expired_checks(alloc, now, self.checks.as_slice())?;
-        }
+        expire_checks(alloc, now, &mut self.checks)?;
         self.clock = now;
         if is_due {
             self.synced = now;
@@ -80,10 +82,11 @@ impl Agent {
         Ok(())
     }
 
-    /// Takes over these services in the place of its own.
-    pub fn adopt(&mut self, services: List<ServiceRow>)
-        ensures { self.new ≡ record self.old { services = services } }
+    /// Its services take over these tags.
+    #[tactic(auto, using(crate::proofs::Orders::all_tagged_ascend))]
+    pub fn retag(&mut self, tags: Vec<Retag>)
+        ensures { self.new ≡ record self.old { services = all_tagged tags.items self.old.services } }
     {
-        self.services = services;
+        retag_all(&mut self.services, tags);
     }
 }

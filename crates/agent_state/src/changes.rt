@@ -9,29 +9,15 @@ ghost use Rattle.cat_model.specs.declared.request.AgentOp.TheVariants as op;
 
 use crate::agent::Agent;
 use crate::checks::{
-    drop_checks, drop_checks_of, has_check, has_own, is_own, note_checks, place_check,
+    drop_checks, drop_checks_of, has_check, has_own, is_own, marked, place_checks, watched_rows,
 };
 use crate::fault::ChangeFault;
-use crate::services::{drop_services, has_service, place_service, service_row};
+use crate::replacing::{replace_all, replacements};
+use crate::services::{drop_services, has_service, service_row};
 use crate::watched::watched_row;
-use cat_model::lists::copied;
 use cat_model::{AgentOp, Memory, ServiceDef, Status, Text, TtlDef};
-use node_rows::is_blank;
+use node_rows::{is_blank, place, place_in_room};
 use std::alloc::Global;
-
-// The agent with these checks too, one after the other.
-fn with_checks(alloc: Global, number: u32, checks: &[TtlDef], agent: Agent) -> Result<Agent, Memory>
-    requires { number < 100 }
-    ensures { IfOk result (λ g. g ≡ rules.watch_all number checks.now agent) }
-{
-    let mut all = agent;
-    let mut left = checks;
-    while let Some((check, more)) = left.split_first() {
-        all.watch(alloc, number, check)?;
-        left = more;
-    }
-    Ok(all)
-}
 
 impl Agent {
     // One more check, or another in the place of the one with its ID.
@@ -41,29 +27,11 @@ impl Agent {
         ensures err { OnErr result (self.new ≡ self.old) }
     {
         let new = watched_row(alloc, number, self.clock, check)?;
-        self.checks = place_check(alloc, new, self.checks.as_slice())?;
-        Ok(())
+        place(&mut self.checks, new)
     }
 
-    // The agent with this service in the place of the one of its ID.
-    fn with_service(
-        &self,
-        alloc: Global,
-        number: u32,
-        service: &ServiceDef,
-    ) -> Result<Agent, Memory>
-        requires { number < 100 }
-        ensures { IfOk result (λ g. g ≡ record self.now { services = put pair_cmp service_key (rules.service_row number service.now) self.now.services }) }
-    {
-        let row = service_row(alloc, number, service)?;
-        Ok(Agent {
-            services: place_service(alloc, row, self.services.as_slice())?,
-            checks: copied(alloc, self.checks.as_slice())?,
-            clock: self.clock,
-            synced: self.synced,
-        })
-    }
-
+    // A service with its checks. All that is new is made first.
+    #[tactic(auto, using(crate::proofs::Orders::watched_all))]
     fn add_service(
         &mut self,
         alloc: Global,
@@ -75,28 +43,26 @@ impl Agent {
         ensures ok { OnOk result (self.new ≡ rules.watch_all number checks.now (record self.old { services = put pair_cmp service_key (rules.service_row number service.now) self.old.services })) }
         ensures err { OnErr result (self.new ≡ self.old) }
     {
-        let next = self.with_service(alloc, number, service)?;
-        *self = with_checks(alloc, number, checks, next)?;
+        let row = service_row(alloc, number, service)?;
+        let new = watched_rows(alloc, number, self.clock, checks)?;
+        self.services.reserve(1)?;
+        self.checks.reserve(new.len())?;
+        place_in_room(&mut self.services, row);
+        place_checks(&mut self.checks, new);
         Ok(())
     }
 
-    fn drop_service(&mut self, alloc: Global, id: &Text) -> Result<(), Memory>
-        ensures ok { OnOk result (self.new ≡ record self.old { services = without (λ s. same_text s.id id.now) self.old.services; checks = without (λ (w : rules.Watched). same_text w.row.service id.now) self.old.checks }) }
-        ensures err { OnErr result (self.new ≡ self.old) }
+    fn drop_service(&mut self, id: &Text)
+        ensures { self.new ≡ record self.old { services = without (λ s. same_text s.id id.now) self.old.services; checks = without (λ (w : rules.Watched). same_text w.row.service id.now) self.old.checks } }
     {
-        let services = drop_services(alloc, id, self.services.as_slice())?;
-        let checks = drop_checks_of(alloc, id, self.checks.as_slice())?;
-        self.services = services;
-        self.checks = checks;
-        Ok(())
+        drop_services(id, &mut self.services);
+        drop_checks_of(id, &mut self.checks);
     }
 
-    fn drop_check(&mut self, alloc: Global, id: &Text) -> Result<(), Memory>
-        ensures ok { OnOk result (self.new ≡ record self.old { checks = without (λ (w : rules.Watched). same_text w.row.id id.now) self.old.checks }) }
-        ensures err { OnErr result (self.new ≡ self.old) }
+    fn drop_check(&mut self, id: &Text)
+        ensures { self.new ≡ record self.old { checks = without (λ (w : rules.Watched). same_text w.row.id id.now) self.old.checks } }
     {
-        self.checks = drop_checks(alloc, id, self.checks.as_slice())?;
-        Ok(())
+        drop_checks(id, &mut self.checks);
     }
 
     fn mark(
@@ -109,14 +75,13 @@ impl Agent {
         ensures ok { OnOk result (self.new ≡ record self.old { checks = map (rules.noted_check id.now status output.now self.old.clock) self.old.checks }) }
         ensures err { OnErr result (self.new ≡ self.old) }
     {
-        self.checks = note_checks(
+        let now = self.clock;
+        let new = replacements(
             alloc,
-            id,
-            status,
-            output,
-            self.clock,
             self.checks.as_slice(),
+            |w| marked(id, status, output, now, w),
         )?;
+        replace_all(&mut self.checks, new);
         Ok(())
     }
 
@@ -159,9 +124,15 @@ impl Agent {
             AgentOp::AddService { service, checks } => {
                 self.add_service(alloc, number, service, checks.as_slice())
             }
-            AgentOp::DropService { id } => self.drop_service(alloc, id),
+            AgentOp::DropService { id } => {
+                self.drop_service(id);
+                Ok(())
+            }
             AgentOp::AddCheck { check } => self.watch(alloc, number, check),
-            AgentOp::DropCheck { id } => self.drop_check(alloc, id),
+            AgentOp::DropCheck { id } => {
+                self.drop_check(id);
+                Ok(())
+            }
             AgentOp::Mark { id, status, output } => self.mark(alloc, id, *status, output),
         }
     }

@@ -1,19 +1,23 @@
 //! Checks by their keys, and what becomes of them.
 
-ghost use Rattle.std.specs.Prelude.{◌≡◌, ◌+◌, ◌<◌, ◌≤◌, IfOk, codes, false, is_some, map, nat_le};
+ghost use Rattle.std.specs.Prelude.{◌≡◌, ◌+◌, ◌<◌, ◌≤◌, IfOk, OnErr, OnOk, codes, false, is_some, map, nat_le, vec_len};
 ghost use Rattle.std.specs.List.{list_any};
 ghost use Rattle.std.specs.Option.{option_copied};
+ghost use Rattle.std.specs.Vec.{vec_capacity};
 ghost use Rattle.cat_model.specs.Keys.{pair_cmp, same_text};
-ghost use Rattle.cat_model.specs.Tables.{put, row_at, without};
+ghost use Rattle.cat_model.specs.Tables.{row_at, without};
 ghost use Rattle.cat_model.specs.Syncs.{serf_id};
-ghost use Rattle.agent_rules.specs.Agents.{agent_node, expired, noted_check, watched_key};
+ghost use Rattle.agent_rules.specs.Agents.{agent_node, expired, noted_check, watched, watched_key};
 ghost use Rattle.agent_state.specs.Expiring.{says_expired, turns};
+ghost use Rattle.agent_state.specs.Order.{ChecksAscend, all_put};
+ghost use Rattle.agent_state.specs.Replacing.{other_or};
 
 use crate::names::compare_own;
-use crate::watched::Watched;
-use cat_model::lists::{around, copy_of, kept, made};
-use cat_model::{List, Memory, Status, Text, TtlDef};
-use node_rows::{compare_pairs, is_same};
+use crate::replacing::{replace_all, replacements};
+use crate::watched::{Watched, watched_row};
+use cat_model::lists::{copy_of, made};
+use cat_model::{Memory, Status, Text, TtlDef};
+use node_rows::{is_same, place_in_room};
 use std::alloc::Global;
 
 /// The ID of the check that each agent has of its own node.
@@ -51,48 +55,48 @@ pub(crate) fn has_check(number: u32, id: &Text, checks: &[Watched]) -> bool
     own_check(number, id, checks).is_some()
 }
 
-/// The checks with this one in the place of the one of its key.
-#[tactic(auto, unfolding(cat_model::specs::Tables::put))]
-pub(crate) fn place_check(
+/// The checks as they were asked for.
+pub(crate) fn watched_rows(
     alloc: Global,
-    new: Watched,
-    checks: &[Watched],
-) -> Result<List<Watched>, Memory>
-    ensures { IfOk result (λ l. l ≡ put pair_cmp watched_key new checks.now) }
+    number: u32,
+    now: u64,
+    checks: &[TtlDef],
+) -> Result<Vec<Watched>, Memory>
+    requires { number < 100 }
+    ensures { IfOk result (λ v. v.items ≡ map (watched number now) checks.now) }
 {
-    let smaller = kept(
-        alloc,
-        checks,
-        |w| compare_pairs(&w.row.node, &w.row.id, &new.row.node, &new.row.id).is_lt(),
-    )?;
-    let greater = kept(
-        alloc,
-        checks,
-        |w| compare_pairs(&w.row.node, &w.row.id, &new.row.node, &new.row.id).is_gt(),
-    )?;
-    around(smaller, new, greater)
+    let rows = made(alloc, checks, |t| watched_row(alloc, number, now, t))?;
+    Ok(rows.into_vec())
 }
 
-/// The checks without those of this ID.
-pub(crate) fn drop_checks(
-    alloc: Global,
-    id: &Text,
-    checks: &[Watched],
-) -> Result<List<Watched>, Memory>
-    ensures { IfOk result (λ l. l ≡ without (λ w. same_text w.row.id id.now) checks.now) }
+/// Puts each of these checks in the place of the one of its key. There is room for them, so that this takes no memory.
+pub(crate) fn place_checks(checks: &mut Vec<Watched>, new: Vec<Watched>)
+    requires order { ChecksAscend checks.old.items }
+    requires room { vec_len checks.old + vec_len new ≤ vec_capacity checks.old }
+    ensures rows { checks.new.items ≡ all_put new.items checks.old.items }
+    ensures order { ChecksAscend checks.new.items }
 {
-    kept(alloc, checks, |w| !is_same(&w.row.id, id))
+    for one in new {
+        place_in_room(checks, one);
+    }
 }
 
-/// The checks without those of this service.
-pub(crate) fn drop_checks_of(
-    alloc: Global,
-    service: &Text,
-    checks: &[Watched],
-) -> Result<List<Watched>, Memory>
-    ensures { IfOk result (λ l. l ≡ without (λ w. same_text w.row.service service.now) checks.now) }
+/// Drops the checks of this ID.
+pub(crate) fn drop_checks(id: &Text, checks: &mut Vec<Watched>)
+    requires { ChecksAscend checks.old.items }
+    ensures rows { checks.new.items ≡ without (λ w. same_text w.row.id id.now) checks.old.items }
+    ensures order { ChecksAscend checks.new.items }
 {
-    kept(alloc, checks, |w| !is_same(&w.row.service, service))
+    checks.retain(|w| !is_same(&w.row.id, id));
+}
+
+/// Drops the checks of this service.
+pub(crate) fn drop_checks_of(service: &Text, checks: &mut Vec<Watched>)
+    requires { ChecksAscend checks.old.items }
+    ensures rows { checks.new.items ≡ without (λ w. same_text w.row.service service.now) checks.old.items }
+    ensures order { ChecksAscend checks.new.items }
+{
+    checks.retain(|w| !is_same(&w.row.service, service));
 }
 
 // The check with this status and output.
@@ -106,35 +110,21 @@ fn noted(w: &Watched, status: Status, output: Text, since: u64) -> Result<Watche
     Ok(copy)
 }
 
-// The check with this status, if it has this ID, and then it counts anew.
-fn noted_check(
+/// The check with this status and output, and counting anew, if it has this ID.
+pub(crate) fn marked(
     id: &Text,
     status: Status,
     output: &Text,
     now: u64,
     w: &Watched,
-) -> Result<Watched, Memory>
-    ensures { IfOk result (λ n. n ≡ noted_check id.now status output.now now w.now) }
+) -> Result<Option<Watched>, Memory>
+    ensures { IfOk result (λ o. other_or w.now o ≡ noted_check id.now status output.now now w.now) }
 {
     if is_same(&w.row.id, id) {
-        noted(w, status, output.clone()?, now)
+        Ok(Some(noted(w, status, output.clone()?, now)?))
     } else {
-        copy_of(w)
+        Ok(None)
     }
-}
-
-/// The checks, those of this ID with this status and output.
-pub(crate) fn note_checks(
-    alloc: Global,
-    id: &Text,
-    status: Status,
-    output: &Text,
-    now: u64,
-    checks: &[Watched],
-) -> Result<List<Watched>, Memory>
-    ensures { IfOk result (λ l. l ≡ map (noted_check id.now status output.now now) checks.now) }
-{
-    made(alloc, checks, |w| noted_check(id, status, output, now, w))
 }
 
 // The check's TTL is over.
@@ -147,37 +137,37 @@ fn is_over(now: u64, w: &Watched) -> bool
     }
 }
 
-// The check, critical if its TTL is over.
-fn expired(alloc: Global, now: u64, w: &Watched) -> Result<Watched, Memory>
-    ensures { IfOk result (λ n. n ≡ expired now w.now) }
-{
-    if is_over(now, w) {
-        noted(w, Status::Critical, Text::new(alloc, TTL_EXPIRED)?, w.since)
-    } else {
-        copy_of(w)
-    }
-}
-
 fn says_expired(w: &Watched) -> bool
     ensures { result ≡ says_expired w.now }
 {
     matches!(w.row.status, Status::Critical) && w.row.output.as_str() == TTL_EXPIRED
 }
 
-/// Whether the TTL of some check is over, and it does not say so yet.
-pub(crate) fn any_turns(now: u64, checks: &[Watched]) -> bool
-    ensures { result ≡ list_any (turns now) checks.now }
+// The check turned critical, if its TTL is over and it does not say so yet.
+#[tactic(auto, using(crate::proofs::Turning::turned, crate::proofs::Turning::unturned))]
+fn turned(alloc: Global, now: u64, w: &Watched) -> Result<Option<Watched>, Memory>
+    ensures { IfOk result (λ o. other_or w.now o ≡ expired now w.now) }
 {
-    checks.iter().any(|w| is_over(now, w) && !says_expired(w))
+    if is_over(now, w) && !says_expired(w) {
+        let output = Text::new(alloc, TTL_EXPIRED)?;
+        Ok(Some(noted(w, Status::Critical, output, w.since)?))
+    } else {
+        Ok(None)
+    }
 }
 
-/// The checks at this time by the agent's clock: those whose TTL is over are critical.
-pub(crate) fn expired_checks(
+/// Turns the checks critical whose TTL is over at this time by the agent's clock.
+pub(crate) fn expire_checks(
     alloc: Global,
     now: u64,
-    checks: &[Watched],
-) -> Result<List<Watched>, Memory>
-    ensures { IfOk result (λ l. l ≡ map (expired now) checks.now) }
+    checks: &mut Vec<Watched>,
+) -> Result<(), Memory>
+    requires { ChecksAscend checks.old.items }
+    ensures ok { OnOk result (checks.new.items ≡ map (expired now) checks.old.items) }
+    ensures err { OnErr result (checks.new.items ≡ checks.old.items) }
+    ensures order { ChecksAscend checks.new.items }
 {
-    made(alloc, checks, |w| expired(alloc, now, w))
+    let new = replacements(alloc, checks.as_slice(), |w| turned(alloc, now, w))?;
+    replace_all(checks, new);
+    Ok(())
 }

@@ -6,13 +6,16 @@ mod agent;
 mod changes;
 mod checks;
 mod fault;
+mod looks;
 mod names;
 mod refusing;
+mod replacing;
 mod services;
 mod shown;
 mod watched;
 
 pub use agent::Agent;
 pub use fault::ChangeFault;
+pub use looks::{OwnParts, own_parts};
 pub use names::agent_node;
 pub use refusing::unknown;

@@ -3,14 +3,14 @@
 ghost use Rattle.std.specs.Prelude.{◌≡◌, ◌<◌, IfOk, is_some};
 ghost use Rattle.std.specs.Option.{option_copied};
 ghost use Rattle.cat_model.specs.Keys.{pair_cmp, same_text};
-ghost use Rattle.cat_model.specs.Tables.{put, without};
-ghost use Rattle.cat_model.specs.Catalog.{service_at, service_key};
+ghost use Rattle.cat_model.specs.Tables.{without};
+ghost use Rattle.cat_model.specs.Catalog.{service_at};
 ghost use Rattle.agent_rules.specs.Agents.{agent_node, service_row};
+ghost use Rattle.agent_state.specs.Order.{ServicesAscend};
 
 use crate::names::{agent_node, compare_own};
-use cat_model::lists::{around, kept};
-use cat_model::{List, Memory, ServiceDef, ServiceRow, Text};
-use node_rows::{compare_pairs, is_same};
+use cat_model::{Memory, ServiceDef, ServiceRow, Text};
+use node_rows::is_same;
 use std::alloc::Global;
 
 /// An agent's service as it was asked for.
@@ -52,35 +52,11 @@ pub(crate) fn has_service(number: u32, id: &Text, rows: &[ServiceRow]) -> bool
     own_service(number, id, rows).is_some()
 }
 
-/// The services without those of this ID.
-pub(crate) fn drop_services(
-    alloc: Global,
-    id: &Text,
-    rows: &[ServiceRow],
-) -> Result<List<ServiceRow>, Memory>
-    ensures { IfOk result (λ l. l ≡ without (λ s. same_text s.id id.now) rows.now) }
+/// Drops the services of this ID.
+pub(crate) fn drop_services(id: &Text, rows: &mut Vec<ServiceRow>)
+    requires { ServicesAscend rows.old.items }
+    ensures rows { rows.new.items ≡ without (λ s. same_text s.id id.now) rows.old.items }
+    ensures order { ServicesAscend rows.new.items }
 {
-    kept(alloc, rows, |s| !is_same(&s.id, id))
-}
-
-/// The services with this one in the place of the one of its key.
-#[tactic(auto, unfolding(cat_model::specs::Tables::put))]
-pub(crate) fn place_service(
-    alloc: Global,
-    new: ServiceRow,
-    rows: &[ServiceRow],
-) -> Result<List<ServiceRow>, Memory>
-    ensures { IfOk result (λ l. l ≡ put pair_cmp service_key new rows.now) }
-{
-    let smaller = kept(
-        alloc,
-        rows,
-        |r| compare_pairs(&r.node, &r.id, &new.node, &new.id).is_lt(),
-    )?;
-    let greater = kept(
-        alloc,
-        rows,
-        |r| compare_pairs(&r.node, &r.id, &new.node, &new.id).is_gt(),
-    )?;
-    around(smaller, new, greater)
+    rows.retain(|s| !is_same(&s.id, id));
 }

@@ -1,52 +1,20 @@
-//! What an agent shows: its rows, and the bodies of its answers.
+//! What an agent shows: the bodies of its answers.
 
 ghost use Rattle.std.specs.Prelude.{◌≡◌, ◌∷◌, ◌<◌, IfOk, map};
 ghost use Rattle.std.specs.Option.{option_copied};
 ghost use Rattle.agent_rules.specs.Agents as rules;
+ghost use Rattle.agent_state.specs.Order.{ServicesAscend};
 ghost use Rattle.cat_model.specs.declared.request.AgentOp.TheVariants as op;
 
 use crate::agent::Agent;
-use crate::checks::SERF_HEALTH;
-use crate::names::agent_node;
+use crate::looks::serf_row;
 use crate::watched::Watched;
 use agent_bodies::{checks_body, services_body};
-use cat_model::lists::{copied, copy_of, joined, made, one};
-use cat_model::{
-    AgentOp, Bytes, CheckRow, CheckView, List, Local, Memory, NodeRow, ServiceRow, Status, Text,
-};
-use node_rows::{find_service, is_blank};
+use cat_model::lists::{copy_of, joined, made, one};
+use cat_model::{AgentOp, Bytes, CheckRow, CheckView, List, Memory, ServiceRow, Text};
+use node_rows::{find_row, is_blank};
+use row_table::ByPair;
 use std::alloc::Global;
-
-// The row of an agent's node.
-fn node_row(alloc: Global, number: u32) -> Result<NodeRow, Memory>
-    requires { number < 100 }
-    ensures { IfOk result (λ row. row ≡ rules.node_row number) }
-{
-    Ok(NodeRow {
-        node: agent_node(alloc, number)?,
-        address: Text::new(alloc, "127.0.0.1")?,
-        create: 0,
-        modify: 0,
-    })
-}
-
-// The check that an agent has of its own node.
-fn serf_row(alloc: Global, number: u32) -> Result<CheckRow, Memory>
-    requires { number < 100 }
-    ensures { IfOk result (λ row. row ≡ rules.serf_row number) }
-{
-    Ok(CheckRow {
-        node: agent_node(alloc, number)?,
-        id: Text::new(alloc, SERF_HEALTH)?,
-        name: Text::new(alloc, "Serf Health Status")?,
-        status: Status::Passing,
-        notes: Text::new(alloc, "")?,
-        output: Text::new(alloc, "")?,
-        service: Text::new(alloc, "")?,
-        create: 0,
-        modify: 0,
-    })
-}
 
 fn row_of(w: &Watched) -> Result<CheckRow, Memory>
     ensures { IfOk result (λ row. row ≡ w.now.row) }
@@ -75,12 +43,17 @@ fn name_of(alloc: Global, service: Option<&ServiceRow>) -> Result<Text, Memory>
 
 // A check with the name of its service, where that is local.
 fn view_of(alloc: Global, services: &[ServiceRow], row: &CheckRow) -> Result<CheckView, Memory>
+    requires { ServicesAscend services.now }
     ensures { IfOk result (λ check. check ≡ rules.view_of services.now row.now) }
 {
     let service_name = if is_blank(&row.service) {
         Text::new(alloc, "")?
     } else {
-        name_of(alloc, find_service(&row.node, &row.service, services))?
+        let key = ByPair {
+            node: row.node.as_str(),
+            id: row.service.as_str(),
+        };
+        name_of(alloc, find_row(services, &key))?
     };
     Ok(CheckView {
         row: copy_of(row)?,
@@ -94,24 +67,13 @@ fn views_of(
     services: &[ServiceRow],
     rows: &[CheckRow],
 ) -> Result<List<CheckView>, Memory>
+    requires { ServicesAscend services.now }
     ensures { IfOk result (λ views. views ≡ map (rules.view_of services.now) rows.now) }
 {
     made(alloc, rows, |row| view_of(alloc, services, row))
 }
 
 impl Agent {
-    /// Its rows, which its syncs make those of the catalog.
-    pub fn local(&self, alloc: Global, number: u32) -> Result<Local, Memory>
-        requires { number < 100 }
-        ensures { IfOk result (λ local. local ≡ rules.local_of number self.now) }
-    {
-        Ok(Local {
-            node: Some(node_row(alloc, number)?),
-            services: copied(alloc, self.services.as_slice())?,
-            checks: check_rows(alloc, number, self.checks.as_slice())?,
-        })
-    }
-
     // The body that lists its checks.
     fn checks_shown(&self, alloc: Global, number: u32) -> Result<Bytes, Memory>
         requires { number < 100 }

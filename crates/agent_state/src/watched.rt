@@ -1,12 +1,15 @@
 //! A check of an agent, with its TTL.
 
 ghost use Rattle.std.specs.Prelude.{◌≡◌, ◌+◌, ◌<◌, IfOk};
+ghost use Rattle.cat_model.proofs.Pairs.{exact_pair, pair_cmp_total};
+ghost use Rattle.cat_model.specs.Keys.{pair_cmp};
 ghost use Rattle.agent_rules.specs.Agents as rules;
 
 use crate::names::agent_node;
 use cat_model::{CheckRow, Memory, Status, Text, TtlDef};
-use node_rows::is_same;
+use row_table::Row;
 use std::alloc::Global;
+use std::cmp::Ordering;
 use std::marker::Model;
 
 /// A check with its TTL, in milliseconds, and since when that counts by the agent's clock.
@@ -23,6 +26,26 @@ impl Model for Watched {
     ghost Value = { rules.Watched };
 
     ghost view = { λ w. record { row = w.row; ttl = w.ttl; since = w.since } };
+}
+
+impl Row for Watched {
+    type Key = (Text, Text);
+
+    ghost key = { rules.watched_key };
+
+    ghost cmp = { pair_cmp };
+
+    ghost total = { pair_cmp_total };
+
+    ghost exact = { exact_pair };
+
+    fn order(&self, other: &Watched) -> Ordering {
+        self.row.order(&other.row)
+    }
+
+    fn copy(&self) -> Result<Watched, Memory> {
+        Ok(self.clone()?)
+    }
 }
 
 /// A check as it was asked for, whose TTL counts from now.

@@ -9,8 +9,6 @@ mod ordered;
 mod planning;
 mod same;
 mod services;
-mod syncing;
 mod tags;
 
 pub use planning::{RowPlan, plan_rows};
-pub use syncing::{SyncPlan, plan_sync};

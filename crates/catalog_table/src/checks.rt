@@ -2,7 +2,7 @@
 
 ghost use Rattle.std.specs.Prelude.{◌≡◌, ◌&&◌, ◌||◌, [], IfOk, OnOk, filter};
 ghost use Rattle.std.specs.Option.{option_copied};
-ghost use Rattle.std.specs.Ordering.{is_eq};
+ghost use Rattle.std.specs.Ordering.{is_eq, is_ge};
 ghost use Rattle.cat_model.specs.Catalog.{check_at, check_key};
 ghost use Rattle.cat_model.specs.Keys.{is_empty, pair_cmp, same_text};
 ghost use Rattle.cat_model.specs.Same.{same_status};
@@ -12,7 +12,7 @@ use crate::copies::{all, checks_on};
 use crate::served::{self, Served};
 use crate::stated::{self, Stated};
 use cat_model::{CheckRow, List, Memory, Status};
-use row_table::{ByPair, RowTable};
+use row_table::{ByPair, RowTable, Rows};
 use std::alloc::Global;
 use std::marker::Model;
 
@@ -91,6 +91,13 @@ impl CheckTable {
     {
         let found = checks_on(alloc, &self.rows, node)?;
         Ok(List::from(found))
+    }
+
+    /// The checks from those of this node on.
+    pub(crate) fn from_node(&self, node: &str) -> Rows<'_, CheckRow>
+        ensures { result ≡ filter (λ r. is_ge (pair_cmp (check_key r) (node.now, []))) self.now.now }
+    {
+        self.rows.rows_from(&ByPair { node, id: "" })
     }
 
     /// Copies of the checks of a service of the node.

@@ -22,6 +22,7 @@ mod set;
 mod stated;
 mod table;
 mod touched;
+mod walks;
 
 pub use changed::Changed;
 pub use fault::RegisterFault;

@@ -1,9 +1,12 @@
 -- What an agent's answer shows, and what a sync does at a server that is ready.
-use Rattle.std.specs.Prelude.{◌≡◌, ℕ, ◌<◌, Bool, true, false, if◌then◌else◌, None, Some}
+use Rattle.std.specs.Prelude.{◌≡◌, ℕ, ◌<◌, Bool, true, false, if◌then◌else◌, List, None, Some}
 use Rattle.cat_model.specs.declared.request.Event.{Event}
 use Rattle.cat_model.specs.Syncs.{plan}
-use Rattle.anti_entropy.specs.declared.syncing.SyncPlan.{SyncPlan}
-use Rattle.cluster_rules.specs.Cluster.{Cluster}
+use Rattle.node_rows.specs.Tags.{all_tagged}
+use Rattle.node_rows.specs.declared.tags.Retag.{Retag}
+use Rattle.agent_rules.specs.Agents.{Agent}
+use Rattle.anti_entropy.specs.declared.planning.RowPlan.{RowPlan}
+use Rattle.cluster_rules.specs.Cluster.{Cluster, agent_of}
 use Rattle.cluster_rules.specs.Proposals.{Proposals, adopted, agent_did, did_own, merged_at, remote_at, synced}
 use Rattle.cluster_turns.specs.AgentEvents.{agent_in, event_of_agent, with_number}
 use Rattle.cluster_turns.specs.declared.agent_event.AgentEvent.{AgentEvent}
@@ -19,9 +22,13 @@ abbrev pub noted_alone : Bool → Event → Cluster → Cluster
 noted_alone false made c = own_done made c
 noted_alone true made c = synced (agent_in made) None (own_done made c)
 
+-- the agent with these tags
+abbrev pub retagged : List Retag → Agent → Agent
+retagged tags g = record g { services = all_tagged tags g.services }
+
 -- What agent a takes over in a sync at server i, and what it proposes there.
-pub record IsPlan (i a : ℕ) (c : Cluster) (p : SyncPlan) : Type 0 where
-  pub services : p.services ≡ (merged_at a i c).services
+pub record IsPlan (i a : ℕ) (c : Cluster) (p : RowPlan) : Type 0 where
+  pub tags : all_tagged p.tags.items (agent_of c a).services ≡ (merged_at a i c).services
   pub commands : p.commands ≡ plan (merged_at a i c) (remote_at a i c)
 
 -- Agent a's sync at server i, which is ready, proposed all of its plan.

@@ -1,28 +1,28 @@
 //! The catalog's rows of an agent's node.
 
-ghost use Rattle.std.specs.Prelude.{◌≡◌, IfOk};
+ghost use Rattle.std.specs.Prelude.{◌≡◌, ℕ, IfOk};
+ghost use Rattle.agent_rules.specs.Agents.{agent_node};
 ghost use Rattle.cluster_rules.specs.Proposals.{remote_at};
-ghost use Rattle.cluster_rules.specs.Reached.{IsAgentNumber, IsServerNumber};
+ghost use Rattle.cluster_rules.specs.Reached.{IsServerNumber};
 
 use crate::cluster::Cluster;
-use cat_model::{Memory, Remote};
+use cat_model::Memory;
 use cat_outside::Keeper;
+use node_rows::CatalogRows;
 use std::alloc::Global;
 
 impl<K: Keeper> Cluster<K> {
-    /// The catalog's rows of an agent's node, by what a server has applied.
+    /// The catalog's rows of the node of this name, by what a server has applied, where they stand.
     #[tactic(auto, using(crate::proofs::Numbers::is_number))]
-    pub(crate) fn remote_rows(
-        &self,
+    pub(crate) fn remote_rows<'a>(
+        &'a self,
         alloc: Global,
         server: u32,
-        agent: u32,
-    ) -> Result<Remote, Memory>
-        requires server { IsServerNumber self.now server }
-        requires agent { IsAgentNumber self.now agent }
-        ensures { IfOk result (λ remote. remote ≡ remote_at agent server self.now) }
+        node: &str,
+    ) -> Result<CatalogRows<'a>, Memory>
+        requires { IsServerNumber self.now server }
+        ensures { IfOk result (λ remote. (agent : ℕ) → node.now ≡ agent_node agent → remote ≡ remote_at agent server self.now) }
     {
-        let node = self.agents.node(alloc, agent)?;
-        self.servers.remote(alloc, server, node.as_str())
+        self.servers.remote(alloc, server, node)
     }
 }

@@ -1,20 +1,22 @@
 //! Agents' events: those that go to no server, and the sync of an agent at the leader.
 
 ghost use Rattle.std.specs.Prelude.{◌≡◌, ◌<◌, ◌^◌, IfErr, IfOk, None, OnErr, OnOk, Some, length, true};
-ghost use Rattle.cat_model.specs.Syncs.{merged, plan};
+ghost use Rattle.agent_state.specs.Own.{AreOwn};
 ghost use Rattle.cluster_rules.specs.Cluster.{Cluster as SpecCluster, agent_of, runs_leading};
-ghost use Rattle.cluster_rules.specs.Proposals.{is_agents, remote_at, synced, with_agent};
+ghost use Rattle.cluster_rules.specs.Proposals.{is_agents, synced, with_agent};
 ghost use Rattle.cluster_rules.specs.Reached.{Fits, IsAgentNumber, IsServerNumber};
 ghost use Rattle.cluster_rules.specs.Requests.{is_ready};
 ghost use Rattle.cluster_rules.specs.Step.{noted};
 ghost use Rattle.cluster_turns.specs.AgentEvents.{IsNoted, SyncsAt, SyncsInPart, SyncsThere, agent_in, event_of_agent};
-ghost use Rattle.cluster.specs.Syncing.{IsPlan, PlansInPart, PlansWhole, cut_first, noted_alone, own_done};
+ghost use Rattle.cluster.specs.Syncing.{IsPlan, PlansInPart, PlansWhole, cut_first, noted_alone, own_done, retagged};
 
 use crate::cluster::Cluster;
-use anti_entropy::{SyncPlan, plan_sync};
-use cat_model::{Asked, Event, List, Local, Memory, Remote, Request, ServiceRow};
+use agent_state::OwnParts;
+use anti_entropy::{RowPlan, plan_rows};
+use cat_model::{Asked, Event, Memory, Request};
 use cat_outside::Keeper;
 use cluster_turns::{AgentEvent, Cut};
+use node_rows::Retag;
 use std::alloc::Global;
 use std::ops::Deref;
 
@@ -33,7 +35,7 @@ fn cut_first(event: &AgentEvent) -> Cut
 }
 
 // A plan that has fewer than 2^32 commands.
-fn few(plan: SyncPlan) -> Result<SyncPlan, Memory>
+fn few(plan: RowPlan) -> Result<RowPlan, Memory>
     ensures { IfOk result (λ same. (same ≡ plan) × (length same.commands < 2 ^ 32)) }
 {
     if plan.commands.len() > u32::MAX as usize {
@@ -41,21 +43,6 @@ fn few(plan: SyncPlan) -> Result<SyncPlan, Memory>
         return Err(Memory);
     }
     Ok(plan)
-}
-
-// The sync of an agent with these rows, where these are the catalog's of its node. It answers Memory also for 2^32
-// commands.
-fn plan_between(alloc: Global, local: Local, remote: Remote) -> Result<SyncPlan, Memory>
-    ensures services { IfOk result (λ made. made.services ≡ (merged local remote).services) }
-    ensures commands { IfOk result (λ made. made.commands ≡ plan (merged local remote) remote) }
-    ensures few { IfOk result (λ made. length made.commands < 2 ^ 32) }
-{
-    let planned = plan_sync(alloc, local, &remote);
-    drop(remote);
-    match planned {
-        Ok(plan) => few(plan),
-        Err(Memory) => Err(Memory),
-    }
 }
 
 impl<K: Keeper + Drop> Cluster<K> {
@@ -109,40 +96,36 @@ impl<K: Keeper + Drop> Cluster<K> {
         }
     }
 
-    // The same, with the catalog's rows of its node.
-    fn plan_with(
+    // The sync of an agent by its rows, beside those that it has without being asked, and by those of a server's catalog.
+    #[tactic(auto, using(crate::proofs::Syncs::planned))]
+    fn plan_between(
         &self,
         alloc: Global,
         server: u32,
         agent: u32,
-        remote: Remote,
-    ) -> Result<SyncPlan, Memory>
+        own: &OwnParts,
+    ) -> Result<RowPlan, Memory>
+        requires server { IsServerNumber self.now server }
         requires agent { IsAgentNumber self.now agent }
-        requires remote { remote ≡ remote_at agent server self.now }
-        ensures plan { IfOk result (λ plan. IsPlan server agent self.now plan) }
-        ensures few { IfOk result (λ plan. length plan.commands < 2 ^ 32) }
+        requires own { AreOwn agent own.now }
+        ensures { IfOk result (λ plan. IsPlan server agent self.now plan) }
     {
-        match self.agents.local(alloc, agent) {
-            Ok(local) => plan_between(alloc, local, remote),
-            Err(Memory) => {
-                drop(remote);
-                Err(Memory)
-            }
-        }
+        let rows = self.agents.own_rows(alloc, agent, own)?;
+        let there = self.remote_rows(alloc, server, own.node.node.as_str())?;
+        plan_rows(alloc, &rows, &there)
     }
 
     // What an agent takes over in a sync at a server, and what it proposes there. It answers Memory also for 2^32
     // commands.
-    fn plan_at(&self, alloc: Global, server: u32, agent: u32) -> Result<SyncPlan, Memory>
+    fn plan_at(&self, alloc: Global, server: u32, agent: u32) -> Result<RowPlan, Memory>
         requires server { IsServerNumber self.now server }
         requires agent { IsAgentNumber self.now agent }
         ensures plan { IfOk result (λ plan. IsPlan server agent self.now plan) }
         ensures few { IfOk result (λ plan. length plan.commands < 2 ^ 32) }
     {
-        match self.remote_rows(alloc, server, agent) {
-            Ok(remote) => self.plan_with(alloc, server, agent, remote),
-            Err(Memory) => Err(Memory),
-        }
+        let own = self.agents.own_parts(alloc, agent)?;
+        let plan = self.plan_between(alloc, server, agent, &own)?;
+        few(plan)
     }
 
     // Tells how many commands an agent's sync proposed, in the place of that it found no leader.
@@ -153,22 +136,22 @@ impl<K: Keeper + Drop> Cluster<K> {
         self.requests.count_sync(agent, count);
     }
 
-    // An agent takes over these services in the place of its own.
-    fn adopt(&mut self, agent: u32, services: List<ServiceRow>)
+    // An agent's services take over these tags.
+    fn retag(&mut self, agent: u32, tags: Vec<Retag>)
         requires { IsAgentNumber self.old agent }
-        ensures { self.new ≡ with_agent agent (record (agent_of self.old agent) { services = services }) self.old }
+        ensures { self.new ≡ with_agent agent (retagged tags.items (agent_of self.old agent)) self.old }
     {
-        self.agents.adopt(agent, services);
+        self.agents.retag(agent, tags);
     }
 
-    // The sync of an agent by this plan, at a server that is ready. The agent takes over its services once something was
+    // The sync of an agent by this plan, at a server that is ready. The agent takes its tags over once something was
     // proposed, or there was nothing to propose.
     fn carry_plan(
         &mut self,
         alloc: Global,
         server: u32,
         agent: u32,
-        plan: SyncPlan,
+        plan: RowPlan,
     ) -> Result<(), Cut>
         requires server { IsServerNumber self.old server }
         requires agent { IsAgentNumber self.old agent }
@@ -178,9 +161,9 @@ impl<K: Keeper + Drop> Cluster<K> {
         ensures whole { OnOk result (PlansWhole server agent self.old self.new) }
         ensures cut { IfErr result (λ cut. PlansInPart server agent cut self.old self.new) }
     {
-        let SyncPlan { services, commands } = plan;
+        let RowPlan { tags, commands } = plan;
         if self.tell_leaderless(agent).is_err() {
-            drop(services);
+            drop(tags);
             drop(commands);
             return Err(Cut::Before);
         }
@@ -188,15 +171,15 @@ impl<K: Keeper + Drop> Cluster<K> {
         drop(commands);
         if proposed.whole {
             self.count_proposed(agent, proposed.entered as u32);
-            self.adopt(agent, services);
+            self.retag(agent, tags);
             return Ok(());
         }
         self.take_back(agent);
         if proposed.entered == 0 {
-            drop(services);
+            drop(tags);
             return Err(Cut::Before);
         }
-        self.adopt(agent, services);
+        self.retag(agent, tags);
         Err(Cut::Within)
     }
 

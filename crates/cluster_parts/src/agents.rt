@@ -1,12 +1,15 @@
 //! The agents of a cluster.
 
 ghost use Rattle.std.specs.Prelude.{◌≡◌, ◌+◌, ◌<◌, ◌≤◌, IfOk, OnErr, OnOk, is_some, length, replicate, vec_len};
-ghost use Rattle.agent_rules.specs.Agents.{agent_body, agent_node, change, local_of, new_agent, ticked, wants_sync};
+ghost use Rattle.agent_rules.specs.Agents.{agent_body, change, local_of, new_agent, ticked, wants_sync};
+ghost use Rattle.agent_state.specs.Own.{AreOwn};
+ghost use Rattle.node_rows.specs.Tags.{all_tagged};
 ghost use Rattle.raft_model.specs.Node.{set_server};
 ghost use Rattle.cluster_parts.specs.Agents.{IsThere, agent_at, agents_with};
 
-use agent_state::{Agent, ChangeFault, agent_node};
-use cat_model::{AgentOp, Bytes, List, Local, Memory, ServiceRow, Text};
+use agent_state::{Agent, ChangeFault, OwnParts, own_parts};
+use cat_model::{AgentOp, Bytes, Memory};
+use node_rows::{OwnRows, Retag};
 use std::alloc::Global;
 use std::marker::Model;
 
@@ -65,13 +68,13 @@ impl Agents {
         &self.agents[place(number)]
     }
 
-    /// The name of an agent's node.
-    pub fn node(&self, alloc: Global, number: u32) -> Result<Text, Memory>
+    /// The rows that an agent has without being asked for them.
+    pub fn own_parts(&self, alloc: Global, number: u32) -> Result<OwnParts, Memory>
         requires { IsThere self.now number }
-        ensures { IfOk result (λ name. name ≡ agent_node number) }
+        ensures { IfOk result (AreOwn number) }
     {
         let _agent = self.agent(number);
-        agent_node(alloc, number)
+        own_parts(alloc, number)
     }
 
     /// Once so many milliseconds are over, the time of an agent's next sync has come.
@@ -98,12 +101,18 @@ impl Agents {
         self.agent(number).body(alloc, number, op)
     }
 
-    /// An agent's rows, which its syncs make those of the catalog.
-    pub fn local(&self, alloc: Global, number: u32) -> Result<Local, Memory>
-        requires { IsThere self.now number }
-        ensures { IfOk result (λ local. local ≡ local_of number (agent_at self.now number)) }
+    /// An agent's rows, which its syncs make those of the catalog, beside those that it has without being asked.
+    pub fn own_rows<'a>(
+        &'a self,
+        alloc: Global,
+        number: u32,
+        own: &'a OwnParts,
+    ) -> Result<OwnRows<'a>, Memory>
+        requires there { IsThere self.now number }
+        requires own { AreOwn number own.now }
+        ensures { IfOk result (λ rows. rows ≡ local_of number (agent_at self.now number)) }
     {
-        self.agent(number).local(alloc, number)
+        self.agent(number).own_rows(alloc, own)
     }
 
     /// An agent does what it is asked. Where it can't, all stays as it is.
@@ -135,13 +144,13 @@ impl Agents {
         agent.tick(alloc, ms)
     }
 
-    /// An agent takes over these services in the place of its own.
-    pub fn adopt(&mut self, number: u32, services: List<ServiceRow>)
+    /// An agent's services take over these tags.
+    pub fn retag(&mut self, number: u32, tags: Vec<Retag>)
         requires { IsThere self.old number }
-        ensures { self.new ≡ set_server self.old number (record (agent_at self.old number) { services = services }) }
+        ensures { self.new ≡ set_server self.old number (record (agent_at self.old number) { services = all_tagged tags.items (agent_at self.old number).services }) }
     {
         let at = place(number);
         let agent = &mut self.agents[at];
-        agent.adopt(services);
+        agent.retag(tags);
     }
 }

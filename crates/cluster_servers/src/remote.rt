@@ -8,13 +8,19 @@ ghost use Rattle.cluster_rules.specs.Cluster.{server_of};
 ghost use Rattle.raft_world.specs.Steps.{IsNumber};
 
 use crate::servers::Servers;
-use cat_model::{Memory, Remote};
+use cat_model::Memory;
 use cat_outside::Keeper;
+use node_rows::CatalogRows;
 use std::alloc::Global;
 
 impl<K: Keeper> Servers<K> {
-    /// Copies of the rows that the catalog has of this node at all that a server has applied.
-    pub fn remote(&self, alloc: Global, s: u32, node: &str) -> Result<Remote, Memory>
+    /// The rows that the catalog has of this node at all that a server has applied, where they stand.
+    pub fn remote<'a>(
+        &'a self,
+        alloc: Global,
+        s: u32,
+        node: &str,
+    ) -> Result<CatalogRows<'a>, Memory>
         requires { IsNumber s self.now.world }
         ensures { IfOk result (λ remote. remote ≡ remote_of node.now (catalog_at (commands_of (server_of self.now.servers s).applied))) }
     {

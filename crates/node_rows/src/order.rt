@@ -1,8 +1,9 @@
 //! Rows in the order of their keys.
 
-ghost use Rattle.std.specs.Prelude.{◌≡◌, ◌≤◌, IfOk, OnErr, OnOk, length};
+ghost use Rattle.std.specs.Prelude.{◌≡◌, ◌+◌, ◌<◌, ◌≤◌, IfOk, OnErr, OnOk, length, vec_len};
 ghost use Rattle.cat_model.specs.Syncs.{in_order};
 ghost use Rattle.std.specs.Option.{option_copied};
+ghost use Rattle.std.specs.Vec.{vec_capacity};
 ghost use Rattle.cat_model.specs.Tables.{Ascends, put, row_at};
 ghost use Rattle.node_rows.specs.Order.{ascends, is_before, rank};
 
@@ -20,23 +21,52 @@ fn place_of<R: Row>(rows: &[R], new: &R) -> usize
     rows.partition_point(|r| r.order(new).is_lt())
 }
 
-/// Puts the row in the place of the one of its key, among rows that are in the order of their keys.
+/// Puts the row in the place of the one of its key, among rows that are in the order of their keys. There is room for one
+/// more, so that this takes no memory.
+pub fn place_in_room<R: Row>(rows: &mut Vec<R>, new: R)
+    requires order { Ascends R.cmp R.key rows.old.items }
+    requires room { vec_len rows.old < vec_capacity rows.old }
+    ensures rows { rows.new.items ≡ put R.cmp R.key new rows.old.items }
+    ensures order { Ascends R.cmp R.key rows.new.items }
+    ensures room { vec_capacity rows.old ≤ vec_capacity rows.new }
+    ensures len { vec_len rows.new ≤ vec_len rows.old + 1 }
+{
+    let at = place_of(rows.as_slice(), &new);
+    if at < rows.len() && rows[at].order(&new).is_eq() {
+        rows[at] = new;
+        return;
+    }
+    if rows.insert(at, new).is_err() {
+        unreachable!()
+    }
+}
+
+/// The same, where there may be no room.
 pub fn place<R: Row>(rows: &mut Vec<R>, new: R) -> Result<(), Memory>
     requires { Ascends R.cmp R.key rows.old.items }
     ensures ok { OnOk result (rows.new.items ≡ put R.cmp R.key new rows.old.items) }
     ensures err { OnErr result (rows.new.items ≡ rows.old.items) }
     ensures order { Ascends R.cmp R.key rows.new.items }
 {
-    let at = place_of(rows.as_slice(), &new);
-    if at < rows.len() && rows[at].order(&new).is_eq() {
-        rows[at] = new;
-        return Ok(());
-    }
-    rows.insert(at, new)?;
+    rows.reserve(1)?;
+    place_in_room(rows, new);
     Ok(())
 }
 
 /// The row of a key, among rows that are in the order of their keys.
+pub fn find_row<'a, R: Row, P: Probe<R>>(rows: &'a [R], probe: &P) -> Option<&'a R>
+    requires { Ascends R.cmp R.key rows.now }
+    ensures { option_copied result ≡ row_at R.cmp R.key (P.sought probe.now) rows.now }
+{
+    let at = rows.partition_point(|r| probe.place(r).is_lt());
+    if at < rows.len() && probe.place(&rows[at]).is_eq() {
+        Some(&rows[at])
+    } else {
+        None
+    }
+}
+
+/// The same, among rows that are looked at where they stand.
 pub fn found<'a, R: Row, P: Probe<R>>(rows: &[Seen<'a, R>], probe: &P) -> Option<&'a R>
     requires { Ascends R.cmp R.key rows.now }
     ensures { option_copied result ≡ row_at R.cmp R.key (P.sought probe.now) rows.now }

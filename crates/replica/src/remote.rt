@@ -1,34 +1,70 @@
 //! The rows of one node.
 
-ghost use Rattle.std.specs.Prelude.{◌≡◌, IfOk};
-ghost use Rattle.std.specs.Option.{option_copied};
+ghost use Rattle.std.specs.Prelude.{◌≡◌, IfOk, filter};
+ghost use Rattle.cat_model.specs.Keys.{same_text};
 ghost use Rattle.agent_rules.specs.Agents.{remote_of};
 ghost use Rattle.catalog_table.specs.Rows.{catalog_of};
 
-use cat_model::{Memory, NodeRow, Remote};
+use cat_model::{CheckRow, Memory, ServiceRow, Text};
 use catalog_table::CatalogTable;
+use node_rows::{CatalogRows, Seen};
 use std::alloc::Global;
 
-fn copy_if_there(row: Option<&NodeRow>) -> Result<Option<NodeRow>, Memory>
-    ensures { IfOk result (λ o. o ≡ option_copied row.entry) }
+fn is_text(a: &Text, b: &str) -> bool
+    ensures { result ≡ same_text a.now b.now }
 {
-    match row {
-        None => Ok(None),
-        Some(row) => Ok(Some(row.clone()?)),
-    }
+    a.as_str() == b
 }
 
-/// Copies of the node's row, of its services and of its checks.
-pub(crate) fn rows_of_node(
+// The rows of the node's services, which stand one after another.
+fn services_on<'a>(
     alloc: Global,
-    catalog: &CatalogTable,
+    catalog: &'a CatalogTable,
     node: &str,
-) -> Result<Remote, Memory>
+) -> Result<Vec<Seen<'a, ServiceRow>>, Memory>
+    ensures { IfOk result (λ v. v.items ≡ filter (λ r. same_text r.node node.now) catalog.now.now.services) }
+{
+    catalog.in_order();
+    let mut found = Vec::new(alloc);
+    for row in catalog.services_from(node) {
+        if !is_text(&row.node, node) {
+            break;
+        }
+        found.push(Seen::new(row))?;
+    }
+    Ok(found)
+}
+
+// The rows of the node's checks, which stand one after another.
+fn checks_on<'a>(
+    alloc: Global,
+    catalog: &'a CatalogTable,
+    node: &str,
+) -> Result<Vec<Seen<'a, CheckRow>>, Memory>
+    ensures { IfOk result (λ v. v.items ≡ filter (λ r. same_text r.node node.now) catalog.now.now.checks) }
+{
+    catalog.in_order();
+    let mut found = Vec::new(alloc);
+    for row in catalog.checks_from(node) {
+        if !is_text(&row.node, node) {
+            break;
+        }
+        found.push(Seen::new(row))?;
+    }
+    Ok(found)
+}
+
+/// The node's row, its services and its checks, where they stand.
+pub(crate) fn rows_of_node<'a>(
+    alloc: Global,
+    catalog: &'a CatalogTable,
+    node: &str,
+) -> Result<CatalogRows<'a>, Memory>
     ensures { IfOk result (λ r. r ≡ remote_of node.now (catalog_of catalog.now.now)) }
 {
-    Ok(Remote {
-        node: copy_if_there(catalog.node(node))?,
-        services: catalog.services_of(alloc, node)?,
-        checks: catalog.checks_of(alloc, node)?,
+    Ok(CatalogRows {
+        node: catalog.node(node),
+        services: services_on(alloc, catalog, node)?,
+        checks: checks_on(alloc, catalog, node)?,
     })
 }

@@ -18,11 +18,11 @@ use crate::delays::Delays;
 use crate::remote::rows_of_node;
 use crate::{copies, removing, timing};
 use cat_model::{
-    Answer, Applied, Chan, Command, Fired, List, Memory, Query, Ran, Remote, SessionRow, Shared,
-    Steps,
+    Answer, Applied, Chan, Command, Fired, List, Memory, Query, Ran, SessionRow, Shared, Steps,
 };
 use catalog_query::{ExecuteFault, View};
 use catalog_store::Store;
+use node_rows::CatalogRows;
 use session_ttl::{Office, SessionTimers};
 use std::alloc::Global;
 use std::marker::Model;
@@ -228,8 +228,8 @@ impl Replica {
         }
     }
 
-    /// Copies of the rows that the catalog of all that is applied has of this node.
-    pub fn remote(&self, alloc: Global, node: &str) -> Result<Remote, Memory>
+    /// The rows that the catalog of all that is applied has of this node, where they stand.
+    pub fn remote<'a>(&'a self, alloc: Global, node: &str) -> Result<CatalogRows<'a>, Memory>
         ensures { IfOk result (λ r. r ≡ remote_of node.now (catalog_at self.now.commands)) }
     {
         rows_of_node(alloc, self.store.catalog(), node)
