@@ -1,3 +1,5 @@
+ghost use Rattle.std.specs.Prelude.{◌≡◌};
+
 use std::io;
 use thiserror::Error;
 
@@ -29,7 +31,9 @@ pub struct Refusal {
 }
 
 impl Refusal {
-    pub(crate) fn unopened(server: u32, fault: io::Error) -> Refusal {
+    pub(crate) fn unopened(server: u32, fault: io::Error) -> Refusal
+        ensures { result ≡ record { server = server; fault = Fault.Unopened fault } }
+    {
         Refusal {
             server,
             fault: Fault::Unopened(fault),

@@ -1,19 +1,19 @@
 use cat_model::{Entry, Kept, List};
 use cat_outside::{KeepFail, Keeper, MemKeeper};
 use file_keeper::FileKeeper;
-use server_journal::FileJournal;
+use server_journal::Journal;
 use std::alloc::Global;
 
 /// A durable store of a server.
 #[derive(Drop)]
-pub enum HostKeeper {
+pub enum HostKeeper<J: Journal> {
     /// It is lost when the process ends.
     Memory(MemKeeper),
     /// It outlives the process.
-    File(FileKeeper<FileJournal>),
+    File(FileKeeper<J>),
 }
 
-impl Keeper for HostKeeper {
+impl<J: Journal> Keeper for HostKeeper<J> {
     ghost use Rattle.host_keeper.specs.Stores.{armed_of, faults_of, held_of, sure_of};
 
     ghost held = { λ s. held_of s };

@@ -2,6 +2,7 @@
 #![tactic(auto)]
 
 mod faults;
+mod files;
 mod folder;
 mod host_keeper;
 mod host_keepers;
@@ -9,5 +10,6 @@ mod opening;
 mod scanning;
 
 pub use faults::{Fault, Refusal};
+pub use files::{HostFiles, JournalFiles};
 pub use host_keeper::HostKeeper;
 pub use host_keepers::HostKeepers;
