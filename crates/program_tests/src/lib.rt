@@ -1,5 +1,5 @@
 //! Tests of the program's one call, of what no row can say: wrong words, a source and a sink that fail, servers to which
-//! no connection comes, scripts past a limit, the numbers of a report, and a server over TCP with its
+//! no connection comes, scripts past a limit, the numbers of a report, a server over a folder, and one over TCP with its
 //! clients, those that wait, and its agents' clocks; and of a connection by a clock of the test's own. There is no code
 //! beside them.
 #![tactic(auto)]
@@ -10,6 +10,8 @@ mod clocks;
 mod crowds;
 #[cfg(test)]
 mod endings;
+#[cfg(test)]
+mod keeping;
 #[cfg(test)]
 mod looking;
 #[cfg(test)]
