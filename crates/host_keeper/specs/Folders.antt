@@ -1,5 +1,6 @@
 -- What stands in a folder with the journals of servers, and which servers may begin there.
-use Rattle.std.specs.Prelude.{◌≡◌, ◌≢◌, ℕ, ◌<◌, ◌≤◌, Bool, true, false, List, [], Option, None, Some, ⊤}
+use Rattle.std.specs.Prelude.{◌≡◌, ◌≢◌, ℕ, zero, suc, ◌<◌, ◌≤◌, Bool, true, false, List, [], Option, None, Some, ⊤}
+use Rattle.std.specs.List.{slice_get}
 use Rattle.host_keeper.specs.declared.faults.Fault.{Fault}
 use Rattle.host_keeper.specs.declared.faults.Fault.TheVariants.{Unopened, Taken, Missing, Surplus, Unread, Foreign}
 use Rattle.host_keeper.specs.declared.faults.Refusal.{Refusal}
@@ -12,6 +13,11 @@ Files = ℕ → Option (List ℕ)
 abbrev pub bytes_in : Option (List ℕ) → List ℕ
 bytes_in None = []
 bytes_in (Some bytes) = bytes
+
+-- the file of each server, where these are those of the servers from 1 on
+abbrev pub file_of : List (List ℕ) → Files
+file_of files zero = None
+file_of files (suc n) = slice_get files n
 
 -- no server above these has a file
 abbrev pub IsWithin : ℕ → Files → Type 0

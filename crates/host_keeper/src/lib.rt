@@ -6,6 +6,7 @@ mod files;
 mod folder;
 mod host_keeper;
 mod host_keepers;
+mod mem_files;
 mod opening;
 mod scanning;
 
@@ -13,3 +14,4 @@ pub use faults::{Fault, Refusal};
 pub use files::{HostFiles, JournalFiles};
 pub use host_keeper::HostKeeper;
 pub use host_keepers::HostKeepers;
+pub use mem_files::MemFiles;
