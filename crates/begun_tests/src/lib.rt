@@ -1,0 +1,9 @@
+//! Tests of clusters that begin over stores that hold something. There is no code beside them.
+#![tactic(auto)]
+
+#[cfg(test)]
+mod asking;
+#[cfg(test)]
+mod begun;
+#[cfg(test)]
+mod stores;
