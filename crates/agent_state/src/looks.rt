@@ -9,7 +9,8 @@ use crate::checks::SERF_HEALTH;
 use crate::names::agent_node;
 use crate::watched::Watched;
 use cat_model::{CheckRow, Memory, NodeRow, Status, Text};
-use node_rows::{OwnRows, Seen, all_seen};
+use node_rows::{OwnRows, all_seen};
+use row_table::Seen;
 use std::alloc::Global;
 
 /// The rows that an agent has without being asked for them.

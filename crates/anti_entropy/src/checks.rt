@@ -15,8 +15,8 @@ use crate::differences::{SERF_HEALTH, is_serf, is_uneven_check, lacks_node};
 use crate::ordered::Ordered;
 use cat_model::lists::{chosen, one};
 use cat_model::{CheckRow, Command, List, Memory, NodeRow, ServiceRow, Text};
-use node_rows::{Pair, Seen, found, is_blank, side_by_side};
-use row_table::ByPair;
+use node_rows::{Pair, found, is_blank, side_by_side};
+use row_table::{ByPair, Seen};
 use std::alloc::Global;
 
 // Whether one of these services has this ID.

@@ -5,7 +5,8 @@ ghost use Rattle.cat_model.specs.Syncs.{checks_in_order, services_in_order};
 ghost use Rattle.anti_entropy.specs.Ordered.{IsOrdered};
 
 use cat_model::{CheckRow, Memory, ServiceRow};
-use node_rows::{Seen, in_order};
+use node_rows::in_order;
+use row_table::Seen;
 use std::alloc::Global;
 
 /// Services and checks.

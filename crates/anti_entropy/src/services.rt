@@ -10,7 +10,8 @@ use crate::differences::is_uneven_service;
 use crate::ordered::Ordered;
 use cat_model::lists::{chosen, made};
 use cat_model::{Command, List, Memory, NodeRow, ServiceRow};
-use node_rows::{Pair, Seen, side_by_side};
+use node_rows::{Pair, side_by_side};
+use row_table::Seen;
 use std::alloc::Global;
 
 // The registration of the service, where the catalog lacks it.

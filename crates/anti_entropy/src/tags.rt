@@ -9,7 +9,8 @@ ghost use Rattle.anti_entropy.specs.Parts.{new_tagged, retagged};
 
 use crate::same::are_same;
 use cat_model::{Memory, ServiceRow, Texts};
-use node_rows::{Retag, Seen, found};
+use node_rows::{Retag, found};
+use row_table::Seen;
 use std::alloc::Global;
 
 // The tags of the catalog's service that the service takes over, where they are others.

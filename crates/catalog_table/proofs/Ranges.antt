@@ -14,7 +14,7 @@ use Rattle.cat_model.specs.declared.row.NodeRow.{NodeRow}
 use Rattle.cat_model.proofs.SameLemmas.{text_decides}
 use Rattle.row_table.proofs.Filed.{equal_is, then_equal}
 use Rattle.row_table.proofs.FiledUnder.{same_test}
-use Rattle.row_table.proofs.Places.{least_text, text_place}
+use Rattle.row_table.proofs.Places.{least_text, text_place, text_stand}
 use Rattle.row_table.proofs.Spans.{leading, leading_is as span_is}
 use Rattle.catalog_table.specs.Filings.{Pair}
 
@@ -48,6 +48,9 @@ module _ {R : Type 0} (key : R → Pair) (node : List ℕ) where
 
   pub range_is : (rows : List R) → Ascends pair_cmp key rows → leading on (onward rows) ≡ filter on rows
   range_is rows asc = span_is pair_cmp key (λ k. same_text k.0 node) (λ k. is_ge (pair_cmp k (node, []))) low between rows asc
+
+  pub group_is : (rows : List R) → filter (λ r. is_eq (text_cmp (key r).0 node)) rows ≡ filter on rows
+  group_is rows = same_test (λ r. is_eq (text_cmp (key r).0 node)) on rows (λ r. sym (text_stand (key r).0 node))
 
 module _ {K R : Type 0} (cmp : K → K → Ordering) (key : R → K) (exact : CmpEqualImpliesEq cmp) (k : K) where
   none_above : (rows : List R) → AllByRecursion (λ s. cmp k (key s) ≡ Less) rows → filter (λ s. is_eq (cmp k (key s))) rows ≡ []

@@ -2,7 +2,7 @@
 
 ghost use Rattle.std.specs.Prelude.{◌≡◌, ◌&&◌, ◌||◌, [], IfOk, OnOk, filter};
 ghost use Rattle.std.specs.Option.{option_copied};
-ghost use Rattle.std.specs.Ordering.{is_eq, is_ge};
+ghost use Rattle.std.specs.Ordering.{is_eq};
 ghost use Rattle.cat_model.specs.Catalog.{check_at, check_key};
 ghost use Rattle.cat_model.specs.Keys.{is_empty, pair_cmp, same_text};
 ghost use Rattle.cat_model.specs.Same.{same_status};
@@ -11,8 +11,9 @@ ghost use Rattle.cat_model.specs.Tables.{put, without, Ascends};
 use crate::copies::{all, checks_on};
 use crate::served::{self, Served};
 use crate::stated::{self, Stated};
+use crate::walks;
 use cat_model::{CheckRow, List, Memory, Status};
-use row_table::{ByPair, RowTable, Rows};
+use row_table::{ByPair, RowTable, Seen};
 use std::alloc::Global;
 use std::marker::Model;
 
@@ -93,11 +94,15 @@ impl CheckTable {
         Ok(List::from(found))
     }
 
-    /// The checks from those of this node on.
-    pub(crate) fn from_node(&self, node: &str) -> Rows<'_, CheckRow>
-        ensures { result ≡ filter (λ r. is_ge (pair_cmp (check_key r) (node.now, []))) self.now.now }
+    /// The node's checks where they stand.
+    pub(crate) fn on_node(
+        &self,
+        alloc: Global,
+        node: &str,
+    ) -> Result<Vec<Seen<'_, CheckRow>>, Memory>
+        ensures { IfOk result (λ v. v.items ≡ filter (λ r. same_text r.node node.now) self.now.now) }
     {
-        self.rows.rows_from(&ByPair { node, id: "" })
+        walks::checks_on(alloc, &self.rows, node)
     }
 
     /// Copies of the checks of a service of the node.

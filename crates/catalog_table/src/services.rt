@@ -3,7 +3,7 @@
 ghost use Rattle.std.specs.Prelude.{◌≡◌, ◌++◌, ◌&&◌, [], Some, IfOk, OnErr, OnOk, false, filter, not};
 ghost use Rattle.std.specs.List.{cons_option, filter_map, list_any};
 ghost use Rattle.std.specs.Option.{option_copied};
-ghost use Rattle.std.specs.Ordering.{is_eq, is_ge};
+ghost use Rattle.std.specs.Ordering.{is_eq};
 ghost use Rattle.cat_model.specs.Catalog.{service_at, service_key};
 ghost use Rattle.cat_model.specs.Keys.{pair_cmp, same_text, text_cmp};
 ghost use Rattle.cat_model.specs.Tables.{put, without, Ascends};
@@ -14,8 +14,9 @@ ghost use Rattle.catalog_table.specs.Touching.{name_in, service_names};
 use crate::copies::{all, copy_of, services_on};
 use crate::named::{ByName, Named, file, unfile};
 use crate::same::{is_same, is_text};
+use crate::walks;
 use cat_model::{List, Memory, ServiceRow, Text, Texts};
-use row_table::{ByPair, Row, RowTable, Rows};
+use row_table::{ByPair, Row, RowTable, Seen};
 use std::alloc::Global;
 use std::marker::Model;
 
@@ -362,11 +363,15 @@ impl ServiceTable {
         Ok(List::from(found))
     }
 
-    /// The services from those of this node on.
-    pub(crate) fn from_node(&self, node: &str) -> Rows<'_, ServiceRow>
-        ensures { result ≡ filter (λ r. is_ge (pair_cmp (service_key r) (node.now, []))) self.now.now }
+    /// The node's services where they stand.
+    pub(crate) fn on_node(
+        &self,
+        alloc: Global,
+        node: &str,
+    ) -> Result<Vec<Seen<'_, ServiceRow>>, Memory>
+        ensures { IfOk result (λ v. v.items ≡ filter (λ r. same_text r.node node.now) self.now.now) }
     {
-        self.rows.rows_from(&ByPair { node, id: "" })
+        walks::services_on(alloc, &self.rows, node)
     }
 
     /// Adds the names of the node's services.

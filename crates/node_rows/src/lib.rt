@@ -14,7 +14,7 @@ mod views;
 pub use checks::find_check;
 pub use keys::{compare, compare_pairs, is_blank, is_same};
 pub use order::{find_row, found, in_order, place, place_in_room};
-pub use seen::{Seen, all_seen};
+pub use seen::all_seen;
 pub use services::find_service;
 pub use sides::{Pair, Sides, side_by_side};
 pub use tags::{Retag, retag_all};

@@ -7,9 +7,9 @@ ghost use Rattle.std.specs.Vec.{vec_capacity};
 ghost use Rattle.cat_model.specs.Tables.{Ascends, put, row_at};
 ghost use Rattle.node_rows.specs.Order.{ascends, is_before, rank};
 
-use crate::seen::{Seen, add_all};
+use crate::seen::add_all;
 use cat_model::Memory;
-use row_table::{Probe, Row};
+use row_table::{Probe, Row, Seen};
 use std::alloc::Global;
 
 // How many of the rows have a smaller key.

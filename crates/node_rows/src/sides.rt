@@ -4,9 +4,9 @@ ghost use Rattle.std.specs.Prelude.{◌≡◌, ◌<◌, IfOk, length};
 ghost use Rattle.cat_model.specs.Tables.{Ascends};
 ghost use Rattle.node_rows.specs.Sides.{Steps, all_paired, strays};
 
-use crate::seen::{Seen, add_all};
+use crate::seen::add_all;
 use cat_model::Memory;
-use row_table::Row;
+use row_table::{Row, Seen};
 use std::alloc::Global;
 use std::cmp::Ordering;
 use std::marker::Model;

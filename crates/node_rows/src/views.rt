@@ -1,7 +1,7 @@
 //! The rows of an agent and those that the catalog has of its node, looked at where they stand.
 
-use crate::seen::Seen;
 use cat_model::{CheckRow, NodeRow, ServiceRow};
+use row_table::Seen;
 use std::marker::Model;
 
 /// An agent's own rows.

@@ -6,6 +6,7 @@ pub mod Settled
 pub mod Whole
 pub mod NextRows
 pub mod Spans
+pub mod Groups
 pub mod Filed
 pub mod FiledUnder
 pub mod Places

@@ -23,6 +23,10 @@ text_place a b =
     either_true (same_text a b) (is_eq (text_cmp b a)) (λ e. ap is_eq (ap (text_cmp b) ((text_decides a b).0 e) ∙ tied_itself nat_list_cmp_total b))
     (λ e. (text_decides a b).1 (sym (exact_bytes b a (equal_is (text_cmp b a) e))))
 
+pub text_stand : (a b : List ℕ) → same_text a b ≡ is_eq (text_cmp a b)
+text_stand a b =
+    either_true (same_text a b) (is_eq (text_cmp a b)) (λ e. ap is_eq (ap (λ t. text_cmp t b) ((text_decides a b).0 e) ∙ tied_itself nat_list_cmp_total b)) (λ e. (text_decides a b).1 (exact_bytes a b (equal_is (text_cmp a b) e)))
+
 pub number_place : (a b : ℕ) → nat_eq a b ≡ is_eq (nat_cmp b a)
 number_place a b =
     either_true (nat_eq a b) (is_eq (nat_cmp b a)) (λ e. ap is_eq (ap (nat_cmp b) ((Decides-eqb a b).0 e) ∙ tied_itself nat_cmp_total b)) (λ e. (Decides-eqb a b).1 (sym (exact_unsigned b a (equal_is (nat_cmp b a) e))))

@@ -4,4 +4,7 @@ pub mod Versions
 pub mod Trees
 pub mod Edits
 pub mod Walks
+pub mod Rising
+pub mod FirstTexts
+pub mod Groups
 pub mod Filing

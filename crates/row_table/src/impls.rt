@@ -8,8 +8,9 @@ ghost use Rattle.std.proofs.lemmas.Map.Lookups.{exact_bytes, exact_unsigned};
 ghost use Rattle.cat_model.specs.Keys.{text_cmp, pair_cmp};
 ghost use Rattle.cat_model.specs.Catalog.{kv_key, node_key, service_key, check_key, session_key, query_key};
 ghost use Rattle.cat_model.proofs.Pairs.{pair_cmp_total, exact_pair};
+ghost use Rattle.row_table.specs.FirstTexts.{first_rises};
 
-use crate::{Probe, Row};
+use crate::{Group, Probe, Row};
 use cat_model::{CheckRow, KvRow, Memory, NodeRow, QueryRow, ServiceRow, SessionRow, Text};
 use std::cmp::Ordering;
 
@@ -17,7 +18,7 @@ use std::cmp::Ordering;
 #[derive(Clone, Copy)]
 pub struct ByKey<'a>(pub &'a str);
 
-/// Looks for the node of this name.
+/// Looks for the node of this name, or for the services or the checks on it.
 #[derive(Clone, Copy)]
 pub struct ByNode<'a>(pub &'a str);
 
@@ -206,6 +207,26 @@ impl<'a> Probe<CheckRow> for ByPair<'a> {
 
     fn place(&self, row: &CheckRow) -> Ordering {
         pair_order(&check_pair(row), self)
+    }
+}
+
+impl<'a> Group<ServiceRow> for ByNode<'a> {
+    ghost stands = { λ g k. text_cmp k.0 g.0.now };
+
+    ghost rises = { λ g. first_rises g.0.now };
+
+    fn place(&self, row: &ServiceRow) -> Ordering {
+        row.node.as_str().cmp(self.0)
+    }
+}
+
+impl<'a> Group<CheckRow> for ByNode<'a> {
+    ghost stands = { λ g k. text_cmp k.0 g.0.now };
+
+    ghost rises = { λ g. first_rises g.0.now };
+
+    fn place(&self, row: &CheckRow) -> Ordering {
+        row.node.as_str().cmp(self.0)
     }
 }
 

@@ -6,9 +6,10 @@ ghost use Rattle.cat_model.specs.Tables.{row_at, put, without, Ascends};
 ghost use Rattle.row_table.specs.Tests.{Tells};
 
 use crate::edit::{keep, put_row, remove, remove_where, undo};
+use crate::group::rows_in;
 use crate::tree::{Tree, take};
 use crate::walk::{Start, all_copies, any_row, find, first, first_from};
-use crate::{Probe, Row, Rows};
+use crate::{Group, Probe, Row, Rows, Seen};
 use cat_model::Memory;
 use std::alloc::Global;
 use std::marker::Model;
@@ -106,6 +107,13 @@ impl<R: Row> RowTable<R> {
             tree: &self.tree,
             next: first_from(&self.tree, probe, Start::At),
         }
+    }
+
+    /// The rows of a group where they stand, in the order of their keys.
+    pub fn group<G: Group<R>>(&self, alloc: Global, group: &G) -> Result<Vec<Seen<'_, R>>, Memory>
+        ensures { IfOk result (λ v. v.items ≡ filter (λ r. is_eq (G.stands group.now (R.key r))) self.now.now) }
+    {
+        rows_in(alloc, &self.tree, group)
     }
 
     /// Copies of the rows that pass the test, in the order of their keys.
