@@ -40,9 +40,9 @@ use Rattle.serve_loop.proofs.MarkLists.{append_none, in_right, joined, quiet_cut
 use Rattle.serving_rules.specs.Keeping.{Keeps}
 use Rattle.serving_rules.specs.Serving.{Serves, Size}
 use Rattle.serving_rules.proofs.Keeping.{step_keeps}
-use Rattle.serving_cluster.specs.Shared.{IsOpen, shared_of}
+use Rattle.serving_cluster.specs.Shared.{IsOpen, Sifts, shared_of}
 use Rattle.serving_cluster.specs.Ticks.{Ticked, TicksOne, TicksUpTo}
-use Rattle.serving_rules.proofs.Serving.{agent_ticked_on, asked_on, elected, is_booked, is_sound, none_closed, partly_on, settled_on, taken_on, ticked_on}
+use Rattle.serving_rules.proofs.Serving.{agent_ticked_on, asked_on, elected, handed_on, is_booked, is_sound, none_closed, partly_on, settled_on, taken_on, ticked_on}
 use Rattle.serving_cluster.specs.Shown.{ShowsOver, log_of, question}
 use Rattle.serving_cluster.proofs.Marks.{Silent, Went, are_kept, asked_event, cut_event, opened, quiet_event, quietly, ticked_event, took, unticked_event, went_event}
 use Rattle.serving_cluster.proofs.Reverses.{among_or_not, in_back, in_reverse, once_last, reverse_cons}
@@ -378,3 +378,16 @@ begun_serves given size most c c' pairs e s (mid, all, is, few, stops) = subst (
 
 pub kept : (size : Size) (c : Cluster) → Serves size c → AreKept (marks c)
 kept size c s = are_kept c.past (booked_kept c (is_booked size c s))
+
+-- ---- where the outs of syncs may have been dropped
+pub sifts_serves : (size : Size) (c c' : Cluster) → Serves size c → Sifts c c' → Serves size c'
+sifts_serves size c c' s (inl same) = subst (Serves size) (sym same) s
+sifts_serves size c c' s (inr dropped) = subst (Serves size) (sym dropped) (handed_on size c s)
+
+pub sifts_past : (c c' : Cluster) → Sifts c c' → c'.past ≡ c.past
+sifts_past c c' (inl same) = ap (λ (d : Cluster). d.past) same
+sifts_past c c' (inr dropped) = ap (λ (d : Cluster). d.past) dropped
+
+pub sifts_world : (c c' : Cluster) → Sifts c c' → c'.world ≡ c.world
+sifts_world c c' (inl same) = ap (λ (d : Cluster). d.world) same
+sifts_world c c' (inr dropped) = ap (λ (d : Cluster). d.world) dropped

@@ -1,4 +1,7 @@
 -- What a cluster gives of a request, as its users' turns see it.
+use Rattle.std.specs.Prelude.{◌≡◌, ◌⊎◌}
+use Rattle.cluster_interface.specs.Taking.{DropsSyncs}
+use Rattle.cluster_rules.specs.Cluster.{Cluster}
 use Rattle.open_requests.specs.declared.collected.Collected as cluster
 use Rattle.serve_loop.specs.declared.cluster.Collected.{Collected}
 use Rattle.serve_loop.specs.declared.cluster.Collected.TheVariants as collected
@@ -7,6 +10,10 @@ use Rattle.serve_loop.specs.declared.cluster.Collected.TheVariants as collected
 abbrev pub IsOpen : cluster.Collected → Type 0
 IsOpen (cluster.TheVariants.Closed event) = ⊥
 IsOpen other = Unit {0}
+
+-- nothing changed, or the outs of syncs were dropped
+abbrev pub Sifts : Cluster → Cluster → Type 0
+Sifts c c' = (c' ≡ c) ⊎ DropsSyncs c c'
 
 -- a request that is closed is none of these, so what is said of it does not matter
 abbrev pub shared_of : cluster.Collected → Collected

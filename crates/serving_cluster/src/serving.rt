@@ -33,6 +33,8 @@ pub enum NotBegun<K: Drop> {
 #[derive(Drop)]
 pub struct ServingCluster<J: ClusterSize, S: ClusterInterface> {
     pub(crate) cluster: S,
+    // How many outs waited when they were last looked through for those of syncs.
+    pub(crate) sifted: usize,
     size: PhantomData<J>,
 }
 
@@ -93,6 +95,7 @@ impl<J: ClusterSize, S: ClusterInterface> ServingCluster<J, S> {
         match S::settle(&mut cluster, alloc, most) {
             Ok(_) => Ok(ServingCluster {
                 cluster,
+                sifted: 0,
                 size: PhantomData,
             }),
             Err(Memory) => Err(NotBegun::Memory),

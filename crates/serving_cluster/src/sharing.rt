@@ -1,13 +1,12 @@
 //! The cluster as its users' turns see it.
 
 ghost use Rattle.std.specs.Prelude.{◌≡◌, [], IfOk, OnErr, OnOk, length, reverse};
-ghost use Rattle.cluster_interface.specs.Taking.{DropsSyncs};
 ghost use Rattle.cluster_rules.specs.Cluster.{clock_of};
 ghost use Rattle.serve_loop.specs.Collects.{Collects};
 ghost use Rattle.serve_loop.specs.Marks.{AddsAsked, AddsCut, AddsQuiet, Delivers, TicksAll, TicksBy, TicksNone};
 ghost use Rattle.serve_loop.specs.Turns.{MayAsk};
 ghost use Rattle.serving_cluster.specs.Shown.{ShowsOver};
-ghost use Rattle.serving_cluster.specs.Shared.{IsOpen, shared_of};
+ghost use Rattle.serving_cluster.specs.Shared.{IsOpen, Sifts, shared_of};
 ghost use Rattle.serving_cluster.specs.Ticks.{TicksOne, TicksWholly};
 
 use crate::serving::{ClusterSize, ServingCluster};
@@ -26,6 +25,25 @@ fn shared(collected: open_requests::Collected) -> Collected
         open_requests::Collected::Closed { .. } => unreachable!(),
         open_requests::Collected::NotYet(_) => Collected::NotYet,
         open_requests::Collected::Gone => Collected::Gone,
+    }
+}
+
+// Whether one of the outs that wait, from this place on, is a sync's.
+fn has_sync<S: ClusterInterface>(cluster: &S, from: usize) -> bool {
+    for at in from..cluster.outs() {
+        if cluster.out_number(at).is_none() {
+            return true;
+        }
+    }
+    false
+}
+
+// Drops the outs of syncs, if there are any from this place on.
+fn drop_syncs_from<S: ClusterInterface>(cluster: &mut S, from: usize)
+    ensures { Sifts (S.state cluster.old) (S.state cluster.new) }
+{
+    if has_sync(cluster, from) {
+        cluster.drop_syncs();
     }
 }
 
@@ -129,11 +147,14 @@ impl<J: ClusterSize, S: ClusterInterface> ServingCluster<J, S> {
         self.cluster.settle(alloc, most)
     }
 
-    // Lets go of the outs of syncs, which nobody takes here: so none of them waits at the start of a turn.
+    // Drops the outs of syncs, which nobody takes here: so none of them waits at the start of a turn. Only those outs are
+    // looked at that have come since the last time, since thousands of others may wait. Since then one was taken at most.
     fn drop_syncs(&mut self)
-        ensures { DropsSyncs self.old self.new }
+        ensures past { self.new.past ≡ self.old.past }
+        ensures world { self.new.world ≡ self.old.world }
     {
-        self.cluster.drop_syncs();
+        drop_syncs_from(&mut self.cluster, self.sifted.saturating_sub(1));
+        self.sifted = self.cluster.outs();
     }
 
     // Takes a request's reply, if it is there. No request is closed, since no server restarts.

@@ -128,7 +128,7 @@ impl<S: History> HistoryLock<S> {
     // `take` returns with the turn or not at all; behind a turn that is never given back all wait for ever.
     //
     // A call wakes its own room and the next ticket's, so that whoever comes next is awake when his turn comes. In a room
-    // are those alone whose tickets leave the same rest, so of 64 that wait in a row a call wakes at most two.
+    // are those alone whose tickets leave the same rest, so of 1,024 that wait in a row a call wakes at most two.
     fn wait_for_call<R: Wait>(&self, rt: &R, ticket: u64) {
         for _ in 0..LOOKS {
             match ticket.wrapping_sub(self.served()) {

@@ -6,13 +6,13 @@ use crossbeam_utils::sync::{EventCount, Key};
 use std::alloc::{AllocError, Global};
 
 // How many rooms there are. It divides 2^64, so that the rooms go on in turn where the tickets begin again at 0.
-const ROOMS: usize = 64;
+const ROOMS: usize = 1_024;
 
 /// The rooms of a lock. A ticket's room is told by the rest that it leaves.
 #[derive(Drop)]
 pub(crate) struct WaitingRooms {
     rooms: Vec<CachePadded<EventCount>>,
-    ghost many: { vec_len rooms ≡ 64 },
+    ghost many: { vec_len rooms ≡ 1024 },
 }
 
 impl WaitingRooms {

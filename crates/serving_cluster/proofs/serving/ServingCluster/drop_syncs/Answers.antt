@@ -1,7 +1,11 @@
-use Rattle.std.proofs.Common.{subst, sym}
-use Rattle.serving_rules.specs.Serving.{Serves}
-use Rattle.serving_rules.proofs.Serving.{handed_on}
+use Rattle.serving_cluster.proofs.Steps.{sifts_past, sifts_serves, sifts_world}
 use Rattle.serving_cluster.proofs.serving.ServingCluster.drop_syncs.Goals as goal
 
 pub invariant_of-self : goal.invariant_of-self
-invariant_of-self g c = subst (Serves g.J.ClusterSize.size) (sym c.drop_syncs.ensures) (handed_on _ _ c.self.invariant)
+invariant_of-self g c = sifts_serves _ _ _ c.self.invariant c.drop_syncs_from.ensures
+
+pub returns-clause-past : goal.returns-clause-past
+returns-clause-past g c = rw (← c.self.view_is) (sifts_past _ _ c.drop_syncs_from.ensures)
+
+pub returns-clause-world : goal.returns-clause-world
+returns-clause-world g c = rw (← c.self.view_is) (sifts_world _ _ c.drop_syncs_from.ensures)
