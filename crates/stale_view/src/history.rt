@@ -2,6 +2,7 @@
 //! one word, its length. Who has seen a beginning of it can compare it with what others have seen.
 
 ghost use Rattle.std.specs.Prelude.{◌≡◌, ◌+◌, ◌-◌, ◌<◌, ◌^◌, ◌∷◌, ◌++◌, [], length, true, false, IsTrue, OnOk};
+ghost use mathlib.Core.List.{IsPrefix};
 ghost use Rattle.stale_view.specs.History.{head_of};
 
 use cat_model::Command;
@@ -110,14 +111,21 @@ impl Front {
         }
     }
 
-    /// Whether it is as long as another of the same history. Then they are the same.
-    pub(crate) fn is_same(&self, other: &Front) -> bool
-        requires { other.now.book ≡ self.now.book }
-        ensures { IsTrue result → self.now.list ≡ other.now.list }
+    /// Goes on to another beginning of the same history, unless that is shorter, and says whether it did.
+    pub(crate) fn follow(&mut self, other: &Front) -> bool
+        requires { other.now.book ≡ self.old.book }
+        ensures book { self.new.book ≡ self.old.book }
+        ensures grown { IsPrefix self.old.list self.new.list }
+        ensures followed { IsTrue result → self.new.list ≡ other.now.list }
+        ensures shorter { result ≡ false → (self.new ≡ self.old) × (length other.now.list < length self.old.list) }
     {
+        if other.count < self.count {
+            return false;
+        }
         let mut both = self.seen.again();
         both.learn(&other.seen);
-        self.count == other.count
+        *self = other.again();
+        true
     }
 
     /// Adds a command to the history, if this is all of it, and says whether it did.

@@ -6,6 +6,7 @@ ghost use Rattle.stale_view.specs.Published.{nothing_published};
 use crate::history::Opened;
 use crate::naming::PairName;
 use crate::publisher::Publisher;
+use crate::readers::Readers;
 use crate::rule::SideWriter;
 use crate::side::Side;
 use crate::viewer::Viewer;
@@ -14,24 +15,28 @@ use left_right::writer::Writer;
 use std::alloc::Global;
 use std::sync::Wait;
 
-/// A publisher that shows nothing yet, and its first viewer. There are places for so many viewers at once.
+/// A publisher that shows nothing yet, and its first viewer. So many viewers of the pair can read at once.
 pub fn stale_pair<J: PairName, R: Wait + Drop>(
     alloc: Global,
     rt: R,
     opened: Opened,
-    viewers: u32,
+    places: u32,
 ) -> Result<(Publisher<J, R>, Viewer<J>), Memory>
     requires named { opened.front.book ≡ J.book }
-    requires some { 0 < viewers }
+    requires some { 0 < places }
     ensures { IfOk result (λ p. (p.0 ≡ nothing_published) × (p.1 ≡ [])) }
 {
     let Opened { head, front } = opened;
     let first = Side::new(alloc, &front)?;
     let second = Side::new(alloc, &front)?;
-    let writer: SideWriter<J> = Writer::new(alloc, first, second, viewers as usize)?;
-    let Ok(reader) = writer.factory().reader() else {
+    let writer: SideWriter<J> = Writer::new(alloc, first, second, places as usize)?;
+    let Ok(readers) = Readers::new(alloc, &writer, &front, places) else {
         drop(writer.take(&rt));
         return Err(Memory);
+    };
+    let viewer = Viewer {
+        readers,
+        read: front.again(),
     };
     let publisher = Publisher {
         writer,
@@ -40,10 +45,5 @@ pub fn stale_pair<J: PairName, R: Wait + Drop>(
         head,
         rt,
     };
-    Ok((
-        publisher,
-        Viewer {
-            reader: Some(reader),
-        },
-    ))
+    Ok((publisher, viewer))
 }

@@ -1,6 +1,6 @@
 //! The publisher.
 
-ghost use Rattle.std.specs.Prelude.{◌≡◌, ◌<◌, ◌^◌, [], ◌∷◌, ◌++◌, length, drop, fold, IfOk, OnOk, OnErr, MatchBool, MatchResult};
+ghost use Rattle.std.specs.Prelude.{◌≡◌, ◌⊎◌, ◌<◌, ◌-◌, ◌^◌, [], ◌∷◌, ◌++◌, length, drop, fold, IfOk, OnOk, OnErr, MatchBool, MatchResult};
 ghost use mathlib.Core.List.{IsPrefix};
 ghost use Rattle.cat_model.specs.Log.{commands_of};
 ghost use Rattle.stale_view.specs.declared.side.Op.TheVariants.{Apply, Stamp};
@@ -91,40 +91,59 @@ fn stamp<J: PairName>(writer: &mut SideWriter<J>, front: &Front) -> Result<(), M
     }
 }
 
-// Puts the commands of the log that are neither shown nor pending behind those that are.
-fn file_all<J: PairName>(
+// Puts a command behind those that are shown or pending, with which the history goes on.
+fn take_one<J: PairName>(
     writer: &mut SideWriter<J>,
     taken: &mut u64,
+    front: &mut Front,
+    head: &Head,
+    command: &Shared<Command>,
+) -> Result<(), Memory>
+    requires count { taken.old ≡ length (all_of writer.old.desk.shown.value (drop writer.old.behind writer.old.log.items)) }
+    requires room { taken.old < 2 ^ 64 - 1 }
+    requires whole { front.old.list ≡ all_of writer.old.desk.shown.value (drop writer.old.behind writer.old.log.items) }
+    requires one { head.now.word.book ≡ front.old.book }
+    ensures desk { writer.new.desk ≡ writer.old.desk }
+    ensures count { taken.new ≡ length (all_of writer.new.desk.shown.value (drop writer.new.behind writer.new.log.items)) }
+    ensures front { IsPrefix front.new.list (all_of writer.new.desk.shown.value (drop writer.new.behind writer.new.log.items)) }
+    ensures book { front.new.book ≡ front.old.book }
+    ensures taken { (all_of writer.new.desk.shown.value (drop writer.new.behind writer.new.log.items) ≡ all_of writer.old.desk.shown.value (drop writer.old.behind writer.old.log.items)) ⊎ (all_of writer.new.desk.shown.value (drop writer.new.behind writer.new.log.items) ≡ all_of writer.old.desk.shown.value (drop writer.old.behind writer.old.log.items) ++ command.now ∷ []) }
+    ensures ok { OnOk result ((all_of writer.new.desk.shown.value (drop writer.new.behind writer.new.log.items) ≡ all_of writer.old.desk.shown.value (drop writer.old.behind writer.old.log.items) ++ command.now ∷ []) × (front.new.list ≡ all_of writer.new.desk.shown.value (drop writer.new.behind writer.new.log.items))) }
+{
+    file(writer, command)?;
+    *taken += 1;
+    if front.add(head, command) {
+        Ok(())
+    } else {
+        Err(Memory)
+    }
+}
+
+// Takes the commands of the log that stand behind as many as were taken, with which the history goes on. Where that once
+// could not go on, none is taken any more.
+fn take_all<J: PairName>(
+    writer: &mut SideWriter<J>,
+    taken: &mut u64,
+    front: &mut Front,
+    head: &Head,
     log: &[Entry],
 ) -> Result<(), Memory>
     requires count { taken.old ≡ length (all_of writer.old.desk.shown.value (drop writer.old.behind writer.old.log.items)) }
-    requires front { IsPrefix (all_of writer.old.desk.shown.value (drop writer.old.behind writer.old.log.items)) (commands_of log.now) }
+    requires history { IsPrefix front.old.list (all_of writer.old.desk.shown.value (drop writer.old.behind writer.old.log.items)) }
+    requires one { head.now.word.book ≡ front.old.book }
     ensures desk { writer.new.desk ≡ writer.old.desk }
     ensures count { taken.new ≡ length (all_of writer.new.desk.shown.value (drop writer.new.behind writer.new.log.items)) }
-    ensures front { IsPrefix (all_of writer.new.desk.shown.value (drop writer.new.behind writer.new.log.items)) (commands_of log.now) }
+    ensures front { IsPrefix (all_of writer.old.desk.shown.value (drop writer.old.behind writer.old.log.items)) (commands_of log.now) → IsPrefix (all_of writer.new.desk.shown.value (drop writer.new.behind writer.new.log.items)) (commands_of log.now) }
     ensures grown { IsPrefix (all_of writer.old.desk.shown.value (drop writer.old.behind writer.old.log.items)) (all_of writer.new.desk.shown.value (drop writer.new.behind writer.new.log.items)) }
-    ensures ok { OnOk result (all_of writer.new.desk.shown.value (drop writer.new.behind writer.new.log.items) ≡ commands_of log.now) }
-{
-    while *taken < log.len() as u64 {
-        file(writer, &log[*taken as usize].command)?;
-        *taken += 1;
-    }
-    Ok(())
-}
-
-// The history goes on to the end of the log.
-fn go_on(front: &mut Front, head: &Head, log: &[Entry]) -> Result<(), Memory>
-    requires front { IsPrefix front.old.list (commands_of log.now) }
-    requires one { head.now.word.book ≡ front.old.book }
+    ensures history { IsPrefix front.new.list (all_of writer.new.desk.shown.value (drop writer.new.behind writer.new.log.items)) }
     ensures book { front.new.book ≡ front.old.book }
-    ensures front { IsPrefix front.new.list (commands_of log.now) }
-    ensures ok { OnOk result (front.new.list ≡ commands_of log.now) }
+    ensures ok { OnOk result ((front.new.list ≡ all_of writer.new.desk.shown.value (drop writer.new.behind writer.new.log.items)) × (IsPrefix (all_of writer.old.desk.shown.value (drop writer.old.behind writer.old.log.items)) (commands_of log.now) → all_of writer.new.desk.shown.value (drop writer.new.behind writer.new.log.items) ≡ commands_of log.now)) }
 {
-    while front.count() < log.len() as u64 {
-        let next = front.count() as usize;
-        if !front.add(head, &log[next].command) {
-            return Err(Memory);
-        }
+    if front.count() != *taken {
+        return Err(Memory);
+    }
+    while *taken < log.len() as u64 {
+        take_one(writer, taken, front, head, &log[*taken as usize].command)?;
     }
     Ok(())
 }
@@ -161,32 +180,6 @@ fn show_all<J: PairName, R: Wait>(writer: &mut SideWriter<J>, rt: &R) -> Result<
     replace_with(writer, rt, show)
 }
 
-// Takes the commands of the log that were not taken yet, with which the history goes on.
-fn take_all<J: PairName>(
-    writer: &mut SideWriter<J>,
-    taken: &mut u64,
-    front: &mut Front,
-    head: &Head,
-    log: &[Entry],
-) -> Result<(), Memory>
-    requires count { taken.old ≡ length (all_of writer.old.desk.shown.value (drop writer.old.behind writer.old.log.items)) }
-    requires front { IsPrefix (all_of writer.old.desk.shown.value (drop writer.old.behind writer.old.log.items)) (commands_of log.now) }
-    requires history { IsPrefix front.old.list (all_of writer.old.desk.shown.value (drop writer.old.behind writer.old.log.items)) }
-    requires one { head.now.word.book ≡ front.old.book }
-    ensures desk { writer.new.desk ≡ writer.old.desk }
-    ensures count { taken.new ≡ length (all_of writer.new.desk.shown.value (drop writer.new.behind writer.new.log.items)) }
-    ensures front { IsPrefix (all_of writer.new.desk.shown.value (drop writer.new.behind writer.new.log.items)) (commands_of log.now) }
-    ensures grown { IsPrefix (all_of writer.old.desk.shown.value (drop writer.old.behind writer.old.log.items)) (all_of writer.new.desk.shown.value (drop writer.new.behind writer.new.log.items)) }
-    ensures history { IsPrefix front.new.list (all_of writer.new.desk.shown.value (drop writer.new.behind writer.new.log.items)) }
-    ensures book { front.new.book ≡ front.old.book }
-    ensures ok { OnOk result ((all_of writer.new.desk.shown.value (drop writer.new.behind writer.new.log.items) ≡ commands_of log.now) × (front.new.list ≡ commands_of log.now)) }
-{
-    match file_all(writer, taken, log) {
-        Ok(()) => go_on(front, head, log),
-        Err(Memory) => Err(Memory),
-    }
-}
-
 // Puts a stamp behind what is pending. Says whether anything was.
 fn prepare<J: PairName>(writer: &mut SideWriter<J>, front: &Front) -> Result<bool, Memory>
     requires whole { front.now.list ≡ all_of writer.old.desk.shown.value (drop writer.old.behind writer.old.log.items) }
@@ -204,13 +197,13 @@ fn prepare<J: PairName>(writer: &mut SideWriter<J>, front: &Front) -> Result<boo
 }
 
 impl<J: PairName, R: Wait + Drop> Publisher<J, R> {
-    /// Shows viewers the whole log, which begins with all that was taken. It may wait for those that are reading. After
-    /// want of memory they see what they saw, and the next call goes on.
+    /// Takes what stands in the log behind as many commands as were taken, and shows viewers all that was taken: the whole
+    /// log, if it begins with what was taken before. It may wait for those that are reading. After want of memory they see
+    /// what they saw, and the next call goes on.
     pub fn publish(&mut self, log: &[Entry]) -> Result<(), Memory>
-        requires { IsPrefix self.old.taken (commands_of log.now) }
-        ensures taken { IsPrefix self.new.taken (commands_of log.now) }
+        ensures taken { IsPrefix self.old.taken (commands_of log.now) → IsPrefix self.new.taken (commands_of log.now) }
         ensures grown { IsPrefix self.old.taken self.new.taken }
-        ensures ok { OnOk result ((self.new.list ≡ commands_of log.now) × (self.new.taken ≡ commands_of log.now)) }
+        ensures ok { OnOk result ((self.new.list ≡ self.new.taken) × (IsPrefix self.old.taken (commands_of log.now) → self.new.taken ≡ commands_of log.now)) }
         ensures err { OnErr result (self.new.list ≡ self.old.list) }
     {
         take_all(

@@ -173,17 +173,19 @@ fn operations_send()
 }
 
 /// A law, which does nothing: the copies of the tables may go to other threads and be shared by them, and what is done to
-/// them may go to other threads.
+/// them may go to other threads; and so with beginnings of the history.
 pub fn parts_cross()
     ensures side { IsSend side.the_row }
     ensures shared { IsSync side.the_row }
     ensures op { IsSend op.the_row }
     ensures front { IsSend front.the_row }
+    ensures fronts { IsSync front.the_row }
 {
     sides_send();
     sides_share();
     operations_send();
     fronts_send();
+    fronts_share();
 }
 
 /// A law, which does nothing: a viewer may go to another thread.

@@ -1,16 +1,19 @@
 //! A viewer.
 
-ghost use Rattle.std.specs.Prelude.{◌≡◌, ◌+◌, ◌≤◌, [], length, IfOk, OnOk, IsTrue};
+ghost use Rattle.std.specs.Prelude.{◌≡◌, ◌+◌, ◌≤◌, [], length, IfErr, IfOk, OnOk};
 ghost use mathlib.Core.List.{IsPrefix};
-ghost use Rattle.left_right.specs.Sides.{view as view_of};
+ghost use Rattle.std.specs.Arc.{arc_value};
 ghost use Rattle.cat_model.specs.Machine.{catalog_at};
 ghost use Rattle.cat_model.specs.Queries.{answer};
 ghost use Rattle.cat_model.specs.Indexes.{index_of};
-ghost use Rattle.catalog_query.specs.Standing.{Stands};
+ghost use Rattle.catalog_query.specs.Standing.{Stands as StandsFor};
+ghost use Rattle.stale_view.specs.Sides.{Stands};
+ghost use Rattle.stale_view.specs.declared.viewer.Unseen.TheVariants as unseen;
 
 use crate::history::Front;
 use crate::naming::PairName;
 use crate::publisher::Publisher;
+use crate::readers::Readers;
 use crate::rule::{Reads, SideReader};
 use crate::side::Side;
 use cat_model::{Answer, Memory, Query, Steps};
@@ -18,27 +21,37 @@ use catalog_query::{View, evaluate};
 use catalog_store::Store;
 use std::alloc::Global;
 use std::marker::Model;
-use std::sync::Wait;
 use std::sync::ledger::Ledger;
-use std::thread::yield_now;
+use std::sync::{Arc, Wait};
+use thiserror::Error;
 
-/// What is shown to one reader at a time. Contracts see it as the list that it has read.
+/// Why a viewer saw nothing.
+#[derive(Clone, Copy, Debug, PartialEq, Eq, Error)]
+pub enum Unseen {
+    /// Others read by all readers of the pair. Whoever asks again may find one.
+    #[error("no reader of the catalog is free")]
+    Busy,
+    #[error("out of memory")]
+    Memory,
+}
+
+/// What answers queries from what the publisher shows, for one client. Contracts see it as the list that it has read.
 #[derive(Drop)]
 pub struct Viewer<J: PairName> {
-    // A call has it while it reads.
-    pub(crate) reader: Option<SideReader<J>>,
+    pub(crate) readers: Arc<Readers<J>, Global>,
+    pub(crate) read: Front,
 }
 
 impl<J: PairName> Model for Viewer<J> {
-    ghost use Rattle.std.specs.Prelude.{◌≡◌, List, [], is_some, option_map, true, unwrap_or};
+    ghost use Rattle.std.specs.Prelude.{◌≡◌, List, []};
+    ghost use Rattle.std.specs.Arc.{arc_value};
     ghost use Rattle.cat_model.specs.declared.command.Command.{Command};
-    ghost use Rattle.left_right.specs.Sides.{view as view_of};
 
     ghost Value = { List Command };
 
-    ghost view = { λ v. unwrap_or (option_map (λ r. view_of r.place) v.reader) [] };
+    ghost view = { λ v. v.read.list };
 
-    ghost invariant = { λ v. is_some v.reader ≡ true };
+    ghost invariant = { λ v. (v.read.book ≡ J.book) × ((arc_value v.readers).empty.book ≡ J.book) × ((arc_value v.readers).empty.list ≡ []) };
 }
 
 /// The answer to a query with its index, at so many commands of the log.
@@ -51,7 +64,7 @@ pub struct Viewed {
 
 // The tables of a store, read together.
 fn tables_of(store: &Store) -> View<'_>
-    ensures { Stands result store.now }
+    ensures { StandsFor result store.now }
 {
     View {
         kv: store.kv(),
@@ -80,96 +93,98 @@ fn answered<L: Ledger>(
     })
 }
 
+// The answer by the tables that are shown, where they go on from all that was read before.
+fn followed<L: Ledger>(
+    alloc: Global,
+    side: &Side,
+    read: &mut Front,
+    query: &Query,
+    steps: &mut Steps<L>,
+) -> Result<Viewed, Memory>
+    requires { Stands read.old.book side.now }
+    ensures book { read.new.book ≡ read.old.book }
+    ensures grown { IsPrefix read.old.list read.new.list }
+    ensures told { IfOk result (λ v. (v.answer ≡ answer query.now (catalog_at read.new.list)) × (v.index ≡ index_of query.now read.new.list) × (v.prefix ≡ length read.new.list)) }
+    ensures cost { steps.new ≤ steps.old + 1 }
+    ensures one { OnOk result (steps.new ≡ steps.old + 1) }
+{
+    if !read.follow(&side.stamp) {
+        return Err(Memory);
+    }
+    answered(alloc, side, query, steps)
+}
+
 // Reads the tables that are shown.
 fn look<J: PairName, L: Ledger>(
     reader: SideReader<J>,
     alloc: Global,
+    read: &mut Front,
     query: &Query,
     steps: &mut Steps<L>,
 ) -> (SideReader<J>, Result<Viewed, Memory>)
-    ensures grown { IsPrefix (view_of reader.place) (view_of result.0.place) }
-    ensures told { IfOk result.1 (λ v. (v.answer ≡ answer query.now (catalog_at (view_of result.0.place))) × (v.index ≡ index_of query.now (view_of result.0.place)) × (v.prefix ≡ length (view_of result.0.place))) }
+    requires { read.old.book ≡ J.book }
+    ensures book { read.new.book ≡ read.old.book }
+    ensures grown { IsPrefix read.old.list read.new.list }
+    ensures told { IfOk result.1 (λ v. (v.answer ≡ answer query.now (catalog_at read.new.list)) × (v.index ≡ index_of query.now read.new.list) × (v.prefix ≡ length read.new.list)) }
     ensures cost { steps.new ≤ steps.old + 1 }
     ensures one { OnOk result.1 (steps.new ≡ steps.old + 1) }
 {
     match reader.enter_as::<Reads<J>>() {
         Ok(reading) => {
-            let told = answered(alloc, reading.get(), query, steps);
+            let told = followed(alloc, reading.get(), read, query, steps);
             (reading.leave(), told)
         }
         Err(reader) => (reader, Err(Memory)),
     }
 }
 
-// Reads what is shown, and says whether it is what this stamp tells.
-fn meet<J: PairName>(reader: SideReader<J>, stamp: &Front) -> (SideReader<J>, bool)
-    requires { stamp.now.book ≡ J.book }
-    ensures grown { IsPrefix (view_of reader.place) (view_of result.0.place) }
-    ensures met { IsTrue result.1 → view_of result.0.place ≡ stamp.now.list }
-{
-    match reader.enter_as::<Reads<J>>() {
-        Ok(reading) => {
-            let met = reading.get().stamp.is_same(stamp);
-            (reading.leave(), met)
-        }
-        Err(reader) => (reader, false),
-    }
-}
-
 impl<J: PairName> Viewer<J> {
     /// Answers the query at what is shown, which goes on from all that this viewer has read. It waits for nobody, and is
-    /// one step at most.
+    /// one step at most. Where others read by all readers of the pair, nothing happens.
     pub fn read<L: Ledger>(
         &mut self,
         alloc: Global,
         query: &Query,
         steps: &mut Steps<L>,
-    ) -> Result<Viewed, Memory>
+    ) -> Result<Viewed, Unseen>
         ensures grown { IsPrefix self.old self.new }
         ensures answer { IfOk result (λ v. v.answer ≡ answer query.now (catalog_at self.new)) }
         ensures index { IfOk result (λ v. v.index ≡ index_of query.now self.new) }
         ensures prefix { IfOk result (λ v. v.prefix ≡ length self.new) }
+        ensures busy { IfErr result (λ why. why ≡ unseen.Busy → (self.new ≡ self.old) × (steps.new ≡ steps.old)) }
         ensures cost { steps.new ≤ steps.old + 1 }
         ensures one { OnOk result (steps.new ≡ steps.old + 1) }
     {
-        let Some(reader) = self.reader.take() else {
-            unreachable!()
+        let Some((slot, reader)) = self.readers.take() else {
+            return Err(Unseen::Busy);
         };
-        let (reader, told) = look(reader, alloc, query, steps);
-        self.reader = Some(reader);
-        told
+        let (reader, told) = look(reader, alloc, &mut self.read, query, steps);
+        slot.put(reader);
+        match told {
+            Ok(viewed) => Ok(viewed),
+            Err(Memory) => Err(Unseen::Memory),
+        }
     }
 
-    /// Reads what the publisher shows. The publisher is borrowed, so it shows nothing else meanwhile, and want of memory
-    /// never comes; but no viewer can know that.
+    /// Has read what the publisher shows. That is never less than it had read before, and want of memory never comes; but
+    /// no viewer can know that.
     pub fn learn<R: Wait + Drop>(&mut self, publisher: &Publisher<J, R>) -> Result<(), Memory>
         ensures grown { IsPrefix self.old self.new }
         ensures ok { OnOk result (self.new ≡ publisher.now.list) }
     {
-        let Some(reader) = self.reader.take() else {
-            unreachable!()
-        };
-        let (reader, met) = meet(reader, publisher.shown());
-        self.reader = Some(reader);
-        if met { Ok(()) } else { Err(Memory) }
+        if self.read.follow(publisher.shown()) {
+            Ok(())
+        } else {
+            Err(Memory)
+        }
     }
 
-    /// One more viewer, which has read nothing. Where there is a viewer in each place that the pair was made with, it
-    /// waits until one is gone.
-    pub fn split<R: Wait>(&self, rt: &R) -> Viewer<J>
-        ensures { result ≡ [] }
+    /// One more viewer of the pair, which has read nothing.
+    pub fn split(&self) -> Result<Viewer<J>, Memory>
+        ensures { IfOk result (λ v. v ≡ []) }
     {
-        let Some(reader) = &self.reader else {
-            unreachable!()
-        };
-        for _ in rt.forever() {
-            if let Ok(reader) = reader.factory().reader() {
-                return Viewer {
-                    reader: Some(reader),
-                };
-            }
-            yield_now();
-        }
-        unreachable!()
+        let readers = Arc::try_clone(&self.readers)?;
+        let read = readers.empty.again();
+        Ok(Viewer { readers, read })
     }
 }
