@@ -1,0 +1,9 @@
+pub mod BodyReads
+pub mod LengthBytes
+pub mod Judgements
+pub mod Joined
+pub mod Answering
+pub mod Filling
+pub mod Feeding
+pub mod Soundness
+pub mod Stopping

@@ -1,0 +1,221 @@
+//! Frames as bytes.
+
+ghost use Rattle.std.specs.Prelude.{◌≡◌, ◌≤◌, ◌++◌, ◌∷◌, [], length, IfOk, OnErr, OnOk};
+ghost use Rattle.std.specs.List.{concat};
+ghost use Rattle.cat_model.specs.Spelling.{list_bytes, spelling};
+ghost use Rattle.store_records.specs.Records.{entry_bytes};
+ghost use Rattle.peer_frames.specs.Spelling.{body_bytes, fields_of, frame_bytes, kind_of, length_bytes, message_fields, message_kind, most_body, role_bytes, why_bytes};
+ghost use Rattle.peer_frames.specs.declared.frame.Frame.TheVariants as frames;
+
+use crate::frame::{Frame, Why};
+use crate::numbers::{put_byte, put_number};
+use cat_model::{Bytes, Entry, List, Memory, Role};
+use command_codec::encode;
+use raft_model::Message;
+use std::alloc::Global;
+
+#[tactic(auto, unfolding(store_records::specs::Records::entry_bytes))]
+fn put_entry(alloc: Global, out: &mut Bytes, entry: &Entry) -> Result<(), Memory>
+    ensures { OnOk result (out.new ≡ out.old ++ entry_bytes entry.now) }
+{
+    put_number(out, entry.term)?;
+    put_number(out, entry.number)?;
+    encode(alloc, &entry.command, out)
+}
+
+fn put_entries(alloc: Global, out: &mut Bytes, entries: &List<Entry>) -> Result<(), Memory>
+    ensures { OnOk result (out.new ≡ out.old ++ list_bytes entry_bytes entries.now) }
+{
+    let entries = entries.as_slice();
+    put_number(out, entries.len() as u64)?;
+    for entry in entries {
+        put_entry(alloc, out, entry)?;
+    }
+    Ok(())
+}
+
+fn role_byte(role: Role) -> u8
+    ensures { role_bytes role ≡ result ∷ [] }
+{
+    match role {
+        Role::Follower => 0,
+        Role::Candidate => 1,
+        Role::Leader => 2,
+    }
+}
+
+fn why_byte(why: Why) -> u8
+    ensures { why_bytes why ≡ result ∷ [] }
+{
+    match why {
+        Why::NotLeader => 1,
+        Why::Full => 2,
+        Why::Halted => 3,
+    }
+}
+
+fn message_kind_byte(message: &Message) -> u8
+    ensures { result ≡ message_kind message.now }
+{
+    match message {
+        Message::AskVote { .. } => 1,
+        Message::Vote { .. } => 2,
+        Message::Append { .. } => 3,
+        Message::Yes { .. } => 4,
+        Message::No { .. } => 5,
+    }
+}
+
+fn kind_byte(frame: &Frame) -> u8
+    ensures { result ≡ kind_of frame.now }
+{
+    match frame {
+        Frame::Peer { sender: _, message } => message_kind_byte(message),
+        Frame::Propose { .. } => 6,
+        Frame::Status => 7,
+        Frame::Placed { .. } => 8,
+        Frame::Refused { .. } => 9,
+        Frame::State { .. } => 10,
+    }
+}
+
+fn put_message(alloc: Global, out: &mut Bytes, message: &Message) -> Result<(), Memory>
+    ensures { OnOk result (out.new ≡ out.old ++ concat (message_fields message.now)) }
+{
+    match message {
+        Message::AskVote {
+            term,
+            last_index,
+            last_term,
+        } => {
+            put_number(out, *term)?;
+            put_number(out, *last_index)?;
+            put_number(out, *last_term)?;
+        }
+        Message::Vote { term, granted } => {
+            put_number(out, *term)?;
+            put_byte(out, u8::from(*granted))?;
+        }
+        Message::Append {
+            term,
+            prev_index,
+            prev_term,
+            entries,
+            commit,
+            round,
+        } => {
+            put_number(out, *term)?;
+            put_number(out, *prev_index)?;
+            put_number(out, *prev_term)?;
+            put_entries(alloc, out, entries)?;
+            put_number(out, *commit)?;
+            put_number(out, *round)?;
+        }
+        Message::Yes {
+            term,
+            matched,
+            round,
+        } => {
+            put_number(out, *term)?;
+            put_number(out, *matched)?;
+            put_number(out, *round)?;
+        }
+        Message::No { term, last } => {
+            put_number(out, *term)?;
+            put_number(out, *last)?;
+        }
+    }
+    Ok(())
+}
+
+fn put_fields(alloc: Global, out: &mut Bytes, frame: &Frame) -> Result<(), Memory>
+    ensures { OnOk result (out.new ≡ out.old ++ concat (fields_of frame.now)) }
+{
+    match frame {
+        Frame::Peer { sender, message } => {
+            put_number(out, u64::from(*sender))?;
+            put_message(alloc, out, message)?;
+        }
+        Frame::Propose { command } => encode(alloc, command, out)?,
+        Frame::Status => {}
+        Frame::Placed { index, term } => {
+            put_number(out, *index)?;
+            put_number(out, *term)?;
+        }
+        Frame::Refused { why } => put_byte(out, why_byte(*why))?,
+        Frame::State {
+            term,
+            role,
+            commit,
+            last,
+        } => {
+            put_number(out, *term)?;
+            put_byte(out, role_byte(*role))?;
+            put_number(out, *commit)?;
+            put_number(out, *last)?;
+        }
+    }
+    Ok(())
+}
+
+fn no_bytes(alloc: Global) -> Bytes
+    ensures { length result ≡ 0 }
+{
+    Bytes::from(Vec::new(alloc))
+}
+
+fn frame_body(alloc: Global, frame: &Frame) -> Result<Bytes, Memory>
+    ensures { IfOk result (λ body. body ≡ body_bytes frame.now) }
+{
+    let mut body = no_bytes(alloc);
+    put_byte(&mut body, kind_byte(frame))?;
+    put_fields(alloc, &mut body, frame)?;
+    Ok(body)
+}
+
+fn message_body(alloc: Global, sender: u32, message: &Message) -> Result<Bytes, Memory>
+    ensures { IfOk result (λ body. body ≡ body_bytes (frames.Peer sender message.now)) }
+{
+    let mut body = no_bytes(alloc);
+    put_byte(&mut body, message_kind_byte(message))?;
+    put_number(&mut body, u64::from(sender))?;
+    put_message(alloc, &mut body, message)?;
+    Ok(body)
+}
+
+// Puts a body last, behind its length.
+fn put_framed(alloc: Global, body: &Bytes, out: &mut Bytes) -> Result<(), Memory>
+    requires { length body.now ≤ most_body }
+    ensures ok { OnOk result (out.new ≡ out.old ++ (length_bytes (length body.now) ++ body.now)) }
+    ensures err { OnErr result (out.new ≡ out.old) }
+{
+    let mut bytes = no_bytes(alloc);
+    bytes.extend(&(body.len() as u32).to_be_bytes())?;
+    bytes.extend(body.as_slice())?;
+    out.extend(bytes.as_slice())
+}
+
+/// Puts the frame last. After want of memory `out` is as before.
+pub fn write_frame(alloc: Global, frame: &Frame, out: &mut Bytes) -> Result<(), Memory>
+    requires { length (body_bytes frame.now) ≤ most_body }
+    ensures ok { OnOk result (out.new ≡ out.old ++ frame_bytes frame.now) }
+    ensures err { OnErr result (out.new ≡ out.old) }
+{
+    let body = frame_body(alloc, frame)?;
+    put_framed(alloc, &body, out)
+}
+
+/// Puts the frame of a server's message last. After want of memory `out` is as before.
+pub fn write_message(
+    alloc: Global,
+    sender: u32,
+    message: &Message,
+    out: &mut Bytes,
+) -> Result<(), Memory>
+    requires { length (body_bytes (frames.Peer sender message.now)) ≤ most_body }
+    ensures ok { OnOk result (out.new ≡ out.old ++ frame_bytes (frames.Peer sender message.now)) }
+    ensures err { OnErr result (out.new ≡ out.old) }
+{
+    let body = message_body(alloc, sender, message)?;
+    put_framed(alloc, &body, out)
+}
