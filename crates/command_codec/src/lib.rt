@@ -13,7 +13,9 @@ mod putting;
 mod records;
 mod texts;
 
+pub use commands::read_command;
 pub use counting::encoded_len;
 pub use decoding::decode;
 pub use encoding::encode;
-pub use fault::DecodeFault;
+pub use fault::{DecodeFault, Fault, ReadError};
+pub use fields::{bad, cut, read_flag, read_number};

@@ -24,9 +24,9 @@ use Rattle.peer_frames.specs.declared.frame.Peers.{Peers}
 use Rattle.peer_frames.specs.declared.frame.Frame.{Frame}
 use Rattle.peer_frames.specs.declared.frame.Frame.TheVariants as frames
 use Rattle.peer_frames.specs.Spelling.{kind_of, fields_of, body_bytes, ArePeers, IsSender, IsMessage, Fits}
+use Rattle.store_records.proofs.Certain.{command_field}
 use Rattle.store_records.specs.Records.{entry_bytes, IsEntry}
 use Rattle.store_records.specs.RecordReading.{entry_at}
-use Rattle.store_records.proofs.Decoded.{command_field}
 use Rattle.store_records.proofs.PayloadReads.{entry_field, entry_reads}
 use Rattle.peer_frames.specs.Reading.{sender_at, ask_vote_at, vote_at, append_at, yes_at, no_at, propose_at, by_kind, body_at}
 

@@ -5,21 +5,9 @@ use Rattle.command_codec.specs.declared.fault.Fault.TheVariants.{Cut, Bad}
 use Rattle.command_codec.specs.Reading.{Read, ◌>>=◌, number_at, any_number_at, flag_at, list_at, command_at}
 use Rattle.store_records.specs.RecordReading.{entry_at}
 use Rattle.raft_model.specs.declared.message.Message.TheVariants.{AskVote, Vote, Append, Yes, No}
-use Rattle.peer_frames.specs.declared.fault.FieldFault.{FieldFault}
-use Rattle.peer_frames.specs.declared.fault.FieldFault.TheVariants as faults
 use Rattle.peer_frames.specs.declared.frame.Frame.{Frame}
 use Rattle.peer_frames.specs.declared.frame.Frame.TheVariants as frames
 use Rattle.peer_frames.specs.declared.frame.Peers.{Peers}
-
--- what a function returned, seen by view, is what reading gives, unless memory ran out
-abbrev pub Fails : {Y : Type 0} → FieldFault → Result Y Fault → Type 0
-Fails faults.Cut read = read ≡ Err Cut
-Fails (faults.Bad left) read = read ≡ Err (Bad left)
-Fails faults.Memory read = Unit {0}
-
-abbrev pub Gives : {X Y : Type 0} → (X → Y) → Result X FieldFault → Result Y Fault → Type 0
-Gives view (Ok x) read = read ≡ Ok (view x)
-Gives view (Err e) read = Fails e read
 
 abbrev pub sender_at : Peers → List ℕ → Read ℕ
 sender_at peers [] = Err Cut

@@ -1,17 +1,17 @@
 //! The bodies of frames, read from bytes.
 
-ghost use Rattle.peer_frames.specs.Reading.{Gives, append_at, ask_vote_at, body_at, by_kind, no_at, propose_at, vote_at, yes_at};
+ghost use Rattle.command_codec.specs.Reading.{Gives};
+ghost use Rattle.peer_frames.specs.Reading.{append_at, ask_vote_at, body_at, by_kind, no_at, propose_at, vote_at, yes_at};
 
-use crate::fault::FieldFault;
-use crate::fields::{read_command, read_entries, read_flag, read_sender};
+use crate::fields::{read_entries, read_sender};
 use crate::frame::{Frame, Peers};
-use crate::numbers::read_number;
 use cat_model::Shared;
+use command_codec::{Fault, ReadError, cut, read_command, read_flag, read_number};
 use raft_model::Message;
 use std::alloc::Global;
 
 #[tactic(auto, unfolding(crate::specs::Reading::ask_vote_at))]
-fn read_ask_vote(peers: Peers, bytes: &[u8]) -> Result<(Frame, &[u8]), FieldFault>
+fn read_ask_vote(peers: Peers, bytes: &[u8]) -> Result<(Frame, &[u8]), ReadError>
     ensures { Gives (λ x. (x.0, x.1.now)) result (ask_vote_at peers bytes.now) }
 {
     let (sender, rest) = read_sender(peers, bytes)?;
@@ -27,7 +27,7 @@ fn read_ask_vote(peers: Peers, bytes: &[u8]) -> Result<(Frame, &[u8]), FieldFaul
 }
 
 #[tactic(auto, unfolding(crate::specs::Reading::vote_at))]
-fn read_vote(peers: Peers, bytes: &[u8]) -> Result<(Frame, &[u8]), FieldFault>
+fn read_vote(peers: Peers, bytes: &[u8]) -> Result<(Frame, &[u8]), ReadError>
     ensures { Gives (λ x. (x.0, x.1.now)) result (vote_at peers bytes.now) }
 {
     let (sender, rest) = read_sender(peers, bytes)?;
@@ -38,7 +38,7 @@ fn read_vote(peers: Peers, bytes: &[u8]) -> Result<(Frame, &[u8]), FieldFault>
 }
 
 #[tactic(auto, unfolding(crate::specs::Reading::append_at))]
-fn read_append(alloc: Global, peers: Peers, bytes: &[u8]) -> Result<(Frame, &[u8]), FieldFault>
+fn read_append(alloc: Global, peers: Peers, bytes: &[u8]) -> Result<(Frame, &[u8]), ReadError>
     ensures { Gives (λ x. (x.0, x.1.now)) result (append_at peers bytes.now) }
 {
     let (sender, rest) = read_sender(peers, bytes)?;
@@ -60,7 +60,7 @@ fn read_append(alloc: Global, peers: Peers, bytes: &[u8]) -> Result<(Frame, &[u8
 }
 
 #[tactic(auto, unfolding(crate::specs::Reading::yes_at))]
-fn read_yes(peers: Peers, bytes: &[u8]) -> Result<(Frame, &[u8]), FieldFault>
+fn read_yes(peers: Peers, bytes: &[u8]) -> Result<(Frame, &[u8]), ReadError>
     ensures { Gives (λ x. (x.0, x.1.now)) result (yes_at peers bytes.now) }
 {
     let (sender, rest) = read_sender(peers, bytes)?;
@@ -76,7 +76,7 @@ fn read_yes(peers: Peers, bytes: &[u8]) -> Result<(Frame, &[u8]), FieldFault>
 }
 
 #[tactic(auto, unfolding(crate::specs::Reading::no_at))]
-fn read_no(peers: Peers, bytes: &[u8]) -> Result<(Frame, &[u8]), FieldFault>
+fn read_no(peers: Peers, bytes: &[u8]) -> Result<(Frame, &[u8]), ReadError>
     ensures { Gives (λ x. (x.0, x.1.now)) result (no_at peers bytes.now) }
 {
     let (sender, rest) = read_sender(peers, bytes)?;
@@ -87,7 +87,7 @@ fn read_no(peers: Peers, bytes: &[u8]) -> Result<(Frame, &[u8]), FieldFault>
 }
 
 #[tactic(auto, unfolding(crate::specs::Reading::propose_at))]
-fn read_propose(alloc: Global, bytes: &[u8]) -> Result<(Frame, &[u8]), FieldFault>
+fn read_propose(alloc: Global, bytes: &[u8]) -> Result<(Frame, &[u8]), ReadError>
     ensures { Gives (λ x. (x.0, x.1.now)) result (propose_at bytes.now) }
 {
     let (command, rest) = read_command(alloc, bytes)?;
@@ -101,12 +101,12 @@ fn read_fields(
     kind: u8,
     peers: Peers,
     bytes: &[u8],
-) -> Result<(Frame, &[u8]), FieldFault>
+) -> Result<(Frame, &[u8]), ReadError>
     ensures { Gives (λ x. (x.0, x.1.now)) result (by_kind kind peers bytes.now) }
 {
-    let bad = FieldFault::Bad {
+    let bad = ReadError::Fault(Fault::Bad {
         left: bytes.len() + 1,
-    };
+    });
     match kind {
         1 => {
             if peers.servers < 2 {
@@ -145,11 +145,11 @@ fn read_fields(
 }
 
 /// The frame whose body begins the bytes, and the bytes after it.
-pub fn read_body(alloc: Global, peers: Peers, bytes: &[u8]) -> Result<(Frame, &[u8]), FieldFault>
+pub fn read_body(alloc: Global, peers: Peers, bytes: &[u8]) -> Result<(Frame, &[u8]), ReadError>
     ensures { Gives (λ x. (x.0, x.1.now)) result (body_at peers bytes.now) }
 {
     let Some((kind, rest)) = bytes.split_first() else {
-        return Err(FieldFault::Cut);
+        return Err(cut());
     };
     read_fields(alloc, *kind, peers, rest)
 }

@@ -6,9 +6,9 @@ ghost use Rattle.peer_frames.specs.Fronts.{TellsBody};
 
 use crate::allowing::is_allowed;
 use crate::bodies::read_body;
-use crate::fault::FieldFault;
 use crate::frame::{Frame, Peers};
 use cat_model::Memory;
+use command_codec::{Fault, ReadError};
 use std::alloc::Global;
 
 /// What the bytes that have come say.
@@ -37,13 +37,13 @@ pub fn judge_body(alloc: Global, peers: Peers, size: usize, body: &[u8]) -> Resu
             }
             Ok(Judged::Bad(read - 1))
         }
-        Err(FieldFault::Memory) => Err(Memory),
-        Err(FieldFault::Cut) => {
+        Err(ReadError::Memory) => Err(Memory),
+        Err(ReadError::Fault(Fault::Cut)) => {
             if body.len() < size {
                 return Ok(Judged::More);
             }
             Ok(Judged::Bad(size - 1))
         }
-        Err(FieldFault::Bad { left }) => Ok(Judged::Bad(body.len() - left)),
+        Err(ReadError::Fault(Fault::Bad { left })) => Ok(Judged::Bad(body.len() - left)),
     }
 }

@@ -4,14 +4,12 @@
 
 mod allowing;
 mod bodies;
-mod fault;
 mod fields;
 mod frame;
 mod gathering;
 mod judging;
 pub mod laws;
 mod lengths;
-mod numbers;
 mod reader;
 #[cfg(test)]
 mod tests;

@@ -1,38 +1,17 @@
 //! Frames as bytes.
 
 ghost use Rattle.std.specs.Prelude.{◌≡◌, ◌≤◌, ◌++◌, ◌∷◌, [], length, IfOk, OnErr, OnOk};
-ghost use Rattle.std.specs.List.{concat};
-ghost use Rattle.cat_model.specs.Spelling.{list_bytes, spelling};
-ghost use Rattle.store_records.specs.Records.{entry_bytes};
+ghost use Rattle.std.specs.List.{concat, flat_map};
+ghost use Rattle.cat_model.specs.Spelling.{number_bytes};
 ghost use Rattle.peer_frames.specs.Spelling.{body_bytes, fields_of, frame_bytes, kind_of, length_bytes, message_fields, message_kind, most_body, role_bytes, why_bytes};
 ghost use Rattle.peer_frames.specs.declared.frame.Frame.TheVariants as frames;
 
 use crate::frame::{Frame, Why};
-use crate::numbers::{put_byte, put_number};
-use cat_model::{Bytes, Entry, List, Memory, Role};
+use cat_model::{Bytes, Memory, Role};
 use command_codec::encode;
 use raft_model::Message;
 use std::alloc::Global;
-
-#[tactic(auto, unfolding(store_records::specs::Records::entry_bytes))]
-fn put_entry(alloc: Global, out: &mut Bytes, entry: &Entry) -> Result<(), Memory>
-    ensures { OnOk result (out.new ≡ out.old ++ entry_bytes entry.now) }
-{
-    put_number(out, entry.term)?;
-    put_number(out, entry.number)?;
-    encode(alloc, &entry.command, out)
-}
-
-fn put_entries(alloc: Global, out: &mut Bytes, entries: &List<Entry>) -> Result<(), Memory>
-    ensures { OnOk result (out.new ≡ out.old ++ list_bytes entry_bytes entries.now) }
-{
-    let entries = entries.as_slice();
-    put_number(out, entries.len() as u64)?;
-    for entry in entries {
-        put_entry(alloc, out, entry)?;
-    }
-    Ok(())
-}
+use store_records::{put_byte, put_entries, put_number};
 
 fn role_byte(role: Role) -> u8
     ensures { role_bytes role ≡ result ∷ [] }
@@ -79,6 +58,16 @@ fn kind_byte(frame: &Frame) -> u8
     }
 }
 
+// Puts numbers last, one after another.
+fn put_numbers(out: &mut Bytes, numbers: &[u64]) -> Result<(), Memory>
+    ensures { OnOk result (out.new ≡ out.old ++ flat_map number_bytes numbers.now) }
+{
+    for number in numbers {
+        put_number(out, *number)?;
+    }
+    Ok(())
+}
+
 fn put_message(alloc: Global, out: &mut Bytes, message: &Message) -> Result<(), Memory>
     ensures { OnOk result (out.new ≡ out.old ++ concat (message_fields message.now)) }
 {
@@ -87,14 +76,10 @@ fn put_message(alloc: Global, out: &mut Bytes, message: &Message) -> Result<(), 
             term,
             last_index,
             last_term,
-        } => {
-            put_number(out, *term)?;
-            put_number(out, *last_index)?;
-            put_number(out, *last_term)?;
-        }
+        } => put_numbers(out, &[*term, *last_index, *last_term]),
         Message::Vote { term, granted } => {
             put_number(out, *term)?;
-            put_byte(out, u8::from(*granted))?;
+            put_byte(out, u8::from(*granted))
         }
         Message::Append {
             term,
@@ -104,28 +89,17 @@ fn put_message(alloc: Global, out: &mut Bytes, message: &Message) -> Result<(), 
             commit,
             round,
         } => {
-            put_number(out, *term)?;
-            put_number(out, *prev_index)?;
-            put_number(out, *prev_term)?;
+            put_numbers(out, &[*term, *prev_index, *prev_term])?;
             put_entries(alloc, out, entries)?;
-            put_number(out, *commit)?;
-            put_number(out, *round)?;
+            put_numbers(out, &[*commit, *round])
         }
         Message::Yes {
             term,
             matched,
             round,
-        } => {
-            put_number(out, *term)?;
-            put_number(out, *matched)?;
-            put_number(out, *round)?;
-        }
-        Message::No { term, last } => {
-            put_number(out, *term)?;
-            put_number(out, *last)?;
-        }
+        } => put_numbers(out, &[*term, *matched, *round]),
+        Message::No { term, last } => put_numbers(out, &[*term, *last]),
     }
-    Ok(())
 }
 
 fn put_fields(alloc: Global, out: &mut Bytes, frame: &Frame) -> Result<(), Memory>

@@ -2,7 +2,10 @@
 -- cut off where the last are missing.
 use Rattle.std.proofs.Common.{◌≡◌, ℕ, suc, ◌+◌, ◌≤◌, List, [], ◌∷◌, ◌++◌, length, refl, sym, ap, ◌∙◌, arith, append_assoc, inl, inr, Ok, Err}
 use Rattle.std.proofs.lemmas.List.{length-append, append-nil}
+use Rattle.cat_model.specs.Spelling.{spelling}
+use Rattle.cat_model.specs.Bounds.{InBounds}
 use Rattle.cat_model.proofs.Formats.{Field}
+use Rattle.cat_model.proofs.CommandFormats.{spelling_unique}
 use Rattle.command_codec.specs.declared.fault.Fault.TheVariants.{Cut, Bad}
 use Rattle.command_codec.specs.Reading.{Read}
 use Rattle.command_codec.proofs.Grammar.{IsBytes, Stops, Word, Right, Single, prefix_cases}
@@ -50,3 +53,7 @@ left_within R s left o =
     let sum : length s ≡ length o.good + suc (length o.more) = ap length o.is ∙ length-append o.good (o.bad ∷ o.more) in
     let place : left ≡ suc (length o.more) = o.place in
     omega arith
+
+-- a command is such a field
+pub command_field : Field spelling InBounds
+command_field = record { unique = λ x y r s v w e. spelling_unique x y r s v w e }

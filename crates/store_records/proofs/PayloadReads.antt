@@ -11,10 +11,10 @@ use Rattle.cat_model.proofs.Formats.{Field, Then, Done, Unique, done_unique, the
 use Rattle.cat_model.proofs.SpellingFields.{number_field, list_field, option_field}
 use Rattle.cat_model.proofs.CommandFormats.{IsNoOr}
 use Rattle.command_codec.specs.declared.fault.Fault.TheVariants.{Bad}
+use Rattle.store_records.proofs.Certain.{command_field}
 use Rattle.store_records.specs.declared.records.Record.{Record}
 use Rattle.store_records.specs.declared.records.Record.TheVariants.{Vote, Store}
 use Rattle.command_codec.specs.Reading.{Read, ◌>>=◌, any_number_at, command_at}
-use Rattle.store_records.proofs.Decoded.{command_field}
 use Rattle.store_records.specs.Records.{entry_bytes, payload, IsServer, IsEntry, IsPayload}
 use Rattle.store_records.specs.RecordReading.{server_at, entry_at, vote_at, store_at, payload_at}
 use Rattle.command_codec.proofs.Grammar.{IsBytes, Opens, Word, Right, Reads, Single, then_reads, done_reads, reads_to, byte_flawed, bad_byte}

@@ -5,24 +5,12 @@ use Rattle.cat_model.specs.declared.command.Entry.{Entry}
 use Rattle.cat_model.specs.Spelling.{number_bytes}
 use Rattle.command_codec.specs.declared.fault.Fault.{Fault}
 use Rattle.command_codec.specs.declared.fault.Fault.TheVariants.{Cut, Bad}
-use Rattle.store_records.specs.declared.fault.Stop.{Stop}
-use Rattle.store_records.specs.declared.fault.Stop.TheVariants as stops
 use Rattle.store_records.specs.declared.fault.RecordFault.{RecordFault}
 use Rattle.store_records.specs.declared.fault.RecordFault.TheVariants as answers
 use Rattle.store_records.specs.declared.records.Record.{Record}
 use Rattle.store_records.specs.declared.records.Record.TheVariants.{Vote, Store}
 use Rattle.command_codec.specs.Reading.{Read, ◌>>=◌, number_at, any_number_at, option_at, list_at, command_at}
 use Rattle.store_records.specs.Records.{payload, record_bytes, most_payload, IsPayload, HasSpelling}
-
--- what a function returned, seen by view, is what reading gives, unless memory ran out
-abbrev pub Stopped : {Y : Type 0} → Stop → Result Y Fault → Type 0
-Stopped stops.Cut read = read ≡ Err Cut
-Stopped (stops.Bad left) read = read ≡ Err (Bad left)
-Stopped stops.Memory read = Unit {0}
-
-abbrev pub Gives : {X Y : Type 0} → (X → Y) → Result X Stop → Result Y Fault → Type 0
-Gives view (Ok x) read = read ≡ Ok (view x)
-Gives view (Err e) read = Stopped e read
 
 -- the number of a server
 abbrev pub server_at : List ℕ → Read ℕ

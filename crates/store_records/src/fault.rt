@@ -1,6 +1,3 @@
-ghost use Rattle.std.specs.Prelude.{◌≡◌};
-ghost use Rattle.store_records.specs.declared.fault.Stop.TheVariants as stops;
-
 use thiserror::Error;
 
 /// Why no record was read.
@@ -15,21 +12,4 @@ pub enum RecordFault {
     Bad { at: usize },
     #[error("out of memory")]
     Memory,
-}
-
-/// Why a field was not read.
-#[derive(Clone, Copy, Debug, PartialEq, Eq)]
-pub enum Stop {
-    Cut,
-    /// The first bad byte stands so many bytes before the end.
-    Bad { left: usize },
-    Memory,
-}
-
-impl From<cat_model::Memory> for Stop {
-    ghost from_gives = { λ _ e. e ≡ stops.Memory };
-
-    fn from(_: cat_model::Memory) -> Stop {
-        Stop::Memory
-    }
 }

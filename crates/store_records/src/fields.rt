@@ -1,34 +1,17 @@
 //! The fields of records, read from bytes.
 
-ghost use Rattle.std.specs.Prelude.{◌≡◌};
-ghost use Rattle.command_codec.specs.Reading.{command_at, items_at, list_at};
-ghost use Rattle.store_records.specs.RecordReading.{Gives, entry_at, payload_at, store_at, vote_at};
+ghost use Rattle.command_codec.specs.Reading.{Gives, items_at, list_at};
+ghost use Rattle.store_records.specs.RecordReading.{entry_at, payload_at, store_at, vote_at};
 
-use crate::fault::Stop;
-use crate::numbers::{bad, read_number, read_server};
+use crate::numbers::read_server;
 use crate::records::Record;
-use cat_model::{Command, Entry, List, Shared};
-use command_codec::{DecodeFault, decode};
+use cat_model::{Entry, List, Shared};
+use command_codec::{ReadError, bad, cut, read_command, read_number};
 use std::alloc::Global;
 
-fn read_command(alloc: Global, bytes: &[u8]) -> Result<(Command, &[u8]), Stop>
-    ensures { Gives (λ x. (x.0, x.1.now)) result (command_at bytes.now) }
-{
-    match decode(alloc, bytes) {
-        Ok((command, size)) => {
-            let (_, rest) = bytes.split_at(size);
-            Ok((command, rest))
-        }
-        Err(DecodeFault::Cut) => Err(Stop::Cut),
-        Err(DecodeFault::Bad { at }) => Err(Stop::Bad {
-            left: bytes.len() - at,
-        }),
-        Err(DecodeFault::Memory) => Err(Stop::Memory),
-    }
-}
-
+// An entry of a log: its term, its number and its command.
 #[tactic(auto, unfolding(crate::specs::RecordReading::entry_at))]
-fn read_entry(alloc: Global, bytes: &[u8]) -> Result<(Entry, &[u8]), Stop>
+fn read_entry(alloc: Global, bytes: &[u8]) -> Result<(Entry, &[u8]), ReadError>
     ensures { Gives (λ x. (x.0, x.1.now)) result (entry_at bytes.now) }
 {
     let (term, rest) = read_number(0, u64::MAX, bytes)?;
@@ -43,7 +26,12 @@ fn read_entry(alloc: Global, bytes: &[u8]) -> Result<(Entry, &[u8]), Stop>
     Ok((entry, rest))
 }
 
-fn read_some_entries(alloc: Global, count: u64, bytes: &[u8]) -> Result<(List<Entry>, &[u8]), Stop>
+/// So many entries.
+pub fn read_some_entries(
+    alloc: Global,
+    count: u64,
+    bytes: &[u8],
+) -> Result<(List<Entry>, &[u8]), ReadError>
     ensures { Gives (λ x. (x.0, x.1.now)) result (items_at entry_at count bytes.now) }
 {
     let mut entries = List::new(alloc);
@@ -56,7 +44,7 @@ fn read_some_entries(alloc: Global, count: u64, bytes: &[u8]) -> Result<(List<En
     Ok((entries, rest))
 }
 
-fn read_entries(alloc: Global, bytes: &[u8]) -> Result<(List<Entry>, &[u8]), Stop>
+fn read_entries(alloc: Global, bytes: &[u8]) -> Result<(List<Entry>, &[u8]), ReadError>
     ensures { Gives (λ x. (x.0, x.1.now)) result (list_at 1048576 entry_at bytes.now) }
 {
     let (count, rest) = read_number(0, 1_048_576, bytes)?;
@@ -64,7 +52,7 @@ fn read_entries(alloc: Global, bytes: &[u8]) -> Result<(List<Entry>, &[u8]), Sto
 }
 
 #[tactic(auto, unfolding(crate::specs::RecordReading::vote_at))]
-fn read_vote(bytes: &[u8]) -> Result<(Record, &[u8]), Stop>
+fn read_vote(bytes: &[u8]) -> Result<(Record, &[u8]), ReadError>
     ensures { Gives (λ x. (x.0, x.1.now)) result (vote_at bytes.now) }
 {
     let (term, rest) = read_number(0, u64::MAX, bytes)?;
@@ -73,7 +61,7 @@ fn read_vote(bytes: &[u8]) -> Result<(Record, &[u8]), Stop>
 }
 
 #[tactic(auto, unfolding(crate::specs::RecordReading::store_at))]
-fn read_store(alloc: Global, bytes: &[u8]) -> Result<(Record, &[u8]), Stop>
+fn read_store(alloc: Global, bytes: &[u8]) -> Result<(Record, &[u8]), ReadError>
     ensures { Gives (λ x. (x.0, x.1.now)) result (store_at bytes.now) }
 {
     let (index, rest) = read_number(0, u64::MAX, bytes)?;
@@ -82,11 +70,11 @@ fn read_store(alloc: Global, bytes: &[u8]) -> Result<(Record, &[u8]), Stop>
 }
 
 /// A payload of whatever length.
-pub fn read_payload(alloc: Global, bytes: &[u8]) -> Result<(Record, &[u8]), Stop>
+pub fn read_payload(alloc: Global, bytes: &[u8]) -> Result<(Record, &[u8]), ReadError>
     ensures { Gives (λ x. (x.0, x.1.now)) result (payload_at bytes.now) }
 {
     let Some((kind, rest)) = bytes.split_first() else {
-        return Err(Stop::Cut);
+        return Err(cut());
     };
     match *kind {
         1 => read_vote(rest),

@@ -11,7 +11,9 @@ mod records;
 mod writing;
 
 pub use fault::RecordFault;
+pub use fields::read_some_entries;
 pub use laws::{fronts_are_cut, written_is_read};
+pub use numbers::{put_byte, put_number};
 pub use reading::read_record;
 pub use records::Record;
-pub use writing::{store_record, vote_record, write_record};
+pub use writing::{put_entries, store_record, vote_record, write_record};

@@ -1,18 +1,19 @@
 //! Records of a journal, read from bytes.
 
 ghost use Rattle.std.specs.Prelude.{◌≡◌, ℕ, length, IfOk, Ok, Err};
+ghost use Rattle.command_codec.specs.Reading.{Gives};
 ghost use Rattle.store_records.specs.declared.records.Record.{Record};
-ghost use Rattle.store_records.specs.RecordReading.{Begins, Gives, IsCut, IsWrong, UnlessMemory, answer_of, framed_at, record_at};
+ghost use Rattle.store_records.specs.RecordReading.{Begins, IsCut, IsWrong, UnlessMemory, answer_of, framed_at, record_at};
 
-use crate::fault::{RecordFault, Stop};
+use crate::fault::RecordFault;
 use crate::fields::read_payload;
-use crate::numbers::read_number;
 use crate::records::Record;
+use command_codec::{Fault, ReadError, cut, read_number};
 use std::alloc::Global;
 
 // The payload of so many bytes, and what is behind it.
 #[tactic(auto, unfolding(crate::specs::RecordReading::framed_at))]
-fn read_framed(alloc: Global, size: usize, bytes: &[u8]) -> Result<(Record, &[u8]), Stop>
+fn read_framed(alloc: Global, size: usize, bytes: &[u8]) -> Result<(Record, &[u8]), ReadError>
     ensures { Gives (λ x. (x.0, x.1.now)) result (framed_at size bytes.now) }
 {
     let there = size.min(bytes.len());
@@ -22,27 +23,27 @@ fn read_framed(alloc: Global, size: usize, bytes: &[u8]) -> Result<(Record, &[u8
             if after.is_empty() && there == size {
                 return Ok((record, behind));
             }
-            Err(Stop::Bad {
+            Err(ReadError::Fault(Fault::Bad {
                 left: after.len() + 1 + behind.len(),
-            })
+            }))
         }
-        Err(Stop::Memory) => Err(Stop::Memory),
-        Err(Stop::Cut) => {
+        Err(ReadError::Memory) => Err(ReadError::Memory),
+        Err(ReadError::Fault(Fault::Cut)) => {
             if there < size {
-                return Err(Stop::Cut);
+                return Err(cut());
             }
-            Err(Stop::Bad {
+            Err(ReadError::Fault(Fault::Bad {
                 left: 1 + behind.len(),
-            })
+            }))
         }
-        Err(Stop::Bad { left }) => Err(Stop::Bad {
+        Err(ReadError::Fault(Fault::Bad { left })) => Err(ReadError::Fault(Fault::Bad {
             left: left + behind.len(),
-        }),
+        })),
     }
 }
 
 #[tactic(auto, unfolding(crate::specs::RecordReading::record_at))]
-fn read_one(alloc: Global, bytes: &[u8]) -> Result<(Record, &[u8]), Stop>
+fn read_one(alloc: Global, bytes: &[u8]) -> Result<(Record, &[u8]), ReadError>
     ensures { Gives (λ x. (x.0, x.1.now)) result (record_at bytes.now) }
 {
     let (size, rest) = read_number(3, 100_000_000, bytes)?;
@@ -63,9 +64,9 @@ pub fn read_record(alloc: Global, input: &[u8]) -> Result<(Record, usize), Recor
 {
     match read_one(alloc, input) {
         Ok((record, rest)) => Ok((record, input.len() - rest.len())),
-        Err(Stop::Memory) => Err(RecordFault::Memory),
-        Err(Stop::Cut) => Err(RecordFault::Cut),
-        Err(Stop::Bad { left }) => Err(RecordFault::Bad {
+        Err(ReadError::Memory) => Err(RecordFault::Memory),
+        Err(ReadError::Fault(Fault::Cut)) => Err(RecordFault::Cut),
+        Err(ReadError::Fault(Fault::Bad { left })) => Err(RecordFault::Bad {
             at: input.len() - left,
         }),
     }

@@ -20,6 +20,7 @@ fn no_bytes(alloc: Global) -> Bytes
     Bytes::from(Vec::new(alloc))
 }
 
+// Puts an entry last.
 #[tactic(auto, unfolding(crate::specs::Records::entry_bytes))]
 fn put_entry(alloc: Global, out: &mut Bytes, entry: &Entry) -> Result<(), Memory>
     ensures { OnOk result (out.new ≡ out.old ++ entry_bytes entry.now) }
@@ -29,7 +30,8 @@ fn put_entry(alloc: Global, out: &mut Bytes, entry: &Entry) -> Result<(), Memory
     encode(alloc, &entry.command, out)
 }
 
-fn put_entries(alloc: Global, out: &mut Bytes, entries: &List<Entry>) -> Result<(), Memory>
+/// Puts the number of entries and the entries last.
+pub fn put_entries(alloc: Global, out: &mut Bytes, entries: &List<Entry>) -> Result<(), Memory>
     ensures { OnOk result (out.new ≡ out.old ++ list_bytes entry_bytes entries.now) }
 {
     let entries = entries.as_slice();

@@ -1,8 +1,7 @@
 use Rattle.std.proofs.lemmas.Result.{err_from_is_err_and}
 use Rattle.command_codec.specs.Reading.{items_at}
-use Rattle.command_codec.proofs.ItemSteps.{goes_on, is_done}
+use Rattle.command_codec.proofs.ItemSteps.{goes_on, ends, is_done}
 use Rattle.store_records.specs.RecordReading.{entry_at}
-use Rattle.store_records.proofs.Stopping.{ends}
 use Rattle.store_records.proofs.fields.read_some_entries.Goals as goal
 
 pub returns-in_err-entry : goal.returns-in_err-entry

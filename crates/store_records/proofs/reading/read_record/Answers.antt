@@ -10,11 +10,11 @@ overflow_sub-result c =
     let bytes : IsBytes c.args.input.now = small_bytes c.args.input.now (λ i. omega (arith, c.type_inv.input i)) in
     rest_within c.args.input.now c.in-Ok.record c.in-Ok.rest.now (says_of c.args.input.now bytes (Ok (c.in-Ok.record, c.in-Ok.rest.now)) c.in-Ok.ensures)
 
-pub overflow_sub-result-in-Err-Bad : goal.overflow_sub-result-in-Err-Bad
-overflow_sub-result-in-Err-Bad c =
+pub overflow_sub-result-in-Err-Fault-Bad : goal.overflow_sub-result-in-Err-Fault-Bad
+overflow_sub-result-in-Err-Fault-Bad c =
     let bytes : IsBytes c.args.input.now = small_bytes c.args.input.now (λ i. omega (arith, c.type_inv.input i)) in
-    let read : record_at c.args.input.now ≡ Err (Bad c.in-Err-Bad.left) = rw c.in-Err-Bad.field-0-is at c.in-Err-Bad.ensures in
-    says_of c.args.input.now bytes (Err (Bad c.in-Err-Bad.left)) read
+    let read : record_at c.args.input.now ≡ Err (Bad c.in-Err-Fault-Bad.left) = rw (c.in-Err-Fault-Bad.field-0-is, c.in-Err-Fault-Bad.field-0-0-is) at c.in-Err-Fault-Bad.ensures in
+    says_of c.args.input.now bytes (Err (Bad c.in-Err-Fault-Bad.left)) read
 
 pub returns-in-Ok-clause-ok : goal.returns-in-Ok-clause-ok
 returns-in-Ok-clause-ok c =
@@ -31,32 +31,32 @@ returns-in-Ok-clause-whenever_cut c =
     let bytes : IsBytes c.args.input.now = small_bytes c.args.input.now (λ i. omega (arith, c.type_inv.input i)) in
     when_cut c.args.input.now bytes (Ok (c.in-Ok.record, c.in-Ok.rest.now)) c.in-Ok.ensures
 
-pub returns-in-Err-Cut-clause-cut : goal.returns-in-Err-Cut-clause-cut
-returns-in-Err-Cut-clause-cut c = λ _.
+pub returns-in-Err-Fault-Cut-clause-cut : goal.returns-in-Err-Fault-Cut-clause-cut
+returns-in-Err-Fault-Cut-clause-cut c = λ _.
     let bytes : IsBytes c.args.input.now = small_bytes c.args.input.now (λ i. omega (arith, c.type_inv.input i)) in
-    let read : record_at c.args.input.now ≡ Err Cut = rw c.in-Err-Cut.field-0-is at c.in-Err-Cut.ensures in
+    let read : record_at c.args.input.now ≡ Err Cut = rw (c.in-Err-Fault-Cut.field-0-is, c.in-Err-Fault-Cut.field-0-0-is) at c.in-Err-Fault-Cut.ensures in
     says_of c.args.input.now bytes (Err Cut) read
 
-pub returns-in-Err-Cut-clause-whenever_ok : goal.returns-in-Err-Cut-clause-whenever_ok
-returns-in-Err-Cut-clause-whenever_ok c =
+pub returns-in-Err-Fault-Cut-clause-whenever_ok : goal.returns-in-Err-Fault-Cut-clause-whenever_ok
+returns-in-Err-Fault-Cut-clause-whenever_ok c =
     let bytes : IsBytes c.args.input.now = small_bytes c.args.input.now (λ i. omega (arith, c.type_inv.input i)) in
-    let read : record_at c.args.input.now ≡ Err Cut = rw c.in-Err-Cut.field-0-is at c.in-Err-Cut.ensures in
+    let read : record_at c.args.input.now ≡ Err Cut = rw (c.in-Err-Fault-Cut.field-0-is, c.in-Err-Fault-Cut.field-0-0-is) at c.in-Err-Fault-Cut.ensures in
     when_ok c.args.input.now bytes (Err Cut) read
 
-pub returns-in-Err-Bad-clause-bad : goal.returns-in-Err-Bad-clause-bad
-returns-in-Err-Bad-clause-bad c = λ at _.
+pub returns-in-Err-Fault-Bad-clause-bad : goal.returns-in-Err-Fault-Bad-clause-bad
+returns-in-Err-Fault-Bad-clause-bad c = λ at _.
     let bytes : IsBytes c.args.input.now = small_bytes c.args.input.now (λ i. omega (arith, c.type_inv.input i)) in
-    let read : record_at c.args.input.now ≡ Err (Bad c.in-Err-Bad.left) = rw c.in-Err-Bad.field-0-is at c.in-Err-Bad.ensures in
-    wrong_of c.args.input.now bytes c.in-Err-Bad.left read
+    let read : record_at c.args.input.now ≡ Err (Bad c.in-Err-Fault-Bad.left) = rw (c.in-Err-Fault-Bad.field-0-is, c.in-Err-Fault-Bad.field-0-0-is) at c.in-Err-Fault-Bad.ensures in
+    wrong_of c.args.input.now bytes c.in-Err-Fault-Bad.left read
 
-pub returns-in-Err-Bad-clause-whenever_ok : goal.returns-in-Err-Bad-clause-whenever_ok
-returns-in-Err-Bad-clause-whenever_ok c =
+pub returns-in-Err-Fault-Bad-clause-whenever_ok : goal.returns-in-Err-Fault-Bad-clause-whenever_ok
+returns-in-Err-Fault-Bad-clause-whenever_ok c =
     let bytes : IsBytes c.args.input.now = small_bytes c.args.input.now (λ i. omega (arith, c.type_inv.input i)) in
-    let read : record_at c.args.input.now ≡ Err (Bad c.in-Err-Bad.left) = rw c.in-Err-Bad.field-0-is at c.in-Err-Bad.ensures in
-    when_ok c.args.input.now bytes (Err (Bad c.in-Err-Bad.left)) read
+    let read : record_at c.args.input.now ≡ Err (Bad c.in-Err-Fault-Bad.left) = rw (c.in-Err-Fault-Bad.field-0-is, c.in-Err-Fault-Bad.field-0-0-is) at c.in-Err-Fault-Bad.ensures in
+    when_ok c.args.input.now bytes (Err (Bad c.in-Err-Fault-Bad.left)) read
 
-pub returns-in-Err-Bad-clause-whenever_cut : goal.returns-in-Err-Bad-clause-whenever_cut
-returns-in-Err-Bad-clause-whenever_cut c =
+pub returns-in-Err-Fault-Bad-clause-whenever_cut : goal.returns-in-Err-Fault-Bad-clause-whenever_cut
+returns-in-Err-Fault-Bad-clause-whenever_cut c =
     let bytes : IsBytes c.args.input.now = small_bytes c.args.input.now (λ i. omega (arith, c.type_inv.input i)) in
-    let read : record_at c.args.input.now ≡ Err (Bad c.in-Err-Bad.left) = rw c.in-Err-Bad.field-0-is at c.in-Err-Bad.ensures in
-    when_cut c.args.input.now bytes (Err (Bad c.in-Err-Bad.left)) read
+    let read : record_at c.args.input.now ≡ Err (Bad c.in-Err-Fault-Bad.left) = rw (c.in-Err-Fault-Bad.field-0-is, c.in-Err-Fault-Bad.field-0-0-is) at c.in-Err-Fault-Bad.ensures in
+    when_cut c.args.input.now bytes (Err (Bad c.in-Err-Fault-Bad.left)) read
