@@ -9,14 +9,14 @@ use Rattle.cat_outside.specs.Causes.{Rose}
 use Rattle.cluster_rules.specs.Replies.{Reply}
 use Rattle.http_wire.specs.declared.rejection.Rejection.{Rejection}
 use Rattle.serve_outside.specs.Links.{IsNew, LinkState}
-use Rattle.turn_lock.specs.declared.knowledge.Knowledge.{Knowledge}
 use Rattle.serve_loop.specs.declared.cluster.Ask.{Ask}
 use Rattle.serve_loop.specs.declared.cause.Cause.{Cause}
 use Rattle.serve_loop.specs.declared.cause.Cause.TheVariants as cause
 use Rattle.serve_loop.specs.Complete.{AnswersAll, EndsWell, IsUnbroken}
 use Rattle.serve_loop.specs.Jobs.{agent_of}
-use Rattle.serve_loop.specs.Runs.{Back, IsBack, IsDrawn, IsServed, is_short, turned_of, was_short}
-use Rattle.serve_loop.specs.Serving.{AreOpen, Closes, EndsBy, Exchange, IsWhole}
+use Rattle.serve_loop.specs.Knowing.{HasLearned, Known}
+use Rattle.serve_loop.specs.Runs.{Back, IsBack, IsDrawn, IsServed, turned_of, was_short}
+use Rattle.serve_loop.specs.Serving.{AreOpen, Closes, EndsBy, Exchange, IsWhole, is_short}
 
 -- what was appended to nothing
 appended : (o o' : Option (List ℕ)) (bytes : List ℕ) → ForSome o (λ b. b ≡ []) → o' ≡ append_known o bytes → ForSome o' (λ b. b ≡ bytes)
@@ -33,11 +33,11 @@ appended (Some old) o' bytes none e = λ b is. all b (sym e ∙ is) (none old re
 not_risen : (before now : ℕ) → before ≡ 0 → now ≡ 0 → Rose before now → ⊥
 not_risen before now e f r = omega (arith, e, f, r)
 
-module _ (shows : ℕ → Ask → Reply → List Mark → Type 0) (agents : ℕ) (draws : Option (List Draw)) (Knows : List Mark → Type 0) (link : LinkState) where
-  whole_of : (first : LinkState) (draw : Draw) (begun known : Knowledge Mark) (requests : ℕ) → Knows known.seen → IsNew link.number first → IsDrawn draws link.number draw → link.shut ≡ true
+module _ (shows : ℕ → Ask → Reply → List Mark → Type 0) (agrees : Type 0) (agents : ℕ) (draws : Option (List Draw)) (Knows : List Mark → Type 0) (link : LinkState) where
+  whole_of : (first : LinkState) (draw : Draw) (begun known : Known) (requests : ℕ) → Knows known.seen → HasLearned agrees known → IsNew link.number first → IsDrawn draws link.number draw → link.shut ≡ true
       → (Ends : List Exchange → List ℕ → Type 0) (rejection : Option Rejection) → ((es : List Exchange) (rest : List ℕ) → Ends es rest → EndsWell rejection es rest link.ends)
-      → IsWhole shows (record { agent = agent_of agents link.number; draw = draw; first = first; begun = begun }) Ends rejection link known requests → AnswersAll shows agents draws Knows link
-  whole_of first draw begun known requests seen new drawn shut Ends rejection last w =
+      → IsWhole shows agrees (record { agent = agent_of agents link.number; draw = draw; first = first; begun = begun }) Ends rejection link known requests → AnswersAll shows agrees agents draws Knows link
+  whole_of first draw begun known requests seen learned new drawn shut Ends rejection last w =
       let passed = w.came.passed in record {
         first = first;
         draw = draw;
@@ -46,6 +46,7 @@ module _ (shows : ℕ → Ask → Reply → List Mark → Type 0) (agents : ℕ)
         new = new;
         drawn = drawn;
         seen = seen;
+        learned = learned;
         es = w.es;
         rejection = rejection;
         stream = w.came.stream;
@@ -58,30 +59,30 @@ module _ (shows : ℕ → Ask → Reply → List Mark → Type 0) (agents : ℕ)
         shut = shut;
       }
 
-  ended : (why : Cause) (first : LinkState) (draw : Draw) (begun known : Knowledge Mark) (requests : ℕ) → Knows known.seen → IsNew link.number first → IsDrawn draws link.number draw → link.shut ≡ true
-      → EndsBy shows (record { agent = agent_of agents link.number; draw = draw; first = first; begun = begun }) why link known requests → is_short why ≡ false → IsUnbroken link → AnswersAll shows agents draws Knows link
-  ended cause.Closed first draw begun known requests seen new drawn shut w long u = whole_of first draw begun known requests seen new drawn shut _ None (λ es rest e. closed es rest e) w
+  ended : (why : Cause) (first : LinkState) (draw : Draw) (begun known : Known) (requests : ℕ) → Knows known.seen → (is_short why ≡ false → HasLearned agrees known) → IsNew link.number first → IsDrawn draws link.number draw → link.shut ≡ true
+      → EndsBy shows agrees (record { agent = agent_of agents link.number; draw = draw; first = first; begun = begun }) why link known requests → is_short why ≡ false → IsUnbroken link → AnswersAll shows agrees agents draws Knows link
+  ended cause.Closed first draw begun known requests seen learned new drawn shut w long u = whole_of first draw begun known requests seen (learned long) new drawn shut _ None (λ es rest e. closed es rest e) w
     where
       closed : (es : List Exchange) (rest : List ℕ) → ((rest ≡ []) × AreOpen es × Rose first.ends link.ends) ⊎ (Closes es × (link.ends ≡ first.ends)) → ((rest ≡ []) × AreOpen es × (0 < link.ends)) ⊎ (Closes es × (link.ends ≡ 0))
       closed es rest (inl e) = inl (e.0, e.1, let k = e.2 in omega (arith, k))
       closed es rest (inr c) = inr (c.0, c.1 ∙ new.no_ends)
-  ended (cause.Refused r) first draw begun known requests seen new drawn shut w long u = whole_of first draw begun known requests seen new drawn shut _ (Some r) (λ es rest e. e) w
-  ended cause.ReadFault first draw begun known requests seen new drawn shut w long u = absurd (not_risen first.read_faults link.read_faults new.no_read_faults u.0 w.ends.2)
-  ended cause.WriteFault first draw begun known requests seen new drawn shut w long u = absurd (not_risen first.write_faults link.write_faults new.no_write_faults u.1 w.1)
-  ended cause.Left first draw begun known requests seen new drawn shut w long u = absurd (not_risen first.read_faults link.read_faults new.no_read_faults u.0 w.1)
-  ended cause.Memory first draw begun known requests seen new drawn shut w long u = absurd (cc long)
+  ended (cause.Refused r) first draw begun known requests seen learned new drawn shut w long u = whole_of first draw begun known requests seen (learned long) new drawn shut _ (Some r) (λ es rest e. e) w
+  ended cause.ReadFault first draw begun known requests seen learned new drawn shut w long u = absurd (not_risen first.read_faults link.read_faults new.no_read_faults u.0 w.ends.2)
+  ended cause.WriteFault first draw begun known requests seen learned new drawn shut w long u = absurd (not_risen first.write_faults link.write_faults new.no_write_faults u.1 w.1)
+  ended cause.Left first draw begun known requests seen learned new drawn shut w long u = absurd (not_risen first.read_faults link.read_faults new.no_read_faults u.0 w.1)
+  ended cause.Memory first draw begun known requests seen learned new drawn shut w long u = absurd (cc long)
 
-  answered : (why : Cause) → IsServed shows agents draws Knows link why → is_short why ≡ false → IsUnbroken link → AnswersAll shows agents draws Knows link
-  answered why s long u = ended why s.first s.draw s.begun s.known s.requests s.seen s.new s.drawn s.shut s.ends long u
+  answered : (why : Cause) → IsServed shows agrees agents draws Knows link why → is_short why ≡ false → IsUnbroken link → AnswersAll shows agrees agents draws Knows link
+  answered why s long u = ended why s.first s.draw s.begun s.known s.requests s.seen s.learned s.new s.drawn s.shut s.ends long u
 
 neither : (a b : Bool) → (a || b) ≡ false → (a ≡ false) × (b ≡ false)
 neither true b e = absurd (cc e)
 neither false b e = (refl, e)
 
-pub all_answered : (shows : ℕ → Ask → Reply → List Mark → Type 0) (agents : ℕ) (draws : Option (List Draw)) (Knows : List Mark → Type 0) (links : List Back) → AllByRecursion (IsBack shows agents draws Knows) links → turned_of links ≡ 0 → list_any (λ b. was_short b.1) links ≡ false
-    → AllByRecursion (λ link. IsUnbroken link → AnswersAll shows agents draws Knows link) (map (λ b. b.0) links)
-all_answered shows agents draws Knows [] each none long = tt
-all_answered shows agents draws Knows ((link, None) ∷ bs) each none long = absurd (omega (arith, none))
-all_answered shows agents draws Knows ((link, Some why) ∷ bs) each none long =
+pub all_answered : (shows : ℕ → Ask → Reply → List Mark → Type 0) (agrees : Type 0) (agents : ℕ) (draws : Option (List Draw)) (Knows : List Mark → Type 0) (links : List Back) → AllByRecursion (IsBack shows agrees agents draws Knows) links → turned_of links ≡ 0 → list_any (λ b. was_short b.1) links ≡ false
+    → AllByRecursion (λ link. IsUnbroken link → AnswersAll shows agrees agents draws Knows link) (map (λ b. b.0) links)
+all_answered shows agrees agents draws Knows [] each none long = tt
+all_answered shows agrees agents draws Knows ((link, None) ∷ bs) each none long = absurd (omega (arith, none))
+all_answered shows agrees agents draws Knows ((link, Some why) ∷ bs) each none long =
     let two = neither (is_short why) (list_any (λ (b : Back). was_short b.1) bs) long in
-    (answered shows agents draws Knows link why each.0 two.0, all_answered shows agents draws Knows bs each.1 none two.1)
+    (answered shows agrees agents draws Knows link why each.0 two.0, all_answered shows agrees agents draws Knows bs each.1 none two.1)

@@ -1,5 +1,6 @@
 pub mod MarkLists
 pub mod Clocks
+pub mod Agreeing
 pub mod OwnTurns
 pub mod Written
 pub mod Exchanges

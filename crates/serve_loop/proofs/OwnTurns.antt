@@ -1,11 +1,12 @@
 -- A turn for one's own request.
 use Rattle.std.proofs.Common.{◌≡◌, ℕ, inl, inr, ⊎_elim, List, [], ◌∷◌, ◌++◌, length, drop, refl, sym, ap, ◌∙◌, subst, append_assoc, append-nil, Option, Some, None, Result, Ok, Err}
-use Rattle.std.specs.Prelude.{MatchResult, IfOk}
+use Rattle.std.specs.Prelude.{MatchResult, IfOk, OnErr}
 use Rattle.std.proofs.Math.Seq.{drop-append_seam}
 use Rattle.cat_model.specs.declared.memory.Memory.{Memory}
 use Rattle.cat_model.specs.declared.reply.Mark.{Mark}
 use Rattle.cat_model.specs.declared.reply.Mark.TheVariants as mark
-use Rattle.turn_lock.specs.declared.knowledge.Knowledge.{Knowledge}
+use mathlib.Core.List.{IsPrefix}
+use Rattle.cat_model.specs.declared.command.Command.{Command}
 use Rattle.turn_lock.specs.Lists.{Among, EachOnce, Extends, ahead, numbers}
 use Rattle.turn_lock.specs.Passes.{MayEnd}
 use Rattle.turn_lock.proofs.Lists.{among_append, among_left, among_right, numbers_append, once_apart}
@@ -16,10 +17,12 @@ use Rattle.serve_loop.specs.declared.cluster.Collected.TheVariants as collected
 use Rattle.serve_loop.specs.declared.served.Turned.{Turned}
 use Rattle.serve_loop.specs.Marks.{AddsAsked, AddsCut, AddsQuiet, AreKept, answered_mark, answers, asked_mark, opens, takes}
 use Rattle.serve_loop.specs.Collects.{Collects}
-use Rattle.serve_loop.specs.Turns.{Exchanges, Makes, Readies, Turns}
+use Rattle.serve_loop.specs.Turns.{Asks, Exchanges, Makes, Readies, Turns}
 use Rattle.cluster_rules.specs.Sound.{IsAmong}
-use Rattle.serve_loop.specs.Waiting.{Grows, IsAnswered, IsBehind, Looks, Stands, Waits}
-use Rattle.serve_loop.proofs.MarkLists.{append_none, cut_cut, in_left, in_right, joined, makes_quiet, none_append, quiet_cut, quiet_makes, quiet_quiet}
+use Rattle.serve_loop.specs.Knowing.{Known}
+use Rattle.serve_loop.specs.Waiting.{Grows, IsAnswered, IsBehind, IsHeld, Looks, Stands, Waits}
+use Rattle.serve_loop.proofs.Agreeing.{prefix_on, prefix_self}
+use Rattle.serve_loop.proofs.MarkLists.{append_none, cut_cut, cut_quiet, in_left, in_right, joined, makes_cut, makes_quiet, none_append, quiet_cut, quiet_makes, quiet_quiet}
 
 -- What a turn did, by its marks alone: the request was asked, if there is one, and then collected.
 pub record Exchanged (shows : ℕ → Ask → Reply → List Mark → Type 0) (ask : Option Ask) (number : ℕ) (t : Turned) (old new : List Mark) : Type 0 where
@@ -41,6 +44,18 @@ module _ {C : Type 0} (marks : C → List Mark) (idle : C → Type 0) (servers :
       → MatchResult r (λ t. Exchanged shows ask number t (marks old) (marks new)) (λ _. AddsCut (marks old) (marks new))
   exchanged_or (Ok t) old new x = exchanged t old new x
   exchanged_or (Err e) old new x = x
+
+  -- an ask and a collection behind it
+  pub exchanges_or : (n : ℕ) (r : Result Turned Memory) (old mid new : C) → Asks marks idle ask number n old mid → IfOk r (λ t. (t.number ≡ n) × Collects shows n t.got (marks mid) (marks new)) → OnErr r (marks new ≡ marks mid) → (idle mid → idle new)
+      → MatchResult r (λ t. Exchanges marks idle shows ask number t old new) (λ _. AddsCut (marks old) (marks new))
+  exchanges_or n (Ok t) old mid new asks got same calm = record {
+    settled = mid;
+    asks = subst (λ (k : ℕ). Asks marks idle ask number k old mid) (sym got.0) asks;
+    got = subst (λ (k : ℕ). Collects shows k t.got (marks mid) (marks new)) (sym got.0) got.1;
+    calm = calm;
+  }
+  exchanges_or n (Err e) old mid new asks got same calm = subst (AddsCut (marks old)) (sym same)
+      (cut_quiet (marks old) (marks asks.asked) (marks mid) (makes_cut ask number n (marks old) (marks asks.asked) asks.made) asks.settled.quiet)
 
   -- an exchange behind what makes ready for it
   pub turns_or : (r : Result Turned Memory) (old mid new : C) → AddsQuiet (marks old) (marks mid) → Readies marks idle servers clock last now old mid → MatchResult r (λ t. Exchanges marks idle shows ask number t mid new) (λ _. AddsCut (marks mid) (marks new))
@@ -150,7 +165,7 @@ StandsOver shows n ask (collected.Ready reply) seen mine = IsAnswered shows ask 
 StandsOver shows n ask collected.NotYet seen mine = Waits n ask seen mine
 StandsOver shows n ask collected.Gone seen mine = ⊥
 
-stands_known : (shows : ℕ → Ask → Reply → List Mark → Type 0) (n : ℕ) (ask : Ask) (got : Collected) (k : Knowledge Mark) → StandsOver shows n ask got k.seen k.mine → Stands shows n ask got k
+stands_known : (shows : ℕ → Ask → Reply → List Mark → Type 0) (n : ℕ) (ask : Ask) (got : Collected) (k : Known) → StandsOver shows n ask got k.seen k.mine → Stands shows n ask got k
 unfolding StandsOver
 stands_known shows n ask (collected.Ready reply) k s = s
 stands_known shows n ask collected.NotYet k s = s
@@ -194,7 +209,7 @@ more_mine : (n : ℕ) (ask : Ask) (seen : List Mark) (mine mine' : List ℕ) →
 more_mine n ask seen mine mine' f w = record { own = f n w.own; asked = w.asked; untaken = w.untaken }
 
 -- The first turn of a request, and each later one.
-pub stands_first : (shows : ℕ → Ask → Reply → List Mark → Type 0) (ask : Ask) (k : ℕ) (t : Turned) (old new : List Mark) (mine : List ℕ) (w' : Knowledge Mark)
+pub stands_first : (shows : ℕ → Ask → Reply → List Mark → Type 0) (ask : Ask) (k : ℕ) (t : Turned) (old new : List Mark) (mine : List ℕ) (w' : Known)
     → Exchanged shows (Some ask) k t old new → AreKept old → AreKept new → w'.seen ≡ new → w'.mine ≡ mine ++ numbers opens (drop (length old) new)
     → Stands shows t.number ask t.got w'
 stands_first shows ask k t old new mine w' x before after s m =
@@ -206,7 +221,7 @@ stands_first shows ask k t old new mine w' x before after s m =
     stands_known shows t.number ask t.got w' (subst (λ (z : List Mark). StandsOver shows t.number ask t.got z w'.mine) (sym s)
     (stands shows t.number ask t.got x.mid new w'.mine (waits_first t.number ask old x.mid w'.mine w before once own) x.got after))
 
-pub stands_next : (shows : ℕ → Ask → Reply → List Mark → Type 0) (ask : Ask) (k : ℕ) (t : Turned) (seen old new : List Mark) (mine : List ℕ) (w' : Knowledge Mark)
+pub stands_next : (shows : ℕ → Ask → Reply → List Mark → Type 0) (ask : Ask) (k : ℕ) (t : Turned) (seen old new : List Mark) (mine : List ℕ) (w' : Known)
     → Waits k ask seen mine → Extends opens takes mine seen old
     → Exchanged shows None k t old new → AreKept new → w'.seen ≡ new → w'.mine ≡ mine ++ numbers opens (drop (length old) new)
     → Stands shows t.number ask t.got w'
@@ -216,22 +231,23 @@ stands_next shows ask k t seen old new mine w' w e x after s m =
     let own : Waits t.number ask x.mid w'.mine = more_mine t.number ask x.mid mine w'.mine (λ z a. subst (Among z) (sym m) (among_left z mine _ a)) mid in
     stands_known shows t.number ask t.got w' (subst (λ (z : List Mark). StandsOver shows t.number ask t.got z w'.mine) (sym s) (stands shows t.number ask t.got x.mid new w'.mine own x.got after))
 
--- what was seen and opened grows over a turn
-pub grows : (v w : Knowledge Mark) (old new : List Mark) (mine : List ℕ) → Extends opens takes mine v.seen old → Rests mine old new → w.seen ≡ new → w.mine ≡ v.mine ++ numbers opens (drop (length old) new) → Grows v w
-grows v w old new mine e r s m = record {
+-- what was seen, opened and read grows over a turn
+pub grows : (v w : Known) (old new : List Mark) → Extends opens takes v.mine v.seen old → Rests v.mine old new → w.seen ≡ new → w.mine ≡ v.mine ++ numbers opens (drop (length old) new) → IsPrefix v.read w.read → Grows v w
+grows v w old new e r s m p = record {
   rest = e.0 ++ r.rest;
   more = numbers opens (drop (length old) new);
   seen = s ∙ joined v.seen old new e.0 r.rest e.1 r.are;
   mine = m;
+  read = p;
 }
 
-pub turned_first : (shows : ℕ → Ask → Reply → List Mark → Type 0) (ask : Ask) (k : ℕ) (r : Result Turned Memory) (old new : List Mark) (mine : List ℕ) (w : Knowledge Mark)
+pub turned_first : (shows : ℕ → Ask → Reply → List Mark → Type 0) (ask : Ask) (k : ℕ) (r : Result Turned Memory) (old new : List Mark) (mine : List ℕ) (w : Known)
     → MatchResult r (λ t. Exchanged shows (Some ask) k t old new) (λ _. AddsCut old new) → AreKept old → AreKept new → w.seen ≡ new
     → w.mine ≡ mine ++ numbers opens (drop (length old) new) → IfOk r (λ t. Stands shows t.number ask t.got w)
 turned_first shows ask k (Ok t) old new mine w x before after s m = stands_first shows ask k t old new mine w x before after s m
 turned_first shows ask k (Err e) old new mine w x before after s m = tt
 
-pub turned_next : (shows : ℕ → Ask → Reply → List Mark → Type 0) (k : ℕ) (r : Result Turned Memory) (seen old new : List Mark) (mine : List ℕ) (w : Knowledge Mark)
+pub turned_next : (shows : ℕ → Ask → Reply → List Mark → Type 0) (k : ℕ) (r : Result Turned Memory) (seen old new : List Mark) (mine : List ℕ) (w : Known)
     → Extends opens takes mine seen old → MatchResult r (λ t. Exchanged shows None k t old new) (λ _. AddsCut old new) → AreKept new → w.seen ≡ new
     → w.mine ≡ mine ++ numbers opens (drop (length old) new) → IfOk r (λ t. (ask : Ask) → Waits k ask seen mine → Stands shows t.number ask t.got w)
 turned_next shows k (Ok t) seen old new mine w e x after s m = λ ask waits. stands_next shows ask k t seen old new mine w waits e x after s m
@@ -247,28 +263,48 @@ behind shows ask k (Ok t) seen old new seen' mine e x s =
     }
 behind shows ask k (Err m) seen old new seen' mine e x s = tt
 
-pub grows_none : (v : Knowledge Mark) → Grows v v
-grows_none v = record { rest = []; more = []; seen = sym (append-nil v.seen); mine = sym (append-nil v.mine) }
+pub grows_none : (v : Known) → Grows v v
+grows_none v = record { rest = []; more = []; seen = sym (append-nil v.seen); mine = sym (append-nil v.mine); read = prefix_self v.read }
 
-pub grows_on : (u v w : Knowledge Mark) → Grows u v → Grows v w → Grows u w
+-- more was read alone
+pub grows_read : (v : Known) (read : List Command) → IsPrefix v.read read → Grows v (record v { read = read })
+grows_read v read p = record { rest = []; more = []; seen = sym (append-nil v.seen); mine = sym (append-nil v.mine); read = p }
+
+pub grows_on : (u v w : Known) → Grows u v → Grows v w → Grows u w
 grows_on u v w a b = record {
   rest = a.rest ++ b.rest;
   more = a.more ++ b.more;
   seen = joined u.seen v.seen w.seen a.rest b.rest a.seen b.seen;
   mine = b.mine ∙ (ap (λ (l : List ℕ). l ++ b.more) a.mine ∙ append_assoc u.mine a.more b.more);
+  read = prefix_on u.read v.read w.read a.read b.read;
 }
 
+-- a turn in which nothing happens: what the pass has seen and opened then
+none_opened : (marks : List Mark) → numbers opens (drop (length marks) marks) ≡ []
+none_opened marks = mine_is marks marks [] (sym (append-nil marks))
+
+pub may_end_same : (mine : List ℕ) (marks : List Mark) → AreKept marks → MayEnd opens takes marks mine marks
+may_end_same mine marks k = may_end mine marks marks (record { rest = []; are = sym (append-nil marks); own = λ n a. absurd a }) k
+
+pub grows_looking : (v w : Known) (marks : List Mark) → Extends opens takes v.mine v.seen marks → w.seen ≡ marks → w.mine ≡ v.mine ++ numbers opens (drop (length marks) marks) → IsPrefix v.read w.read → Grows v w
+grows_looking v w marks e s m p = grows v w marks marks e (record { rest = []; are = sym (append-nil marks); own = λ n a. absurd a }) s m p
+
+pub held_looking : (v w : Known) (marks : List Mark) → Extends opens takes v.mine v.seen marks → w.seen ≡ marks → w.mine ≡ v.mine ++ numbers opens (drop (length marks) marks) → (ask : Ask) → IsHeld ask v → IsHeld ask w
+held_looking v w marks e s m ask h =
+    let same : w.mine ≡ v.mine = m ∙ (ap (λ (l : List ℕ). v.mine ++ l) (none_opened marks) ∙ append-nil v.mine) in
+    (h.0, subst (Waits h.0 ask w.seen) (sym same) (subst (λ (l : List Mark). Waits h.0 ask l v.mine) (sym s) (waits_on h.0 ask v.seen marks v.mine h.1 e)))
+
 module _ (shows : ℕ → Ask → Reply → List Mark → Type 0) where
-  pub looks_first : (n : ℕ) (got : Collected) (v : Knowledge Mark) → (ask : Ask) × Stands shows n ask got v → Looks shows n got v n got v
+  pub looks_first : (n : ℕ) (got : Collected) (v : Known) → (ask : Ask) × Stands shows n ask got v → Looks shows n got v n got v
   looks_first n got v s = record { grows = grows_none v; some = s; each = λ ask x. x }
 
-  waiting : (n : ℕ) (ask : Ask) (got : Collected) (k : Knowledge Mark) → got ≡ collected.NotYet → Stands shows n ask got k → Waits n ask k.seen k.mine
+  waiting : (n : ℕ) (ask : Ask) (got : Collected) (k : Known) → got ≡ collected.NotYet → Stands shows n ask got k → Waits n ask k.seen k.mine
   waiting n ask got k e s = subst (λ (x : Collected). Stands shows n ask x k) e s
 
-  pub waits_own : (n : ℕ) (got : Collected) (v : Knowledge Mark) (n' : ℕ) (got' : Collected) (w : Knowledge Mark) → got' ≡ collected.NotYet → Looks shows n got v n' got' w → Among n' w.mine
+  pub waits_own : (n : ℕ) (got : Collected) (v : Known) (n' : ℕ) (got' : Collected) (w : Known) → got' ≡ collected.NotYet → Looks shows n got v n' got' w → Among n' w.mine
   waits_own n got v n' got' w e l = (waiting n' l.some.0 got' w e l.some.1).own
 
-  pub looks_next : (n : ℕ) (got : Collected) (u : Knowledge Mark) (n₁ : ℕ) (got₁ : Collected) (v : Knowledge Mark) (n₂ : ℕ) (got₂ : Collected) (w : Knowledge Mark) → got₁ ≡ collected.NotYet → Looks shows n got u n₁ got₁ v → Grows v w
+  pub looks_next : (n : ℕ) (got : Collected) (u : Known) (n₁ : ℕ) (got₁ : Collected) (v : Known) (n₂ : ℕ) (got₂ : Collected) (w : Known) → got₁ ≡ collected.NotYet → Looks shows n got u n₁ got₁ v → Grows v w
       → ((ask : Ask) → Waits n₁ ask v.seen v.mine → Stands shows n₂ ask got₂ w) → Looks shows n got u n₂ got₂ w
   looks_next n got u n₁ got₁ v n₂ got₂ w e l g f = record {
     grows = grows_on u v w l.grows g;
@@ -276,9 +312,9 @@ module _ (shows : ℕ → Ask → Reply → List Mark → Type 0) where
     each = λ ask x. f ask (waiting n₁ ask got₁ v e (l.each ask x));
   }
 
-  pub looks_ready : (n : ℕ) (got : Collected) (u : Knowledge Mark) (n' : ℕ) (got' : Collected) (w : Knowledge Mark) (reply : Reply) → got' ≡ collected.Ready reply → Looks shows n got u n' got' w
+  pub looks_ready : (n : ℕ) (got : Collected) (u : Known) (n' : ℕ) (got' : Collected) (w : Known) (reply : Reply) → got' ≡ collected.Ready reply → Looks shows n got u n' got' w
       → (ask : Ask) → Stands shows n ask got u → IsAnswered shows ask reply w.seen w.mine
   looks_ready n got u n' got' w reply e l ask x = subst (λ (z : Collected). Stands shows n' ask z w) e (l.each ask x)
 
-  pub never_gone : (n : ℕ) (got : Collected) (u : Knowledge Mark) (n' : ℕ) (got' : Collected) (w : Knowledge Mark) → got' ≡ collected.Gone → Looks shows n got u n' got' w → ⊥
+  pub never_gone : (n : ℕ) (got : Collected) (u : Known) (n' : ℕ) (got' : Collected) (w : Known) → got' ≡ collected.Gone → Looks shows n got u n' got' w → ⊥
   never_gone n got u n' got' w e l = subst (λ (z : Collected). Stands shows n' l.some.0 z w) e l.some.1

@@ -5,6 +5,7 @@ use Rattle.std.specs.List.{AllByRecursion, list_any, slice_index_or, swap_remove
 use Rattle.std.proofs.lemmas.List.{length-map, map-append}
 use Rattle.std.proofs.lemmas.List.Folds.{list_any-append}
 use Rattle.std.specs.Option.{option_map}
+use Rattle.cat_model.specs.declared.command.Command.{Command}
 use Rattle.cat_model.specs.declared.request.Draw.{Draw}
 use Rattle.cat_model.specs.declared.reply.Mark.{Mark}
 use Rattle.cat_outside.specs.Causes.{Rose}
@@ -13,20 +14,20 @@ use Rattle.cluster_rules.specs.Sound.{IsAmong}
 use Rattle.serve_outside.specs.Links.{LinkState, IsNew}
 use Rattle.serve_outside.specs.Tasks.{IsKept, note_of}
 use Rattle.serve_outside.specs.declared.job.Task.{Task}
-use Rattle.turn_lock.specs.declared.knowledge.Knowledge.{Knowledge}
 use Rattle.turn_lock.specs.Lists.{AreFronts, IsFront}
 use Rattle.serve_loop.specs.declared.cluster.Ask.{Ask}
 use Rattle.serve_loop.specs.declared.cause.Cause.{Cause}
 use Rattle.serve_loop.specs.declared.cause.Cause.TheVariants as cause
 use Rattle.serve_loop.specs.Jobs.{AllTasks, agent_of}
-use Rattle.serve_loop.specs.Runs.{TurnsAway, IsTurnedAway, TurnedAway, Starts, lacking, HasDrawn, IsDrawn, KeepsDraws, IsStarted, IsStartedAs, IsServed, ServesOne, Joins, Back, IsBack, Handed, HandsBack, is_short, was_short, turned_of, outcome_of}
+use Rattle.serve_loop.specs.Knowing.{HasLearned, Known}
+use Rattle.serve_loop.specs.Runs.{TurnsAway, IsTurnedAway, TurnedAway, Starts, lacking, HasDrawn, IsDrawn, KeepsDraws, IsStarted, IsStartedAs, IsServed, ServesOne, Joins, Back, IsBack, Handed, HandsBack, was_short, turned_of, outcome_of}
 use Rattle.serve_loop.specs.declared.run.Stop.{Stop}
 use Rattle.serve_loop.specs.declared.run.Stop.TheVariants as stops
 use Rattle.serve_loop.specs.declared.job.ServeJob.{ServeJob}
 use Rattle.crossbeam_utils.specs.declared.cache_padded.CachePadded.{CachePadded}
 use Rattle.turn_lock.specs.declared.history.History.{Ghosts}
 use Rattle.turn_lock.specs.declared.lock.HistoryLock.{HistoryLock}
-use Rattle.serve_loop.specs.Serving.{Connection, EndsBy}
+use Rattle.serve_loop.specs.Serving.{Connection, EndsBy, is_short}
 use Rattle.serve_loop.proofs.MarkLists.{in_left}
 use Rattle.serve_loop.proofs.Tasks.{all_kept, all_last, all_one_more, all_rest, all_swapped}
 
@@ -111,11 +112,11 @@ starts_stop a b f g n m t s why x e d = record { turned = lacking (Err why); awa
 
 -- what is known of a task when one more draw is made
 module _ {R S Cl G L : Type 0} {H : Ghosts S Mark} where
-  pub started_later : (board : CachePadded (HistoryLock S Mark)) (agents : ℕ) (draws : Option (List Draw)) (state : L → LinkState) (x : Draw) (job : ServeJob R S Cl G L Mark H) → IsStarted board agents draws state job
+  pub started_later : (board : CachePadded (HistoryLock S Mark)) (agents : ℕ) (draws : Option (List Draw)) (state : L → LinkState) (x : Draw) (job : ServeJob R S Cl G L (List Command) Mark H) → IsStarted board agents draws state job
       → IsStarted board agents (option_map (λ before. before ++ x ∷ []) draws) state job
   started_later board agents draws state x job i = record { own = i.own; new = i.new; agent = i.agent; drawn = drawn_later draws x (state job.link).number job.draw i.drawn }
 
-  pub started_now : (board : CachePadded (HistoryLock S Mark)) (agents : ℕ) (draws : Option (List Draw)) (state : L → LinkState) (x : Draw) (g n : ℕ) (job : ServeJob R S Cl G L Mark H) → HasDrawn draws g → n ≡ g + 1 → IsStartedAs n x board agents state job
+  pub started_now : (board : CachePadded (HistoryLock S Mark)) (agents : ℕ) (draws : Option (List Draw)) (state : L → LinkState) (x : Draw) (g n : ℕ) (job : ServeJob R S Cl G L (List Command) Mark H) → HasDrawn draws g → n ≡ g + 1 → IsStartedAs n x board agents state job
       → IsStarted board agents (option_map (λ before. before ++ x ∷ []) draws) state job
   started_now board agents draws state x g n job h e i =
       let number : n ≡ (state job.link).number = sym i.new.number in record {
@@ -127,7 +128,7 @@ module _ {R S Cl G L : Type 0} {H : Ghosts S Mark} where
       }
 
   -- one task more, with the draw that was just made
-  pub started_more : {P D : Type 0} → (job : P → ServeJob R S Cl G L Mark H) (kept : P → D → Type 0) (board : CachePadded (HistoryLock S Mark)) (agents : ℕ) (draws draws' : Option (List Draw)) (state : L → LinkState) (x : Draw) (g n : ℕ)
+  pub started_more : {P D : Type 0} → (job : P → ServeJob R S Cl G L (List Command) Mark H) (kept : P → D → Type 0) (board : CachePadded (HistoryLock S Mark)) (agents : ℕ) (draws draws' : Option (List Draw)) (state : L → LinkState) (x : Draw) (g n : ℕ)
       (items items' items'' : List (Task P D)) (o : Option (Task P D)) (task : Task P D) → AllTasks items kept (λ p. IsStarted board agents draws state (job p)) → o ≡ Some task → IfSome o (IsKept kept)
       → IfSome o (λ t. IsStartedAs n x board agents state (job (note_of t))) → HasDrawn draws g → n ≡ g + 1 → draws' ≡ option_map (λ before. before ++ x ∷ []) draws → items' ≡ items → items'' ≡ items' ++ task ∷ []
       → AllTasks items'' kept (λ p. IsStarted board agents draws' state (job p))
@@ -140,13 +141,13 @@ module _ {R S Cl G L : Type 0} {H : Ghosts S Mark} where
       (subst (All Each) (sym (are ∙ ap (λ (l : List (Task P D)). l ++ task ∷ []) same)) (all_one_more Each items task before one))
 
 -- a link that was served, by what its job promised
-later_number : (c : Connection) (shows : ℕ → Ask → Reply → List Mark → Type 0) (why : Cause) (link : LinkState) (v : Knowledge Mark) (n : ℕ) → EndsBy shows c why link v n → link.number ≡ c.first.number
-later_number c shows cause.Closed link v n x = x.came.passed.later.number
-later_number c shows (cause.Refused why) link v n x = x.came.passed.later.number
-later_number c shows cause.ReadFault link v n x = x.came.passed.later.number
-later_number c shows cause.WriteFault link v n x = x.0.came.passed.later.number
-later_number c shows cause.Left link v n x = x.0.passed.later.number
-later_number c shows cause.Memory link v n x = x.came.passed.later.number
+later_number : (c : Connection) (shows : ℕ → Ask → Reply → List Mark → Type 0) (agrees : Type 0) (why : Cause) (link : LinkState) (v : Known) (n : ℕ) → EndsBy shows agrees c why link v n → link.number ≡ c.first.number
+later_number c shows agrees cause.Closed link v n x = x.came.passed.later.number
+later_number c shows agrees (cause.Refused why) link v n x = x.came.passed.later.number
+later_number c shows agrees cause.ReadFault link v n x = x.came.passed.later.number
+later_number c shows agrees cause.WriteFault link v n x = x.0.came.passed.later.number
+later_number c shows agrees cause.Left link v n x = x.0.passed.later.number
+later_number c shows agrees cause.Memory link v n x = x.came.passed.later.number
 
 -- what a pass knows that others were put into
 pub told_before : (old theirs new : List (List Mark)) (own : List Mark) → new ≡ own ∷ (old ++ theirs) → (seen : List Mark) → IsAmong seen old → IsAmong seen new
@@ -210,29 +211,30 @@ or_assoc : (a b c : Bool) → ((a || b) || c) ≡ (a || (b || c))
 or_assoc true b c = refl
 or_assoc false b c = refl
 
-module _ (shows : ℕ → Ask → Reply → List Mark → Type 0) (agents : ℕ) (draws : Option (List Draw)) where
+module _ (shows : ℕ → Ask → Reply → List Mark → Type 0) (agrees : Type 0) (agents : ℕ) (draws : Option (List Draw)) where
   module _ (Knows : List Mark → Type 0) where
-    pub is_served : (c : Connection) (link : LinkState) (known : Knowledge Mark) (why : Cause) (requests : ℕ) → Knows known.seen → IsNew c.first.number c.first → c.agent ≡ agent_of agents c.first.number → IsDrawn draws c.first.number c.draw
-        → EndsBy shows c why link known requests → link.shut ≡ true → IsServed shows agents draws Knows link why
-    is_served c link known why requests seen new agent drawn ends shut =
-        let number : c.first.number ≡ link.number = sym (later_number c shows why link known requests ends) in record {
+    pub is_served : (c : Connection) (link : LinkState) (known : Known) (why : Cause) (requests : ℕ) → Knows known.seen → (is_short why ≡ false → HasLearned agrees known) → IsNew c.first.number c.first → c.agent ≡ agent_of agents c.first.number → IsDrawn draws c.first.number c.draw
+        → EndsBy shows agrees c why link known requests → link.shut ≡ true → IsServed shows agrees agents draws Knows link why
+    is_served c link known why requests seen learned new agent drawn ends shut =
+        let number : c.first.number ≡ link.number = sym (later_number c shows agrees why link known requests ends) in record {
           first = c.first;
           draw = c.draw;
           begun = c.begun;
           known = known;
           requests = requests;
           seen = seen;
+          learned = learned;
           new = subst (λ (n : ℕ). IsNew n c.first) number new;
           drawn = subst (λ (n : ℕ). IsDrawn draws n c.draw) number drawn;
-          ends = subst (λ (a : ℕ). EndsBy shows (record { agent = a; draw = c.draw; first = c.first; begun = c.begun }) why link known requests) (agent ∙ ap (agent_of agents) number) ends;
+          ends = subst (λ (a : ℕ). EndsBy shows agrees (record { agent = a; draw = c.draw; first = c.first; begun = c.begun }) why link known requests) (agent ∙ ap (agent_of agents) number) ends;
           shut = shut;
         }
 
     -- what tasks that end leave
-    pub joins_none : (old : List LinkState) (n : ℕ) (short : Bool) → Joins shows agents draws Knows old old n n short short
+    pub joins_none : (old : List LinkState) (n : ℕ) (short : Bool) → Joins shows agrees agents draws Knows old old n n short short
     joins_none old n short = record { links = []; are = sym (append-nil old); each = tt; count = omega arith; short_is = sym (or_false short) }
 
-    pub joins_one : (a b : List LinkState) (n m : ℕ) (short one now : Bool) → m + 1 ≡ n → ServesOne shows agents draws Knows a b one → now ≡ (short || one) → Joins shows agents draws Knows a b n m short now
+    pub joins_one : (a b : List LinkState) (n m : ℕ) (short one now : Bool) → m + 1 ≡ n → ServesOne shows agrees agents draws Knows a b one → now ≡ (short || one) → Joins shows agrees agents draws Knows a b n m short now
     joins_one a b n m short one now count x is = record {
       links = (x.link, x.why) ∷ [];
       are = x.are;
@@ -241,57 +243,57 @@ module _ (shows : ℕ → Ask → Reply → List Mark → Type 0) (agents : ℕ)
       short_is = is ∙ ap (λ b. short || b) (x.short_is ∙ sym (or_false (is_short x.why)));
     }
 
-    pub joins_on : (a b c : List LinkState) (n m o : ℕ) (s t u : Bool) → Joins shows agents draws Knows a b n m s t → Joins shows agents draws Knows b c m o t u → Joins shows agents draws Knows a c n o s u
+    pub joins_on : (a b c : List LinkState) (n m o : ℕ) (s t u : Bool) → Joins shows agrees agents draws Knows a b n m s t → Joins shows agrees agents draws Knows b c m o t u → Joins shows agrees agents draws Knows a c n o s u
     joins_on a b c n m o s t u x y =
         let test : LinkState × Cause → Bool = λ l. is_short l.1 in let link : LinkState × Cause → LinkState = λ l. l.0 in record {
           links = x.links ++ y.links;
           are = y.are ∙ (ap (λ (l : List LinkState). l ++ map link y.links) x.are ∙ (append_assoc a (map link x.links) (map link y.links) ∙ ap (λ (l : List LinkState). a ++ l) (sym (map-append link x.links y.links))));
-          each = each_more (λ l. IsServed shows agents draws Knows l.0 l.1) x.links y.links x.each y.each;
+          each = each_more (λ l. IsServed shows agrees agents draws Knows l.0 l.1) x.links y.links x.each y.each;
           count = let k = x.count in let j = y.count in let e = length-append x.links y.links in omega arith;
           short_is = y.short_is ∙ (ap (λ b. b || list_any test y.links) x.short_is ∙ (or_assoc s (list_any test x.links) (list_any test y.links) ∙ ap (λ b. s || b) (sym (list_any-append test x.links y.links))));
         }
 
     -- links that were handed back, as they came
-    turned_back : (links : List LinkState) → AllByRecursion IsTurnedAway links → AllByRecursion (IsBack shows agents draws Knows) (map as_turned links)
+    turned_back : (links : List LinkState) → AllByRecursion IsTurnedAway links → AllByRecursion (IsBack shows agrees agents draws Knows) (map as_turned links)
     turned_back [] each = tt
     turned_back (l ∷ ls) each = (each.0, turned_back ls each.1)
 
-    served_back : (links : List (LinkState × Cause)) → AllByRecursion (λ l. IsServed shows agents draws Knows l.0 l.1) links → AllByRecursion (IsBack shows agents draws Knows) (map as_served links)
+    served_back : (links : List (LinkState × Cause)) → AllByRecursion (λ l. IsServed shows agrees agents draws Knows l.0 l.1) links → AllByRecursion (IsBack shows agrees agents draws Knows) (map as_served links)
     served_back [] each = tt
     served_back (l ∷ ls) each = (each.0, served_back ls each.1)
 
-    pub handed_none : (old : List LinkState) (f n t : ℕ) (s : Bool) → n ≡ 0 → t ≡ 0 → s ≡ false → Handed shows agents draws Knows old old f f n t s
+    pub handed_none : (old : List LinkState) (f n t : ℕ) (s : Bool) → n ≡ 0 → t ≡ 0 → s ≡ false → Handed shows agrees agents draws Knows old old f f n t s
     handed_none old f n t s none empty long = record { links = []; are = sym (append-nil old); each = tt; count = omega (arith, empty, none); few = omega arith; short_is = long }
 
-    pub handed_starts : (a b c : List LinkState) (f g h n m t s : ℕ) (short : Bool) (r : Result Unit Stop) → Handed shows agents draws Knows a b f g n t short → Starts b c g h n m t s r → Handed shows agents draws Knows a c f (h + lacking r) m s short
+    pub handed_starts : (a b c : List LinkState) (f g h n m t s : ℕ) (short : Bool) (r : Result Unit Stop) → Handed shows agrees agents draws Knows a b f g n t short → Starts b c g h n m t s r → Handed shows agrees agents draws Knows a c f (h + lacking r) m s short
     handed_starts a b c f g h n m t s short r x y =
         let turned = y.away.links in record {
           links = x.links ++ map as_turned turned;
           are = y.away.are ∙ (ap (λ (l : List LinkState). l ++ turned) x.are ∙ (append_assoc a (map link_of x.links) turned
               ∙ ap (λ (l : List LinkState). a ++ l) (ap (λ (l : List LinkState). map link_of x.links ++ l) (turned_links turned) ∙ sym (map-append link_of x.links (map as_turned turned)))));
-          each = each_more (IsBack shows agents draws Knows) x.links (map as_turned turned) x.each (turned_back turned y.away.each);
+          each = each_more (IsBack shows agrees agents draws Knows) x.links (map as_turned turned) x.each (turned_back turned y.away.each);
           count = let k = x.count in let j = y.count in let i = y.away.count_is in let e = length-append x.links (map as_turned turned) in let d = length-map turned as_turned in omega arith;
           few = let k = x.few in let j = y.away.few in let i = y.away.count_is in let e = turned_more x.links (map as_turned turned) in let d = turned_all turned in omega arith;
           short_is = x.short_is ∙ (sym (or_false (list_any short_of x.links)) ∙ (ap (λ b. list_any short_of x.links || b) (sym (turned_long turned)) ∙ sym (list_any-append short_of x.links (map as_turned turned))));
         }
 
-    pub handed_goes : (a b c : List LinkState) (f g h n m t s : ℕ) (short : Bool) {u : Unit {0}} → Handed shows agents draws Knows a b f g n t short → Starts b c g h n m t s (Ok u) → Handed shows agents draws Knows a c f h m s short
-    handed_goes a b c f g h n m t s short {u} x y = subst (λ (k : ℕ). Handed shows agents draws Knows a c f k m s short) (let e : h + lacking (Ok u) ≡ h = omega arith in e) (handed_starts a b c f g h n m t s short (Ok u) x y)
+    pub handed_goes : (a b c : List LinkState) (f g h n m t s : ℕ) (short : Bool) {u : Unit {0}} → Handed shows agrees agents draws Knows a b f g n t short → Starts b c g h n m t s (Ok u) → Handed shows agrees agents draws Knows a c f h m s short
+    handed_goes a b c f g h n m t s short {u} x y = subst (λ (k : ℕ). Handed shows agrees agents draws Knows a c f k m s short) (let e : h + lacking (Ok u) ≡ h = omega arith in e) (handed_starts a b c f g h n m t s short (Ok u) x y)
 
-    pub handed_joins : (a b c : List LinkState) (f g n t s : ℕ) (short short' : Bool) → Handed shows agents draws Knows a b f g n t short → Joins shows agents draws Knows b c t s short short' → Handed shows agents draws Knows a c f g n s short'
+    pub handed_joins : (a b c : List LinkState) (f g n t s : ℕ) (short short' : Bool) → Handed shows agrees agents draws Knows a b f g n t short → Joins shows agrees agents draws Knows b c t s short short' → Handed shows agrees agents draws Knows a c f g n s short'
     handed_joins a b c f g n t s short short' x y =
         let served = y.links in record {
           links = x.links ++ map as_served served;
           are = y.are ∙ (ap (λ (l : List LinkState). l ++ map (λ l. l.0) served) x.are ∙ (append_assoc a (map link_of x.links) (map (λ l. l.0) served)
               ∙ ap (λ (l : List LinkState). a ++ l) (ap (λ (l : List LinkState). map link_of x.links ++ l) (served_links served) ∙ sym (map-append link_of x.links (map as_served served)))));
-          each = each_more (IsBack shows agents draws Knows) x.links (map as_served served) x.each (served_back served y.each);
+          each = each_more (IsBack shows agrees agents draws Knows) x.links (map as_served served) x.each (served_back served y.each);
           count = let k = x.count in let j = y.count in let e = length-append x.links (map as_served served) in let d = length-map served as_served in omega arith;
           few = let k = x.few in let e = turned_more x.links (map as_served served) in let d = turned_none_of served in omega arith;
           short_is = y.short_is ∙ (ap (λ b. b || list_any (λ (l : LinkState × Cause). is_short l.1) served) x.short_is ∙ (ap (λ b. list_any short_of x.links || b) (served_short served) ∙ sym (list_any-append short_of x.links (map as_served served))));
         }
 
-    pub hands_back : (a c : List LinkState) (f g n n' t : ℕ) (r r' : Result Unit Stop) (short : Bool) → Handed shows agents draws Knows a c f (g + lacking r) n t short → t ≡ 0 → n' ≡ n → r' ≡ outcome_of r short → HandsBack shows agents draws Knows a c f g n' r'
-    hands_back a c f g n n' t r r' short x none same is = subst (λ (z : Result Unit Stop). HandsBack shows agents draws Knows a c f g n' z) (sym is) (record {
+    pub hands_back : (a c : List LinkState) (f g n n' t : ℕ) (r r' : Result Unit Stop) (short : Bool) → Handed shows agrees agents draws Knows a c f (g + lacking r) n t short → t ≡ 0 → n' ≡ n → r' ≡ outcome_of r short → HandsBack shows agrees agents draws Knows a c f g n' r'
+    hands_back a c f g n n' t r r' short x none same is = subst (λ (z : Result Unit Stop). HandsBack shows agrees agents draws Knows a c f g n' z) (sym is) (record {
       lacked = lacking r;
       short = short;
       all = record { links = x.links; are = x.are; each = x.each; count = let k = x.count in omega arith; few = x.few; short_is = x.short_is };
@@ -317,26 +319,26 @@ module _ (shows : ℕ → Ask → Reply → List Mark → Type 0) (agents : ℕ)
         is_lack (Err stops.Listener) short e = absurd (cc e)
 
 -- what was seen may be known in another way, and more may have been drawn
-module _ (shows : ℕ → Ask → Reply → List Mark → Type 0) (agents : ℕ) (draws draws' : Option (List Draw)) (drawn : KeepsDraws draws draws') (Knows Knows' : List Mark → Type 0) (knows : (seen : List Mark) → Knows seen → Knows' seen) where
-  served_later : (link : LinkState) (why : Cause) → IsServed shows agents draws Knows link why → IsServed shows agents draws' Knows' link why
-  served_later link why i = record { first = i.first; draw = i.draw; begun = i.begun; known = i.known; requests = i.requests; seen = knows i.known.seen i.seen; new = i.new; drawn = drawn link.number i.draw i.drawn; ends = i.ends; shut = i.shut }
+module _ (shows : ℕ → Ask → Reply → List Mark → Type 0) (agrees : Type 0) (agents : ℕ) (draws draws' : Option (List Draw)) (drawn : KeepsDraws draws draws') (Knows Knows' : List Mark → Type 0) (knows : (seen : List Mark) → Knows seen → Knows' seen) where
+  served_later : (link : LinkState) (why : Cause) → IsServed shows agrees agents draws Knows link why → IsServed shows agrees agents draws' Knows' link why
+  served_later link why i = record { first = i.first; draw = i.draw; begun = i.begun; known = i.known; requests = i.requests; seen = knows i.known.seen i.seen; learned = i.learned; new = i.new; drawn = drawn link.number i.draw i.drawn; ends = i.ends; shut = i.shut }
 
-  back_later : (b : Back) → IsBack shows agents draws Knows b → IsBack shows agents draws' Knows' b
+  back_later : (b : Back) → IsBack shows agrees agents draws Knows b → IsBack shows agrees agents draws' Knows' b
   back_later (link, None) is = is
   back_later (link, Some why) is = served_later link why is
 
-  backs_later : (links : List Back) → AllByRecursion (IsBack shows agents draws Knows) links → AllByRecursion (IsBack shows agents draws' Knows') links
+  backs_later : (links : List Back) → AllByRecursion (IsBack shows agrees agents draws Knows) links → AllByRecursion (IsBack shows agrees agents draws' Knows') links
   backs_later [] each = tt
   backs_later (b ∷ bs) each = (back_later b each.0, backs_later bs each.1)
 
-  ends_later : (links : List (LinkState × Cause)) → AllByRecursion (λ l. IsServed shows agents draws Knows l.0 l.1) links → AllByRecursion (λ l. IsServed shows agents draws' Knows' l.0 l.1) links
+  ends_later : (links : List (LinkState × Cause)) → AllByRecursion (λ l. IsServed shows agrees agents draws Knows l.0 l.1) links → AllByRecursion (λ l. IsServed shows agrees agents draws' Knows' l.0 l.1) links
   ends_later [] each = tt
   ends_later (l ∷ ls) each = (served_later l.0 l.1 each.0, ends_later ls each.1)
 
-  pub handed_later : (a b : List LinkState) (f g n t : ℕ) (short : Bool) → Handed shows agents draws Knows a b f g n t short → Handed shows agents draws' Knows' a b f g n t short
+  pub handed_later : (a b : List LinkState) (f g n t : ℕ) (short : Bool) → Handed shows agrees agents draws Knows a b f g n t short → Handed shows agrees agents draws' Knows' a b f g n t short
   handed_later a b f g n t short x = record { links = x.links; are = x.are; each = backs_later x.links x.each; count = x.count; few = x.few; short_is = x.short_is }
 
-  pub joins_later : (a b : List LinkState) (n m : ℕ) (s t : Bool) → Joins shows agents draws Knows a b n m s t → Joins shows agents draws' Knows' a b n m s t
+  pub joins_later : (a b : List LinkState) (n m : ℕ) (s t : Bool) → Joins shows agrees agents draws Knows a b n m s t → Joins shows agrees agents draws' Knows' a b n m s t
   joins_later a b n m s t x = record { links = x.links; are = x.are; each = ends_later x.links x.each; count = x.count; short_is = x.short_is }
 
 -- what a run's outcome tells of its start

@@ -7,9 +7,9 @@ use Rattle.cluster_rules.specs.Replies.{Reply}
 use Rattle.http_wire.specs.declared.rejection.Rejection.{Rejection}
 use Rattle.http_wire.specs.State.{GivesAll}
 use Rattle.serve_outside.specs.Links.{IsNew, LinkState}
-use Rattle.turn_lock.specs.declared.knowledge.Knowledge.{Knowledge}
 use Rattle.serve_loop.specs.declared.cluster.Ask.{Ask}
 use Rattle.serve_loop.specs.Jobs.{agent_of}
+use Rattle.serve_loop.specs.Knowing.{HasLearned, Known}
 use Rattle.serve_loop.specs.Runs.{IsDrawn}
 use Rattle.serve_loop.specs.Serving.{AreOpen, AreTrue, Closes, Exchange, bytes_of, items_of, last_bytes}
 
@@ -25,15 +25,18 @@ EndsWell None es rest ends = ((rest ≡ []) × AreOpen es × (0 < ends)) ⊎ (Cl
 
 -- Everything that came over the link was answered. The bytes that it tells as read give these messages, and a refusal
 -- behind them if there is one; the bytes that it tells as written are, in the same order, one reply to each message, and
--- then the refusal's; each reply is the true one. `Knows` tells which beginnings of the cluster's marks were seen.
-pub record AnswersAll (shows : ℕ → Ask → Reply → List Mark → Type 0) (agents : ℕ) (draws : Option (List Draw)) (Knows : List Mark → Type 0) (link : LinkState) : Type 0 where
+-- then the refusal's; each reply is the true one, and no
+-- view showed more than what was agreed. `Knows` tells which beginnings of the cluster's marks were seen, and `agrees` whether
+-- its servers agree.
+pub record AnswersAll (shows : ℕ → Ask → Reply → List Mark → Type 0) (agrees : Type 0) (agents : ℕ) (draws : Option (List Draw)) (Knows : List Mark → Type 0) (link : LinkState) : Type 0 where
   pub first : LinkState
   pub draw : Draw
-  pub begun : Knowledge Mark
-  pub known : Knowledge Mark
+  pub begun : Known
+  pub known : Known
   pub new : IsNew link.number first
   pub drawn : IsDrawn draws link.number draw
   pub seen : Knows known.seen
+  pub learned : HasLearned agrees known
   pub es : List Exchange
   pub rejection : Option Rejection
   pub stream : List ℕ
@@ -41,6 +44,6 @@ pub record AnswersAll (shows : ℕ → Ask → Reply → List Mark → Type 0) (
   pub heard : ForSome link.heard (λ bytes. bytes ≡ stream ++ rest)
   pub gives : GivesAll stream (items_of es) rejection
   pub said : ForSome link.said (λ bytes. bytes ≡ bytes_of es ++ last_bytes rejection)
-  pub are_true : AreTrue shows (record { agent = agent_of agents link.number; draw = draw; first = first; begun = begun }) es known
+  pub are_true : AreTrue shows agrees (record { agent = agent_of agents link.number; draw = draw; first = first; begun = begun }) es known
   pub ends : EndsWell rejection es rest link.ends
   pub shut : link.shut ≡ true

@@ -1,8 +1,9 @@
 pub mod Marks
 pub mod Collects
 pub mod Turns
-pub mod Waiting
 pub mod Boards
+pub mod Knowing
+pub mod Waiting
 pub mod Replies
 pub mod Serving
 pub mod Stages

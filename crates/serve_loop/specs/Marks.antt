@@ -1,11 +1,14 @@
 -- What marks ask, take and answer, and what calls put behind them. Marks stand the first one first.
-use Rattle.std.specs.Prelude.{◌≡◌, ◌⊎◌, ℕ, ◌+◌, ◌^◌, ◌<◌, ◌≤◌, true, List, [], ◌∷◌, ◌++◌, Option, Some, None}
+use Rattle.std.specs.Prelude.{◌≡◌, ◌⊎◌, ℕ, ◌+◌, ◌^◌, ◌<◌, ◌≤◌, true, List, [], ◌∷◌, ◌++◌, reverse, Option, Some, None}
 use Rattle.std.specs.List.{AllByRecursion}
+use Rattle.cat_model.specs.declared.command.Command.{Command}
+use Rattle.cat_model.specs.declared.command.Entry.{Entry}
 use Rattle.cat_model.specs.declared.request.Event.TheVariants as event
 use Rattle.cat_model.specs.declared.reply.Mark.{Mark}
 use Rattle.cat_model.specs.declared.reply.Mark.TheVariants as mark
+use Rattle.cat_model.specs.Log.{commands_of}
 use Rattle.cluster_rules.specs.Replies.{Reply}
-use Rattle.cluster_rules.specs.Sound.{IsAmong}
+use Rattle.cluster_rules.specs.Sound.{IsAmong, entered_in}
 use Rattle.turn_lock.specs.Lists.{Among, EachOnce, numbers}
 use Rattle.serve_loop.specs.declared.cluster.Ask.{Ask}
 
@@ -39,6 +42,14 @@ asked_mark number a = mark.Asked number a.agent a.asked a.draw
 
 abbrev pub answered_mark : Reply → Mark
 answered_mark r = mark.Answered r.number r.kind r.known r.contact
+
+-- the agreed log that marks tell
+abbrev pub log_of : List Mark → List Entry
+log_of marks = entered_in (reverse marks)
+
+-- and its commands, as the catalog machine takes them
+abbrev pub agreed_by : List Mark → List Command
+agreed_by marks = commands_of (log_of marks)
 
 -- the agent is one of so many
 abbrev pub Fits : ℕ → Ask → Type 0

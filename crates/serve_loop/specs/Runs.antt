@@ -1,6 +1,8 @@
 -- The connections of a run.
 use Rattle.std.specs.Prelude.{◌≡◌, ℕ, ◌+◌, ◌-◌, ◌^◌, ◌≤◌, ◌⊎◌, Bool, true, false, List, [], ◌∷◌, ◌++◌, length, map, min, ◌||◌, ⊤, Option, Some, None, MatchOption, Result, Ok, Err, OnOk}
 use Rattle.std.specs.List.{AllByRecursion, list_any}
+use mathlib.Core.List.{IsPrefix}
+use Rattle.cat_model.specs.declared.command.Command.{Command}
 use Rattle.cat_model.specs.declared.request.Draw.{Draw}
 use Rattle.cat_model.specs.declared.reply.Mark.{Mark}
 use Rattle.cat_model.specs.declared.reply.Refusal.TheVariants.{NoWorker}
@@ -9,17 +11,16 @@ use Rattle.crossbeam_utils.specs.declared.cache_padded.CachePadded.{CachePadded}
 use Rattle.crossbeam_utils.specs.Padded.{padded_value}
 use Rattle.serve_outside.specs.Links.{LinkState, IsNew}
 use Rattle.turn_lock.specs.declared.history.History.{Ghosts}
-use Rattle.turn_lock.specs.declared.knowledge.Knowledge.{Knowledge}
 use Rattle.turn_lock.specs.declared.lock.HistoryLock.{HistoryLock}
 use Rattle.serve_loop.specs.declared.cause.Cause.{Cause}
-use Rattle.serve_loop.specs.declared.cause.Cause.TheVariants as cause
 use Rattle.serve_loop.specs.declared.cluster.Ask.{Ask}
 use Rattle.serve_loop.specs.declared.job.ServeJob.{ServeJob}
 use Rattle.serve_loop.specs.declared.run.Stop.{Stop}
 use Rattle.serve_loop.specs.declared.run.Stop.TheVariants as stops
 use Rattle.serve_loop.specs.Jobs.{agent_of}
+use Rattle.serve_loop.specs.Knowing.{HasLearned, Known}
 use Rattle.serve_loop.specs.Replies.{refusing, text_of}
-use Rattle.serve_loop.specs.Serving.{EndsBy}
+use Rattle.serve_loop.specs.Serving.{EndsBy, is_short}
 use Rattle.serve_loop.specs.Stages.{Wrote}
 
 -- A link was told that no worker could be had, as far as that could be written, and shut.
@@ -71,23 +72,18 @@ IsDrawn (Some draws) n draw = IsPlaced draws n draw
 
 module _ {R S Cl G L : Type 0} {H : Ghosts S Mark} where
   -- the job is that of the n-th link, and has this draw
-  pub record IsStartedAs (n : ℕ) (draw : Draw) (board : CachePadded (HistoryLock S Mark)) (agents : ℕ) (state : L → LinkState) (job : ServeJob R S Cl G L Mark H) : Type 0 where
+  pub record IsStartedAs (n : ℕ) (draw : Draw) (board : CachePadded (HistoryLock S Mark)) (agents : ℕ) (state : L → LinkState) (job : ServeJob R S Cl G L (List Command) Mark H) : Type 0 where
     pub own : job.pass.seat.table_id ≡ (padded_value board).table.shared.table_id
     pub new : IsNew n (state job.link)
     pub agent : job.agent ≡ agent_of agents n
     pub draw_is : job.draw ≡ draw
 
   -- The job is that of a new link. The link's number says which agent and which draw it has.
-  pub record IsStarted (board : CachePadded (HistoryLock S Mark)) (agents : ℕ) (draws : Option (List Draw)) (state : L → LinkState) (job : ServeJob R S Cl G L Mark H) : Type 0 where
+  pub record IsStarted (board : CachePadded (HistoryLock S Mark)) (agents : ℕ) (draws : Option (List Draw)) (state : L → LinkState) (job : ServeJob R S Cl G L (List Command) Mark H) : Type 0 where
     pub own : job.pass.seat.table_id ≡ (padded_value board).table.shared.table_id
     pub new : IsNew (state job.link).number (state job.link)
     pub agent : job.agent ≡ agent_of agents (state job.link).number
     pub drawn : IsDrawn draws (state job.link).number job.draw
-
--- the connection ended for want of memory
-abbrev pub is_short : Cause → Bool
-is_short cause.Memory = true
-is_short other = false
 
 -- What stopped a run: whatever stopped the accepting, or else a connection's want of memory.
 abbrev pub outcome_of : Result Unit Stop → Bool → Result Unit Stop
@@ -120,19 +116,20 @@ abbrev pub KeepsDraws : Option (List Draw) → Option (List Draw) → Type 0
 KeepsDraws draws draws' = (n : ℕ) (draw : Draw) → IsDrawn draws n draw → IsDrawn draws' n draw
 
 -- `Knows` tells which beginnings of the marks were seen
-module _ (shows : ℕ → Ask → Reply → List Mark → Type 0) (agents : ℕ) (draws : Option (List Draw)) (Knows : List Mark → Type 0) where
+module _ (shows : ℕ → Ask → Reply → List Mark → Type 0) (agrees : Type 0) (agents : ℕ) (draws : Option (List Draw)) (Knows : List Mark → Type 0) where
   -- The link came new, was served to its end, which had this cause, and was shut. Its number says whose agent was asked
-  -- and which draw it had.
+  -- and which draw it had. Where memory sufficed, its viewer had at the end read all of the agreed log that its pass had seen.
   pub record IsServed (link : LinkState) (why : Cause) : Type 0 where
     pub first : LinkState
     pub draw : Draw
-    pub begun : Knowledge Mark
-    pub known : Knowledge Mark
+    pub begun : Known
+    pub known : Known
     pub requests : ℕ
     pub seen : Knows known.seen
+    pub learned : is_short why ≡ false → HasLearned agrees known
     pub new : IsNew link.number first
     pub drawn : IsDrawn draws link.number draw
-    pub ends : EndsBy shows (record { agent = agent_of agents link.number; draw = draw; first = first; begun = begun }) why link known requests
+    pub ends : EndsBy shows agrees (record { agent = agent_of agents link.number; draw = draw; first = first; begun = begun }) why link known requests
     pub shut : link.shut ≡ true
 
   -- one link more was served and handed back; `short` tells whether it ended for want of memory
@@ -155,6 +152,12 @@ module _ (shows : ℕ → Ask → Reply → List Mark → Type 0) (agents : ℕ)
   -- the link was turned away, or served to its end
   abbrev pub IsBack : Back → Type 0
   IsBack back = MatchOption back.1 (IsTurnedAway back.0) (λ why. IsServed back.0 why)
+
+  -- all that the viewers of these links had read begins this list, but where memory ran out
+  abbrev pub HaveRead : List Command → (links : List Back) → AllByRecursion IsBack links → Type 0
+  HaveRead list [] each = Unit {0}
+  HaveRead list ((link, None) ∷ links) each = HaveRead list links each.1
+  HaveRead list ((link, Some why) ∷ links) each = (is_short why ≡ false → IsPrefix each.0.known.read list) × HaveRead list links each.1
 
   -- So many links were given since: each was handed back, or has one of so many tasks. At least as many faults of the
   -- spawner were counted as links were turned away, and `short` tells whether one of the others ended for want of memory.

@@ -1,8 +1,10 @@
 -- What serves a connection, as clauses see it.
+use Rattle.std.specs.Prelude.{List}
+use Rattle.cat_model.specs.declared.command.Command.{Command}
 use Rattle.cat_model.specs.declared.reply.Mark.{Mark}
 use Rattle.serve_outside.specs.Links.{LinkState}
 use Rattle.turn_lock.specs.declared.history.History.{Ghosts}
-use Rattle.serve_loop.specs.Boards.{known}
+use Rattle.serve_loop.specs.Knowing.{known_by}
 use Rattle.serve_loop.specs.Serving.{Connection}
 use Rattle.serve_loop.specs.Stages.{Stage}
 use Rattle.serve_loop.specs.declared.serving.Service.{Service}
@@ -10,20 +12,20 @@ use Rattle.serve_loop.specs.declared.serving.Serving.{Serving}
 
 module _ {R S Cl G L : Type 0} {H : Ghosts S Mark} where
   -- the connection that is served
-  abbrev pub connection : (L → LinkState) → Service R S Cl G L Mark H → Connection
+  abbrev pub connection : (L → LinkState) → Service R S Cl G L (List Command) Mark H → Connection
   connection state service = record {
     agent = service.agent;
     draw = service.draw;
     first = state service.first.value;
-    begun = known service.begun.value;
+    begun = known_by service.begun.value service.read.value;
   }
 
 module _ {L S : Type 0} {H : Ghosts S Mark} where
   -- where it stands
-  abbrev pub stage : (L → LinkState) → Serving L S Mark H → Stage
+  abbrev pub stage : (L → LinkState) → Serving L S (List Command) Mark H → Stage
   stage state s = record {
     link = state s.link;
     reader = s.reader;
-    known = known s.pass;
+    known = known_by s.pass s.viewer;
     requests = s.requests;
   }

@@ -11,10 +11,10 @@ use Rattle.http_wire.specs.Reader.{raw}
 use Rattle.http_wire.specs.State.{Reader, Read, GivesAll}
 use Rattle.http_wire.specs.Stream.{Given, go_on, whole}
 use Rattle.serve_outside.specs.Links.{LinkState}
-use Rattle.turn_lock.specs.declared.knowledge.Knowledge.{Knowledge}
 use Rattle.serve_loop.specs.declared.cluster.Ask.{Ask}
 use Rattle.serve_loop.specs.declared.cause.Cause.{Cause}
 use Rattle.serve_loop.specs.declared.cause.Cause.TheVariants as cause
+use Rattle.serve_loop.specs.Knowing.{Known}
 use Rattle.serve_loop.specs.Serving.{Connection, Exchange, items_of, count_of, bytes_of, AreOpen, Passed, IsCut, EndsBy}
 
 -- why a write stopped, by the link's count of failed writes before and after it
@@ -48,20 +48,20 @@ IsTaking (gots.Refused why) = ⊥
 IsTaking gots.Memory = ⊥
 IsTaking other = Unit {0}
 
--- where a connection stands: its link, its reader, what its pass knows, and how many requests were answered
+-- where a connection stands: its link, its reader, what its pass and its viewer know, and how many requests were answered
 pub record Stage : Type 0 where
   pub link : LinkState
   pub reader : Reader
-  pub known : Knowledge Mark
+  pub known : Known
   pub requests : ℕ
 
-module _ (shows : ℕ → Ask → Reply → List Mark → Type 0) (c : Connection) where
+module _ (shows : ℕ → Ask → Reply → List Mark → Type 0) (agrees : Type 0) (c : Connection) where
   -- The connection goes on: all that came was answered, but for `rest`, which was read and not taken yet, and nothing has
   -- asked to close.
   pub record Talks (s : Stage) (rest : List ℕ) : Type 0 where
     pub es : List Exchange
     pub stream : List ℕ
-    pub passed : Passed shows c s.link s.known es (stream ++ rest) (bytes_of es)
+    pub passed : Passed shows agrees c s.link s.known es (stream ++ rest) (bytes_of es)
     pub told : Read stream (items_of es) s.reader.held
     pub going : s.reader.stop ≡ None
     pub count : s.requests ≡ count_of es
@@ -73,20 +73,20 @@ module _ (shows : ℕ → Ask → Reply → List Mark → Type 0) (c : Connectio
   pub record Owes (s : Stage) (rest : List ℕ) (given : Given) : Type 0 where
     pub es : List Exchange
     pub stream : List ℕ
-    pub passed : Passed shows c s.link s.known es (stream ++ rest) (bytes_of es)
+    pub passed : Passed shows agrees c s.link s.known es (stream ++ rest) (bytes_of es)
     pub told : Read stream (items_of es ++ given ∷ []) s.reader.held
     pub going : s.reader.stop ≡ None
     pub count : s.requests ≡ count_of es
     pub unshut : s.link.shut ≡ false
     pub are_open : AreOpen es
     pub unended : s.link.ends ≡ c.first.ends
-    pub before : IsCut shows c s.link s.known s.requests
+    pub before : IsCut shows agrees c s.link s.known s.requests
 
   -- The rest of the stream is refused, and that is to be answered.
-  pub record OwesRefusal (link : LinkState) (known : Knowledge Mark) (requests : ℕ) (why : Rejection) : Type 0 where
+  pub record OwesRefusal (link : LinkState) (known : Known) (requests : ℕ) (why : Rejection) : Type 0 where
     pub es : List Exchange
     pub stream : List ℕ
-    pub passed : Passed shows c link known es stream (bytes_of es)
+    pub passed : Passed shows agrees c link known es stream (bytes_of es)
     pub gives : GivesAll stream (items_of es) (Some why)
     pub count : requests ≡ count_of es
     pub are_open : AreOpen es
@@ -97,9 +97,9 @@ module _ (shows : ℕ → Ask → Reply → List Mark → Type 0) (c : Connectio
   Comes s rest gots.Continue = Owes s rest go_on
   Comes s rest (gots.Message m) = Owes s rest (whole (raw m))
   Comes s rest (gots.Refused why) = OwesRefusal s.link s.known s.requests why
-  Comes s rest gots.Memory = IsCut shows c s.link s.known s.requests
+  Comes s rest gots.Memory = IsCut shows agrees c s.link s.known s.requests
 
   -- the connection goes on, or has ended
   abbrev pub GoesOn : {T : Type 0} → Result T Cause → Stage → List ℕ → Type 0
   GoesOn (Ok value) s rest = Talks s rest
-  GoesOn (Err why) s rest = EndsBy shows c why s.link s.known s.requests
+  GoesOn (Err why) s rest = EndsBy shows agrees c why s.link s.known s.requests

@@ -4,21 +4,23 @@ use Rattle.cat_model.specs.declared.reply.Mark.{Mark}
 use Rattle.cluster_rules.specs.Replies.{Reply}
 use Rattle.cluster_rules.specs.Sound.{IsAmong}
 use Rattle.serve_outside.specs.Links.{LinkState, Leaves}
-use Rattle.turn_lock.specs.declared.knowledge.Knowledge.{Knowledge}
+use mathlib.Core.List.{IsPrefix}
 use Rattle.turn_lock.specs.Lists.{Among, EachOnce, numbers}
 use Rattle.serve_loop.specs.declared.cluster.Ask.{Ask}
 use Rattle.serve_loop.specs.declared.cluster.Collected.{Collected}
 use Rattle.serve_loop.specs.declared.cluster.Collected.TheVariants as collected
 use Rattle.serve_loop.specs.declared.turning.NoReply.{NoReply}
 use Rattle.serve_loop.specs.declared.turning.NoReply.TheVariants as no_reply
+use Rattle.serve_loop.specs.Knowing.{Known}
 use Rattle.serve_loop.specs.Marks.{answered_mark, answers, asked_mark, opens, takes}
 
--- what was seen and opened begins as before
-pub record Grows (v w : Knowledge Mark) : Type 0 where
+-- what was seen, opened and read begins as before
+pub record Grows (v w : Known) : Type 0 where
   pub rest : List Mark
   pub more : List ℕ
   pub seen : w.seen ≡ v.seen ++ rest
   pub mine : w.mine ≡ v.mine ++ more
+  pub read : IsPrefix v.read w.read
 
 -- the request was asked by this pass, and its reply is not taken
 pub record Waits (n : ℕ) (ask : Ask) (seen : List Mark) (mine : List ℕ) : Type 0 where
@@ -27,7 +29,7 @@ pub record Waits (n : ℕ) (ask : Ask) (seen : List Mark) (mine : List ℕ) : Ty
   pub untaken : Among n (numbers takes seen) → ⊥
 
 -- the request was asked by this pass and is held, its reply is not taken
-abbrev pub IsHeld : Ask → Knowledge Mark → Type 0
+abbrev pub IsHeld : Ask → Known → Type 0
 IsHeld ask known = (n : ℕ) × Waits n ask known.seen known.mine
 
 -- A link behind a request that has a reply or none: where there is none since its client went away that is counted, and
@@ -51,13 +53,13 @@ pub record IsAnswered (shows : ℕ → Ask → Reply → List Mark → Type 0) (
   pub shown : shows reply.number ask reply front
 
 -- after a turn there is the reply, or the request still waits
-abbrev pub Stands : (ℕ → Ask → Reply → List Mark → Type 0) → ℕ → Ask → Collected → Knowledge Mark → Type 0
+abbrev pub Stands : (ℕ → Ask → Reply → List Mark → Type 0) → ℕ → Ask → Collected → Known → Type 0
 Stands shows n ask (collected.Ready reply) k = IsAnswered shows ask reply k.seen k.mine
 Stands shows n ask collected.NotYet k = Waits n ask k.seen k.mine
 Stands shows n ask collected.Gone k = ⊥
 
 -- the loop of a request that waits: whatever stood at its start stands now
-pub record Looks (shows : ℕ → Ask → Reply → List Mark → Type 0) (n : ℕ) (got : Collected) (v : Knowledge Mark) (n' : ℕ) (got' : Collected) (w : Knowledge Mark) : Type 0 where
+pub record Looks (shows : ℕ → Ask → Reply → List Mark → Type 0) (n : ℕ) (got : Collected) (v : Known) (n' : ℕ) (got' : Collected) (w : Known) : Type 0 where
   pub grows : Grows v w
   pub some : (ask : Ask) × Stands shows n' ask got' w
   pub each : (ask : Ask) → Stands shows n ask got v → Stands shows n' ask got' w

@@ -1,16 +1,18 @@
 //! The cluster as the turns use it.
 
 ghost use Rattle.std.specs.Prelude.{◌≡◌, ℕ, ◌<◌, List, IfOk, OnErr, OnOk, length};
+ghost use mathlib.Core.List.{IsPrefix};
 ghost use Rattle.cat_model.specs.declared.reply.Mark.{Mark as SpecMark};
 ghost use Rattle.cluster_rules.specs.Replies.{Out as SpecOut, Reply as SpecReply};
 ghost use Rattle.open_requests.specs.Taking.{IsNumberAt};
 ghost use Rattle.serve_loop.specs.declared.cluster.Ask.{Ask as SpecAsk};
 ghost use Rattle.serve_loop.specs.Collects.{Collects};
-ghost use Rattle.serve_loop.specs.Marks.{AddsAsked, AddsCut, AddsQuiet, AreKept, Delivers, TicksAll, TicksBy, TicksNone};
+ghost use Rattle.serve_loop.specs.Marks.{AddsAsked, AddsCut, AddsQuiet, AreKept, Delivers, TicksAll, TicksBy, TicksNone, agreed_by};
 ghost use Rattle.serve_loop.specs.Turns.{MayAsk};
 
 use cat_model::{Asked, Draw, Memory, Shared};
 use open_requests::Reply;
+use stale_view::{PairName, Viewer};
 use std::alloc::Global;
 
 /// What an agent is asked, and the words that were drawn for it.
@@ -33,6 +35,9 @@ pub enum Collected {
 /// A cluster that threads share by turns. Marks tell what has happened in it, and each call puts its own behind those
 /// that there are. Agents are numbered from 1.
 pub trait SharedCluster: Drop {
+    /// Which pair the viewers are of that it shows what is agreed.
+    type Pair: PairName;
+
     /// The marks, the first one first.
     ghost marks: { Self → List SpecMark };
 
@@ -54,6 +59,9 @@ pub trait SharedCluster: Drop {
     /// The reply to the request with this number shows what it asks for and its kind give over the log that these marks
     /// tell.
     ghost shows: { ℕ → SpecAsk → SpecReply → List SpecMark → Type 0 };
+
+    /// The stores over which it began are such that its servers agree.
+    ghost agrees: { Type 0 };
 
     /// A law, which does nothing: each number is asked at most once and answered at most once, and only what was asked
     /// is taken.
@@ -86,6 +94,13 @@ pub trait SharedCluster: Drop {
     fn collect(&mut self, number: u64) -> Collected
         ensures got { Collects shows number result (marks self.old) (marks self.new) }
         ensures idle { idle self.old → idle self.new };
+
+    /// Shows all viewers the agreed log that the marks tell, and this one reads it. After want of memory they see what they
+    /// saw, and a later call goes on. Nothing else happens.
+    fn show(&mut self, viewer: &mut Viewer<Self::Pair>) -> Result<(), Memory>
+        ensures same { self.new ≡ self.old }
+        ensures grown { IsPrefix viewer.old viewer.new }
+        ensures read { OnOk result (agrees → viewer.new ≡ agreed_by (marks self.new)) };
 
     /// How many outs wait to be taken.
     fn outs(&self) -> usize

@@ -16,6 +16,7 @@ use crate::served::Served;
 use crate::starting::start_tasks;
 use crate::timekeeping::{finish_timekeeper, start_timekeeper};
 use serve_outside::{Clock, Gate, Listener, Spawner, Words};
+use stale_view::Viewer;
 use std::alloc::Global;
 use std::sync::Wait;
 use std::thread::Threads;
@@ -24,7 +25,7 @@ use turn_lock::Pass;
 // Takes a last turn, and keeps it: the cluster as it stands then. Its marks begin with all that passes had seen that were
 // put into this one.
 fn last_turn<R: Wait, C: SharedCluster, Cl, G>(
-    server: &Server<R, Served<C>, Cl, G>,
+    server: &Server<R, Served<C>, Cl, G, Viewer<C::Pair>>,
     mut pass: Pass<Served<C>>,
 ) -> C
     requires ours { IsOurs (arc_value server.now.board) pass }
@@ -83,7 +84,7 @@ pub fn serve_all<
     W: Words,
     Sp: Spawner,
 >(
-    server: &Server<R, Served<C>, Cl, G>,
+    server: &Server<R, Served<C>, Cl, G, Viewer<C::Pair>>,
     mut pass: Pass<Served<C>>,
     listener: &mut L,
     words: &mut W,
@@ -92,11 +93,12 @@ pub fn serve_all<
 ) -> (C, Result<(), Stop>)
 where
     L::Link: Send + 'static,
+    C::Pair: Send + Sync + 'static,
     requires ours { IsOurs (arc_value server.now.board) pass }
     requires agents { (0 < server.now.agents) × (server.now.agents ≡ C.agents) }
     requires fresh { (L.given listener.old ≡ 0) × HasDrawn (W.draws words.old) 0 }
     ensures given { OnOk result.1 (L.given listener.new ≡ most_of count) }
-    ensures links { HandsBack C.shows C.agents (W.draws words.new) (λ seen. IsFront seen (C.marks result.0)) (L.closed listener.old) (L.closed listener.new) (Sp.faults spawner.old) (Sp.faults spawner.new) (L.given listener.new) result.1 }
+    ensures links { HandsBack C.shows C.agrees C.agents (W.draws words.new) (λ seen. IsFront seen (C.marks result.0)) (L.closed listener.old) (L.closed listener.new) (Sp.faults spawner.old) (Sp.faults spawner.new) (L.given listener.new) result.1 }
     ensures kept { AreKept (C.marks result.0) }
     ensures cause { IfErr result.1 (λ why. why ≡ stops.Listener → Rose (L.faults listener.old) (L.faults listener.new)) }
     ensures port { L.listens_on listener.new ≡ L.listens_on listener.old }

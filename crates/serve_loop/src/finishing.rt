@@ -7,7 +7,8 @@ ghost use Rattle.cluster_rules.specs.Sound.{IsAmong};
 ghost use Rattle.serve_outside.specs.Tasks.{IsKept, note_of};
 ghost use Rattle.serve_loop.specs.Boards.{IsOurs, known};
 ghost use Rattle.serve_loop.specs.Jobs.{AllTasks, HasEnded};
-ghost use Rattle.serve_loop.specs.Runs.{IsStarted, Joins, ServesOne, is_short};
+ghost use Rattle.serve_loop.specs.Runs.{IsStarted, Joins, ServesOne};
+ghost use Rattle.serve_loop.specs.Serving.{is_short};
 
 use crate::cause::Cause;
 use crate::cluster::SharedCluster;
@@ -15,6 +16,7 @@ use crate::job::{Finished, ServeJob};
 use crate::run::{Jobs, Server, TaskOf, give_back};
 use crate::served::Served;
 use serve_outside::{Clock, Gate, Link, Listener, NoteOf, Task, Words, finish};
+use stale_view::Viewer;
 use std::sync::Wait;
 use std::thread::{Promise, Threads};
 use turn_lock::Pass;
@@ -30,15 +32,18 @@ fn finish_task<
     Cl: Clock + Drop,
     G: Gate + Drop,
     L: Link,
->(server: &Server<R, Served<C>, Cl, G>, task: TaskOf<R, C, Cl, G, L>) -> Finished<L, Served<C>>
-    requires kept { IsKept ⟦<NoteOf<ServeJob<R, Served<C>, Cl, G, L>> as Promise<Finished<L, Served<C>>>>⟧.kept_by task }
-    ensures { HasEnded C.shows L.state (note_of task).0.value result }
+>(
+    server: &Server<R, Served<C>, Cl, G, Viewer<C::Pair>>,
+    task: TaskOf<R, C, Cl, G, L>,
+) -> Finished<L, Served<C>, Viewer<C::Pair>>
+    requires kept { IsKept ⟦<NoteOf<ServeJob<R, Served<C>, Cl, G, L, Viewer<C::Pair>>> as Promise<Finished<L, Served<C>, Viewer<C::Pair>>>>⟧.kept_by task }
+    ensures { HasEnded C.shows C.agrees L.state (note_of task).0.value result }
 {
     finish(&server.rt, task)
 }
 
 // Whether the connection ended for want of memory.
-fn lacked_memory(cause: Cause) -> bool
+pub(crate) fn lacked_memory(cause: Cause) -> bool
     ensures { result ≡ is_short cause }
 {
     match cause {
@@ -57,7 +62,7 @@ fn finish_one<
     L: Listener,
     W: Words,
 >(
-    server: &Server<R, Served<C>, Cl, G>,
+    server: &Server<R, Served<C>, Cl, G, Viewer<C::Pair>>,
     pass: &mut Pass<Served<C>>,
     listener: &mut L,
     words: &W,
@@ -66,14 +71,14 @@ fn finish_one<
 where
     L::Link: Send + 'static,
     requires ours { IsOurs (arc_value server.now.board) pass.old }
-    requires kept { IsKept ⟦<NoteOf<ServeJob<R, Served<C>, Cl, G, L::Link>> as Promise<Finished<L::Link, Served<C>>>>⟧.kept_by task }
+    requires kept { IsKept ⟦<NoteOf<ServeJob<R, Served<C>, Cl, G, L::Link, Viewer<C::Pair>>> as Promise<Finished<L::Link, Served<C>, Viewer<C::Pair>>>>⟧.kept_by task }
     requires started { IsStarted (arc_value server.now.board) C.agents (W.draws words.now) L.Link.state (note_of task).0.value }
     ensures ours { IsOurs (arc_value server.now.board) pass.new }
     ensures told { (seen : List SpecMark) → IsAmong seen (known pass.old).told → IsAmong seen (known pass.new).told }
     ensures given { L.given listener.new ≡ L.given listener.old }
     ensures faults { L.faults listener.new ≡ L.faults listener.old }
     ensures port { L.listens_on listener.new ≡ L.listens_on listener.old }
-    ensures served { ServesOne C.shows C.agents (W.draws words.now) (λ seen. IsAmong seen (known pass.new).told) (L.closed listener.old) (L.closed listener.new) result }
+    ensures served { ServesOne C.shows C.agrees C.agents (W.draws words.now) (λ seen. IsAmong seen (known pass.new).told) (L.closed listener.old) (L.closed listener.new) result }
 {
     let Finished {
         link,
@@ -111,7 +116,7 @@ fn sweep_one<
     L: Listener,
     W: Words,
 >(
-    server: &Server<R, Served<C>, Cl, G>,
+    server: &Server<R, Served<C>, Cl, G, Viewer<C::Pair>>,
     pass: &mut Pass<Served<C>>,
     listener: &mut L,
     words: &W,
@@ -120,14 +125,14 @@ fn sweep_one<
 where
     L::Link: Send + 'static,
     requires ours { IsOurs (arc_value server.now.board) pass.old }
-    requires tasks { AllTasks jobs.old.tasks.items ⟦<NoteOf<ServeJob<R, Served<C>, Cl, G, L::Link>> as Promise<Finished<L::Link, Served<C>>>>⟧.kept_by (λ p. IsStarted (arc_value server.now.board) C.agents (W.draws words.now) L.Link.state p.0.value) }
+    requires tasks { AllTasks jobs.old.tasks.items ⟦<NoteOf<ServeJob<R, Served<C>, Cl, G, L::Link, Viewer<C::Pair>>> as Promise<Finished<L::Link, Served<C>, Viewer<C::Pair>>>>⟧.kept_by (λ p. IsStarted (arc_value server.now.board) C.agents (W.draws words.now) L.Link.state p.0.value) }
     ensures ours { IsOurs (arc_value server.now.board) pass.new }
-    ensures tasks { AllTasks jobs.new.tasks.items ⟦<NoteOf<ServeJob<R, Served<C>, Cl, G, L::Link>> as Promise<Finished<L::Link, Served<C>>>>⟧.kept_by (λ p. IsStarted (arc_value server.now.board) C.agents (W.draws words.now) L.Link.state p.0.value) }
+    ensures tasks { AllTasks jobs.new.tasks.items ⟦<NoteOf<ServeJob<R, Served<C>, Cl, G, L::Link, Viewer<C::Pair>>> as Promise<Finished<L::Link, Served<C>, Viewer<C::Pair>>>>⟧.kept_by (λ p. IsStarted (arc_value server.now.board) C.agents (W.draws words.now) L.Link.state p.0.value) }
     ensures told { (seen : List SpecMark) → IsAmong seen (known pass.old).told → IsAmong seen (known pass.new).told }
     ensures given { L.given listener.new ≡ L.given listener.old }
     ensures faults { L.faults listener.new ≡ L.faults listener.old }
     ensures port { L.listens_on listener.new ≡ L.listens_on listener.old }
-    ensures joins { Joins C.shows C.agents (W.draws words.now) (λ seen. IsAmong seen (known pass.new).told) (L.closed listener.old) (L.closed listener.new) (length jobs.old.tasks.items) (length jobs.new.tasks.items) jobs.old.short jobs.new.short }
+    ensures joins { Joins C.shows C.agrees C.agents (W.draws words.now) (λ seen. IsAmong seen (known pass.new).told) (L.closed listener.old) (L.closed listener.new) (length jobs.old.tasks.items) (length jobs.new.tasks.items) jobs.old.short jobs.new.short }
 {
     let at = next_place(jobs.at, jobs.tasks.len());
     if !has_ended(&jobs.tasks, at) {
@@ -150,7 +155,7 @@ pub(crate) fn sweep<
     L: Listener,
     W: Words,
 >(
-    server: &Server<R, Served<C>, Cl, G>,
+    server: &Server<R, Served<C>, Cl, G, Viewer<C::Pair>>,
     pass: &mut Pass<Served<C>>,
     listener: &mut L,
     words: &W,
@@ -159,14 +164,14 @@ pub(crate) fn sweep<
 where
     L::Link: Send + 'static,
     requires ours { IsOurs (arc_value server.now.board) pass.old }
-    requires tasks { AllTasks jobs.old.tasks.items ⟦<NoteOf<ServeJob<R, Served<C>, Cl, G, L::Link>> as Promise<Finished<L::Link, Served<C>>>>⟧.kept_by (λ p. IsStarted (arc_value server.now.board) C.agents (W.draws words.now) L.Link.state p.0.value) }
+    requires tasks { AllTasks jobs.old.tasks.items ⟦<NoteOf<ServeJob<R, Served<C>, Cl, G, L::Link, Viewer<C::Pair>>> as Promise<Finished<L::Link, Served<C>, Viewer<C::Pair>>>>⟧.kept_by (λ p. IsStarted (arc_value server.now.board) C.agents (W.draws words.now) L.Link.state p.0.value) }
     ensures ours { IsOurs (arc_value server.now.board) pass.new }
-    ensures tasks { AllTasks jobs.new.tasks.items ⟦<NoteOf<ServeJob<R, Served<C>, Cl, G, L::Link>> as Promise<Finished<L::Link, Served<C>>>>⟧.kept_by (λ p. IsStarted (arc_value server.now.board) C.agents (W.draws words.now) L.Link.state p.0.value) }
+    ensures tasks { AllTasks jobs.new.tasks.items ⟦<NoteOf<ServeJob<R, Served<C>, Cl, G, L::Link, Viewer<C::Pair>>> as Promise<Finished<L::Link, Served<C>, Viewer<C::Pair>>>>⟧.kept_by (λ p. IsStarted (arc_value server.now.board) C.agents (W.draws words.now) L.Link.state p.0.value) }
     ensures told { (seen : List SpecMark) → IsAmong seen (known pass.old).told → IsAmong seen (known pass.new).told }
     ensures given { L.given listener.new ≡ L.given listener.old }
     ensures faults { L.faults listener.new ≡ L.faults listener.old }
     ensures port { L.listens_on listener.new ≡ L.listens_on listener.old }
-    ensures joins { Joins C.shows C.agents (W.draws words.now) (λ seen. IsAmong seen (known pass.new).told) (L.closed listener.old) (L.closed listener.new) (length jobs.old.tasks.items) (length jobs.new.tasks.items) jobs.old.short jobs.new.short }
+    ensures joins { Joins C.shows C.agrees C.agents (W.draws words.now) (λ seen. IsAmong seen (known pass.new).told) (L.closed listener.old) (L.closed listener.new) (length jobs.old.tasks.items) (length jobs.new.tasks.items) jobs.old.short jobs.new.short }
 {
     let mut left = jobs.tasks.len().min(LOOKS);
     while left > 0 {
@@ -185,7 +190,7 @@ pub(crate) fn finish_tasks<
     L: Listener,
     W: Words,
 >(
-    server: &Server<R, Served<C>, Cl, G>,
+    server: &Server<R, Served<C>, Cl, G, Viewer<C::Pair>>,
     pass: &mut Pass<Served<C>>,
     listener: &mut L,
     words: &W,
@@ -195,13 +200,13 @@ pub(crate) fn finish_tasks<
 where
     L::Link: Send + 'static,
     requires ours { IsOurs (arc_value server.now.board) pass.old }
-    requires tasks { AllTasks tasks.old.items ⟦<NoteOf<ServeJob<R, Served<C>, Cl, G, L::Link>> as Promise<Finished<L::Link, Served<C>>>>⟧.kept_by (λ p. IsStarted (arc_value server.now.board) C.agents (W.draws words.now) L.Link.state p.0.value) }
+    requires tasks { AllTasks tasks.old.items ⟦<NoteOf<ServeJob<R, Served<C>, Cl, G, L::Link, Viewer<C::Pair>>> as Promise<Finished<L::Link, Served<C>, Viewer<C::Pair>>>>⟧.kept_by (λ p. IsStarted (arc_value server.now.board) C.agents (W.draws words.now) L.Link.state p.0.value) }
     ensures ours { IsOurs (arc_value server.now.board) pass.new }
     ensures told { (seen : List SpecMark) → IsAmong seen (known pass.old).told → IsAmong seen (known pass.new).told }
     ensures given { L.given listener.new ≡ L.given listener.old }
     ensures faults { L.faults listener.new ≡ L.faults listener.old }
     ensures port { L.listens_on listener.new ≡ L.listens_on listener.old }
-    ensures joins { Joins C.shows C.agents (W.draws words.now) (λ seen. IsAmong seen (known pass.new).told) (L.closed listener.old) (L.closed listener.new) (length tasks.old.items) 0 before result }
+    ensures joins { Joins C.shows C.agrees C.agents (W.draws words.now) (λ seen. IsAmong seen (known pass.new).told) (L.closed listener.old) (L.closed listener.new) (length tasks.old.items) 0 before result }
 {
     let mut short = before;
     while let Some(task) = tasks.pop() {

@@ -14,6 +14,7 @@ mod serving;
 mod starting;
 mod timekeeping;
 mod turning;
+mod viewing;
 mod writing;
 
 pub use cause::Cause;

@@ -9,6 +9,7 @@ use crate::job::{Finished, ServeJob};
 use crate::served::Served;
 use crate::serving::Board;
 use serve_outside::{NoteOf, Task};
+use stale_view::Viewer;
 use std::alloc::Global;
 use std::sync::Arc;
 use turn_lock::{History, Pass};
@@ -24,8 +25,8 @@ pub enum Stop {
 
 // A connection's task.
 pub(crate) type TaskOf<R, C, Cl, G, L> = Task<
-    NoteOf<ServeJob<R, Served<C>, Cl, G, L>>,
-    Finished<L, Served<C>>,
+    NoteOf<ServeJob<R, Served<C>, Cl, G, L, Viewer<<C as SharedCluster>::Pair>>>,
+    Finished<L, Served<C>, Viewer<<C as SharedCluster>::Pair>>,
 >;
 
 /// The jobs of a run that are not joined yet.
@@ -40,7 +41,7 @@ pub(crate) struct Jobs<T> {
 
 /// What all connections of a run share.
 #[derive(Drop)]
-pub struct Server<R, S: History, Cl, G> {
+pub struct Server<R, S: History, Cl, G, V> {
     pub rt: R,
     pub alloc: Global,
     pub board: Arc<Board<S>, Global>,
@@ -48,11 +49,13 @@ pub struct Server<R, S: History, Cl, G> {
     pub gate: Arc<G, Global>,
     /// How many agents there are.
     pub agents: u32,
+    /// The viewer from which all others are split.
+    pub viewer: V,
 }
 
 // Puts a pass back.
 pub(crate) fn give_back<R, C: SharedCluster, Cl, G>(
-    server: &Server<R, Served<C>, Cl, G>,
+    server: &Server<R, Served<C>, Cl, G, Viewer<C::Pair>>,
     pass: &mut Pass<Served<C>>,
     other: Pass<Served<C>>,
 )

@@ -1,14 +1,16 @@
 //! What the turns lend: a cluster, and the time up to which its clocks have gone on.
 
-ghost use Rattle.std.specs.Prelude.{◌<◌, MatchResult, OnOk};
+ghost use Rattle.std.specs.Prelude.{◌≡◌, ◌<◌, IfOk, MatchResult, OnErr, OnOk};
 ghost use Rattle.std.specs.Option.{ForSome};
+ghost use mathlib.Core.List.{IsPrefix};
 ghost use Rattle.serve_loop.specs.Collects.{Collects};
-ghost use Rattle.serve_loop.specs.Marks.{AddsCut, AddsQuiet, AreKept, TicksAll, opens, takes};
+ghost use Rattle.serve_loop.specs.Marks.{AddsCut, AddsQuiet, AreKept, TicksAll, agreed_by, opens, takes};
 ghost use Rattle.serve_loop.specs.Turns.{Asks, Exchanges, GoesOn, Makes, MayAsk, Readies, Settles, StandsStill, Turns, passed};
 
 use crate::cluster::{Ask, Collected, SharedCluster};
 use cat_model::{Mark, Memory};
 use serve_outside::Gate;
+use stale_view::Viewer;
 use std::alloc::Global;
 use turn_lock::History;
 
@@ -146,8 +148,32 @@ impl<C: SharedCluster> Served<C> {
         }
     }
 
-    // Makes the ask and settles the messages, wakes the other requests whose outs are new since there were so many, and
-    // then collects.
+    // Shows viewers what is agreed, and then collects.
+    fn show_and_collect<G: Gate>(
+        &mut self,
+        gate: &G,
+        number: u64,
+        viewer: &mut Viewer<C::Pair>,
+    ) -> Result<Turned, Memory>
+        ensures got { IfOk result (λ t. (t.number ≡ number) × Collects C.shows number t.got (C.marks self.old.cluster) (C.marks self.new.cluster)) }
+        ensures none { OnErr result (C.marks self.new.cluster ≡ C.marks self.old.cluster) }
+        ensures still { StandsStill self.old.last_ms self.new.last_ms (C.marks self.old.cluster) (C.marks self.new.cluster) }
+        ensures idle { C.idle self.old.cluster → C.idle self.new.cluster }
+        ensures viewed { IsPrefix viewer.old viewer.new }
+        ensures read { OnOk result (C.agrees → viewer.new ≡ agreed_by (C.marks self.new.cluster)) }
+    {
+        match self.cluster.show(viewer) {
+            Ok(()) => {
+                let got = self.collect(number);
+                let rings = gate.rings(number);
+                Ok(Turned { number, got, rings })
+            }
+            Err(Memory) => Err(Memory),
+        }
+    }
+
+    // Makes the ask and settles the messages, wakes the other requests whose outs are new since there were so many, shows
+    // viewers what is agreed, and then collects.
     fn exchange<G: Gate>(
         &mut self,
         alloc: Global,
@@ -155,19 +181,20 @@ impl<C: SharedCluster> Served<C> {
         outs: usize,
         ask: Option<Ask>,
         number: u64,
+        viewer: &mut Viewer<C::Pair>,
     ) -> Result<Turned, Memory>
         requires { ForSome ask (MayAsk C.agents) }
         ensures exchanged { MatchResult result
             (λ t. Exchanges C.marks C.idle C.shows ask number t self.old.cluster self.new.cluster)
             (λ _. AddsCut (C.marks self.old.cluster) (C.marks self.new.cluster)) }
         ensures still { StandsStill self.old.last_ms self.new.last_ms (C.marks self.old.cluster) (C.marks self.new.cluster) }
+        ensures viewed { IsPrefix viewer.old viewer.new }
+        ensures read { OnOk result (C.agrees → viewer.new ≡ agreed_by (C.marks self.new.cluster)) }
     {
         match self.ask_and_settle(alloc, ask, number) {
             Ok(number) => {
                 self.wake_others(gate, outs, number);
-                let got = self.collect(number);
-                let rings = gate.rings(number);
-                Ok(Turned { number, got, rings })
+                self.show_and_collect(gate, number, viewer)
             }
             Err(Memory) => {
                 self.wake_others(gate, outs, number);
@@ -184,16 +211,19 @@ impl<C: SharedCluster> Served<C> {
         gate: &G,
         ask: Option<Ask>,
         number: u64,
+        viewer: &mut Viewer<C::Pair>,
     ) -> Result<Turned, Memory>
         requires { ForSome ask (MayAsk C.agents) }
         ensures turned { MatchResult result
             (λ t. Turns C.marks C.idle C.servers C.clock C.shows self.old.last_ms now ask number t self.old.cluster self.new.cluster)
             (λ _. AddsCut (C.marks self.old.cluster) (C.marks self.new.cluster)) }
         ensures time { GoesOn self.old.last_ms self.new.last_ms now (C.marks self.old.cluster) (C.marks self.new.cluster) }
+        ensures viewed { IsPrefix viewer.old viewer.new }
+        ensures read { OnOk result (C.agrees → viewer.new ≡ agreed_by (C.marks self.new.cluster)) }
     {
         let outs = self.cluster.outs();
         match self.ready(alloc, now) {
-            Ok(()) => self.exchange(alloc, gate, outs, ask, number),
+            Ok(()) => self.exchange(alloc, gate, outs, ask, number, viewer),
             Err(Memory) => {
                 drop(ask);
                 self.wake_others(gate, outs, number);
@@ -203,8 +233,8 @@ impl<C: SharedCluster> Served<C> {
     }
 
     /// The clocks go on by the time since the last turn, and what that brings is settled. Then the request is asked, if
-    /// there is one, and settled, and that request is collected, else the one with this number. Each other request that
-    /// was answered meanwhile is woken.
+    /// there is one, and settled, viewers are shown what is agreed by now, and that request is collected, else the one with
+    /// this number. Each other request that was answered meanwhile is woken.
     pub fn turn<G: Gate>(
         &mut self,
         alloc: Global,
@@ -212,6 +242,7 @@ impl<C: SharedCluster> Served<C> {
         gate: &G,
         ask: Option<Ask>,
         number: u64,
+        viewer: &mut Viewer<C::Pair>,
     ) -> Result<Turned, Memory>
         requires { ForSome ask (MayAsk C.agents) }
         ensures turned { MatchResult result
@@ -220,26 +251,67 @@ impl<C: SharedCluster> Served<C> {
         ensures time { GoesOn self.old.last_ms self.new.last_ms now (C.marks self.old.cluster) (C.marks self.new.cluster) }
         ensures before { AreKept (C.marks self.old.cluster) }
         ensures after { AreKept (C.marks self.new.cluster) }
+        ensures viewed { IsPrefix viewer.old viewer.new }
+        ensures read { OnOk result (C.agrees → viewer.new ≡ agreed_by (C.marks self.new.cluster)) }
     {
         self.cluster.kept();
-        let turned = self.try_turn(alloc, now, gate, ask, number);
+        let turned = self.try_turn(alloc, now, gate, ask, number, viewer);
         self.cluster.kept();
         turned
     }
 
+    // Lets the clocks go on to this time, settles what that brings, and shows viewers what is agreed.
+    fn ready_and_show(
+        &mut self,
+        alloc: Global,
+        now: u64,
+        viewer: &mut Viewer<C::Pair>,
+    ) -> Result<(), Memory>
+        ensures quiet { AddsQuiet (C.marks self.old.cluster) (C.marks self.new.cluster) }
+        ensures time { GoesOn self.old.last_ms self.new.last_ms now (C.marks self.old.cluster) (C.marks self.new.cluster) }
+        ensures readied { OnOk result (Readies C.marks C.idle C.servers C.clock self.old.last_ms now self.old.cluster self.new.cluster) }
+        ensures viewed { IsPrefix viewer.old viewer.new }
+        ensures read { OnOk result (C.agrees → viewer.new ≡ agreed_by (C.marks self.new.cluster)) }
+    {
+        match self.ready(alloc, now) {
+            Ok(()) => self.cluster.show(viewer),
+            Err(Memory) => Err(Memory),
+        }
+    }
+
     /// A turn that asks and collects nothing: the clocks go on by the time since the last turn, what that brings is
-    /// settled, and each request that was answered is woken.
-    pub fn keep_time<G: Gate>(&mut self, alloc: Global, now: u64, gate: &G) -> Result<(), Memory>
+    /// settled, viewers are shown what is agreed by now, and each request that was answered is woken.
+    pub fn keep_time<G: Gate>(
+        &mut self,
+        alloc: Global,
+        now: u64,
+        gate: &G,
+        viewer: &mut Viewer<C::Pair>,
+    ) -> Result<(), Memory>
         ensures quiet { AddsQuiet (C.marks self.old.cluster) (C.marks self.new.cluster) }
         ensures time { GoesOn self.old.last_ms self.new.last_ms now (C.marks self.old.cluster) (C.marks self.new.cluster) }
         ensures readied { OnOk result (Readies C.marks C.idle C.servers C.clock self.old.last_ms now self.old.cluster self.new.cluster) }
         ensures after { AreKept (C.marks self.new.cluster) }
+        ensures viewed { IsPrefix viewer.old viewer.new }
+        ensures read { OnOk result (C.agrees → viewer.new ≡ agreed_by (C.marks self.new.cluster)) }
     {
         let outs = self.cluster.outs();
-        let readied = self.ready(alloc, now);
+        let readied = self.ready_and_show(alloc, now, viewer);
         self.wake_others(gate, outs, NOBODY);
         self.cluster.kept();
         readied
+    }
+
+    /// Shows viewers what is agreed. Nothing else happens.
+    pub fn show(&mut self, viewer: &mut Viewer<C::Pair>) -> Result<(), Memory>
+        ensures same { self.new ≡ self.old }
+        ensures kept { AreKept (C.marks self.new.cluster) }
+        ensures viewed { IsPrefix viewer.old viewer.new }
+        ensures read { OnOk result (C.agrees → viewer.new ≡ agreed_by (C.marks self.new.cluster)) }
+    {
+        let shown = self.cluster.show(viewer);
+        self.cluster.kept();
+        shown
     }
 
     /// A law, which does nothing.

@@ -1,8 +1,6 @@
 //! A connection, from its first byte to its end.
 
 ghost use Rattle.std.specs.Prelude.{◌≡◌, ◌+◌, ◌<◌, ◌≤◌, [], ℕ, List, IfErr, IfOk, MatchResult, OnOk, drop, false, true, length, option_map, take};
-ghost use Rattle.cat_model.specs.declared.reply.Mark.{Mark};
-ghost use Rattle.turn_lock.specs.declared.knowledge.Knowledge.{Knowledge};
 ghost use Rattle.std.specs.Arc.{arc_value};
 ghost use Rattle.cat_model.specs.declared.request.Asked.TheVariants.{Good};
 ghost use Rattle.cat_model.specs.Taken.{IsTakenAsked};
@@ -11,20 +9,22 @@ ghost use Rattle.http_routes.specs.Filters.{filter_at};
 ghost use Rattle.http_wire.specs.Reader.{raw};
 ghost use Rattle.http_wire.specs.Stream.{go_on, whole};
 ghost use Rattle.serve_outside.specs.Links.{Reads};
-ghost use Rattle.serve_loop.specs.Boards.{IsOurs, known};
+ghost use Rattle.serve_loop.specs.Boards.{IsOurs};
+ghost use Rattle.serve_loop.specs.Knowing.{Known, known_by};
 ghost use Rattle.serve_loop.specs.Services.{connection, stage};
-ghost use Rattle.serve_loop.specs.Serving.{EndsBy, IsReply, IsReplyTo, IsResponse, IsUnanswered, asked_by, draw_of};
+ghost use Rattle.serve_loop.specs.Serving.{EndsBy, IsReply, IsReplyTo, IsUnanswered, asked_by, draw_of};
 ghost use Rattle.serve_loop.specs.Stages.{Comes, GoesOn, IsTaking, Owes, OwesRefusal, Talks};
 ghost use Rattle.serve_loop.specs.Waiting.{Grows, IsAfterAsk};
 ghost use Rattle.serve_loop.specs.declared.cause.Cause.TheVariants as cause;
 ghost use Rattle.serve_loop.specs.declared.turning.NoReply.TheVariants as no_reply;
-ghost use Rattle.serve_loop.specs.Replies.{refusing as spec_refusing};
+ghost use Rattle.serve_loop.specs.Replies.{is_viewed as is_viewed_spec, refusing as spec_refusing};
 
 use crate::cause::Cause;
 use crate::cluster::{Ask, SharedCluster};
 use crate::replies::{Response, refusing};
 use crate::served::Served;
 use crate::turning::{NoReply, ask_and_wait};
+use crate::viewing::{is_viewed, view};
 use crate::writing::{send_answer, send_continue, send_refusal};
 use cat_model::{Asked, Draw, Memory, Refusal, Request, Shared};
 use cat_outside::Failed;
@@ -34,6 +34,7 @@ use http_routes::{Routed, Routes};
 use http_wire::{Fed, Got, RawRequest, Rejection, RequestReader};
 use open_requests::Reply;
 use serve_outside::{Awaited, Clock, Gate, Link};
+use stale_view::Viewer;
 use std::alloc::Global;
 use std::snapshot::Snapshot;
 use std::sync::{Arc, Wait};
@@ -46,9 +47,9 @@ pub type Board<S> = CachePadded<HistoryLock<S>>;
 const ROOM: usize = 4096;
 
 /// What serves a connection: the board of turns, a clock and a gate, the agent that is asked and the connection's draw,
-/// and the link and the pass as they were at first.
+/// and the link, the pass and the viewer as they were at first.
 #[derive(Drop)]
-pub struct Service<R, S: History, Cl, G, L> {
+pub struct Service<R, S: History, Cl, G, L, V> {
     pub rt: R,
     pub alloc: Global,
     pub board: Arc<Board<S>, Global>,
@@ -58,14 +59,16 @@ pub struct Service<R, S: History, Cl, G, L> {
     pub draw: Draw,
     pub first: Snapshot<L>,
     pub begun: Snapshot<Pass<S>>,
+    pub read: Snapshot<V>,
 }
 
 /// A connection that is served, and how many requests were answered on it.
 #[derive(Drop)]
-pub struct Serving<L, S: History> {
+pub struct Serving<L, S: History, V> {
     pub link: L,
     pub reader: RequestReader,
     pub pass: Pass<S>,
+    pub viewer: V,
     pub requests: u64,
 }
 
@@ -106,7 +109,7 @@ fn ends_here(close: bool) -> Result<(), Cause>
 
 // What the n-th request asks of its agent.
 fn asking<R, C: SharedCluster, Cl, G, L>(
-    service: &Service<R, Served<C>, Cl, G, L>,
+    service: &Service<R, Served<C>, Cl, G, L, Viewer<C::Pair>>,
     request: Request,
     n: u64,
 ) -> Result<Ask, Memory>
@@ -121,8 +124,9 @@ fn asking<R, C: SharedCluster, Cl, G, L>(
 
 // The reply to the n-th request, which asks for this. The link is asked whether its client is still there.
 fn ask<R: Wait, C: SharedCluster, Cl: Clock, G: Gate, L: Link>(
-    service: &Service<R, Served<C>, Cl, G, L>,
+    service: &Service<R, Served<C>, Cl, G, L, Viewer<C::Pair>>,
     pass: &mut Pass<Served<C>>,
+    viewer: &mut Viewer<C::Pair>,
     link: &mut L,
     request: Request,
     n: u64,
@@ -130,11 +134,12 @@ fn ask<R: Wait, C: SharedCluster, Cl: Clock, G: Gate, L: Link>(
     requires ours { IsOurs (arc_value service.now.board) pass.old }
     requires agent { (0 < service.now.agent) × (service.now.agent ≤ C.agents) }
     requires taken { IsTakenAsked (Good request) }
+    requires unviewed { is_viewed_spec request ≡ false }
     ensures ours { IsOurs (arc_value service.now.board) pass.new }
-    ensures grown { Grows (known pass.old) (known pass.new) }
+    ensures grown { Grows (known_by pass.old viewer.old) (known_by pass.new viewer.new) }
     ensures link { IsAfterAsk result (L.state link.old) (L.state link.new) }
-    ensures reply { IfOk result (IsReplyTo C.shows (connection L.state service.now) request n (known pass.new)) }
-    ensures left { IfErr result (λ why. why ≡ no_reply.Left → IsUnanswered C.shows (connection L.state service.now) (Good request) n (known pass.new)) }
+    ensures reply { IfOk result (IsReplyTo C.shows C.agrees (connection L.state service.now) request n (known_by pass.new viewer.new)) }
+    ensures left { IfErr result (λ why. why ≡ no_reply.Left → IsUnanswered C.shows C.agrees (connection L.state service.now) (Good request) n (known_by pass.new viewer.new)) }
 {
     match asking(service, request, n) {
         Ok(ask) => {
@@ -144,6 +149,7 @@ fn ask<R: Wait, C: SharedCluster, Cl: Clock, G: Gate, L: Link>(
                 service.alloc,
                 lock,
                 pass,
+                viewer,
                 &service.clock,
                 &*service.gate,
                 link,
@@ -165,10 +171,37 @@ fn refused(why: Refusal) -> Result<Reply, NoReply>
     }
 }
 
+// The reply to the n-th request: from the viewer, or from the cluster.
+fn reply_by<R: Wait, C: SharedCluster, Cl: Clock, G: Gate, L: Link>(
+    service: &Service<R, Served<C>, Cl, G, L, Viewer<C::Pair>>,
+    pass: &mut Pass<Served<C>>,
+    viewer: &mut Viewer<C::Pair>,
+    link: &mut L,
+    request: Request,
+    n: u64,
+) -> Result<Reply, NoReply>
+    requires ours { IsOurs (arc_value service.now.board) pass.old }
+    requires agent { (0 < service.now.agent) × (service.now.agent ≤ C.agents) }
+    requires taken { IsTakenAsked (Good request) }
+    ensures ours { IsOurs (arc_value service.now.board) pass.new }
+    ensures grown { Grows (known_by pass.old viewer.old) (known_by pass.new viewer.new) }
+    ensures link { IsAfterAsk result (L.state link.old) (L.state link.new) }
+    ensures reply { IfOk result (λ reply. IsReply C.shows C.agrees (connection L.state service.now) (Good request) n reply (known_by pass.new viewer.new)) }
+    ensures left { IfErr result (λ why. why ≡ no_reply.Left → IsUnanswered C.shows C.agrees (connection L.state service.now) (Good request) n (known_by pass.new viewer.new)) }
+{
+    if !is_viewed(&request) {
+        return ask(service, pass, viewer, link, request, n);
+    }
+    let seen = view(&service.rt, service.alloc, viewer, &request);
+    drop(request);
+    seen
+}
+
 // The reply to the n-th request, as it was routed.
 fn respond<R: Wait, C: SharedCluster, Cl: Clock, G: Gate, L: Link>(
-    service: &Service<R, Served<C>, Cl, G, L>,
+    service: &Service<R, Served<C>, Cl, G, L, Viewer<C::Pair>>,
     pass: &mut Pass<Served<C>>,
+    viewer: &mut Viewer<C::Pair>,
     link: &mut L,
     asked: Asked,
     n: u64,
@@ -177,13 +210,13 @@ fn respond<R: Wait, C: SharedCluster, Cl: Clock, G: Gate, L: Link>(
     requires agent { (0 < service.now.agent) × (service.now.agent ≤ C.agents) }
     requires taken { IsTakenAsked asked }
     ensures ours { IsOurs (arc_value service.now.board) pass.new }
-    ensures grown { Grows (known pass.old) (known pass.new) }
+    ensures grown { Grows (known_by pass.old viewer.old) (known_by pass.new viewer.new) }
     ensures link { IsAfterAsk result (L.state link.old) (L.state link.new) }
-    ensures reply { IfOk result (IsResponse C.shows (connection L.state service.now) asked n (known pass.new)) }
-    ensures left { IfErr result (λ why. why ≡ no_reply.Left → IsUnanswered C.shows (connection L.state service.now) asked n (known pass.new)) }
+    ensures reply { IfOk result (λ reply. IsReply C.shows C.agrees (connection L.state service.now) asked n reply (known_by pass.new viewer.new)) }
+    ensures left { IfErr result (λ why. why ≡ no_reply.Left → IsUnanswered C.shows C.agrees (connection L.state service.now) asked n (known_by pass.new viewer.new)) }
 {
     match asked {
-        Asked::Good(request) => ask(service, pass, link, request, n),
+        Asked::Good(request) => reply_by(service, pass, viewer, link, request, n),
         Asked::Bad(why) => refused(why),
     }
 }
@@ -205,9 +238,10 @@ fn routed(alloc: Global, routes: &Routes, message: &RawRequest) -> Result<Routed
 
 // The reply to the n-th request, with its filter.
 fn reply_to<R: Wait, C: SharedCluster, Cl: Clock, G: Gate, L: Link>(
-    service: &Service<R, Served<C>, Cl, G, L>,
+    service: &Service<R, Served<C>, Cl, G, L, Viewer<C::Pair>>,
     routes: &Routes,
     pass: &mut Pass<Served<C>>,
+    viewer: &mut Viewer<C::Pair>,
     link: &mut L,
     message: &RawRequest,
     n: u64,
@@ -215,14 +249,14 @@ fn reply_to<R: Wait, C: SharedCluster, Cl: Clock, G: Gate, L: Link>(
     requires ours { IsOurs (arc_value service.now.board) pass.old }
     requires agent { (0 < service.now.agent) × (service.now.agent ≤ C.agents) }
     ensures ours { IsOurs (arc_value service.now.board) pass.new }
-    ensures grown { Grows (known pass.old) (known pass.new) }
+    ensures grown { Grows (known_by pass.old viewer.old) (known_by pass.new viewer.new) }
     ensures link { IsAfterAsk result (L.state link.old) (L.state link.new) }
-    ensures reply { IfOk result (λ r. IsReply C.shows (connection L.state service.now) (raw message.now) n r.reply (known pass.new)) }
+    ensures reply { IfOk result (λ r. IsReply C.shows C.agrees (connection L.state service.now) (asked_by (raw message.now)) n r.reply (known_by pass.new viewer.new)) }
     ensures filter { IfOk result (λ r. option_map expression_of r.filter ≡ filter_at (raw message.now).target) }
-    ensures left { IfErr result (λ why. why ≡ no_reply.Left → IsUnanswered C.shows (connection L.state service.now) (asked_by (raw message.now)) n (known pass.new)) }
+    ensures left { IfErr result (λ why. why ≡ no_reply.Left → IsUnanswered C.shows C.agrees (connection L.state service.now) (asked_by (raw message.now)) n (known_by pass.new viewer.new)) }
 {
     match routed(service.alloc, routes, message) {
-        Ok(Routed { asked, filter }) => match respond(service, pass, link, asked, n) {
+        Ok(Routed { asked, filter }) => match respond(service, pass, viewer, link, asked, n) {
             Ok(reply) => Ok(Response { reply, filter }),
             Err(why) => Err(why),
         },
@@ -230,12 +264,15 @@ fn reply_to<R: Wait, C: SharedCluster, Cl: Clock, G: Gate, L: Link>(
     }
 }
 
-impl<L: Link, C: SharedCluster> Serving<L, Served<C>> {
+impl<L: Link, C: SharedCluster> Serving<L, Served<C>, Viewer<C::Pair>> {
     // Writes that the client may go on with the body of its request.
-    fn go_on<R, Cl, G>(&mut self, service: &Service<R, Served<C>, Cl, G, L>) -> Result<(), Cause>
+    fn go_on<R, Cl, G>(
+        &mut self,
+        service: &Service<R, Served<C>, Cl, G, L, Viewer<C::Pair>>,
+    ) -> Result<(), Cause>
         requires unshut { (L.state self.old.link).shut ≡ false }
-        ensures pass { self.new.pass ≡ self.old.pass }
-        ensures goes_on { (rest : List ℕ) → Owes C.shows (connection L.state service.now) (stage L.state self.old) rest go_on → GoesOn C.shows (connection L.state service.now) result (stage L.state self.new) rest }
+        ensures pass { (self.new.pass ≡ self.old.pass) × (self.new.viewer ≡ self.old.viewer) }
+        ensures goes_on { (rest : List ℕ) → Owes C.shows C.agrees (connection L.state service.now) (stage L.state self.old) rest go_on → GoesOn C.shows C.agrees (connection L.state service.now) result (stage L.state self.new) rest }
     {
         send_continue(&mut self.link, service.alloc)
     }
@@ -243,7 +280,7 @@ impl<L: Link, C: SharedCluster> Serving<L, Served<C>> {
     // Writes the reply to the n-th request.
     fn give<R, Cl, G>(
         &mut self,
-        service: &Service<R, Served<C>, Cl, G, L>,
+        service: &Service<R, Served<C>, Cl, G, L, Viewer<C::Pair>>,
         message: &RawRequest,
         response: &Response,
         n: u64,
@@ -251,10 +288,10 @@ impl<L: Link, C: SharedCluster> Serving<L, Served<C>> {
         requires next { n ≡ self.old.requests + 1 }
         requires unshut { (L.state self.old.link).shut ≡ false }
         requires filter { option_map expression_of response.now.filter ≡ filter_at (raw message.now).target }
-        ensures pass { self.new.pass ≡ self.old.pass }
-        ensures gives { (before : Knowledge Mark) (rest : List ℕ) → Owes C.shows (connection L.state service.now) (record (stage L.state self.old) { known = before }) rest (whole (raw message.now)) → Grows before (known self.old.pass)
-            → IsReply C.shows (connection L.state service.now) (raw message.now) n response.now.reply (known self.old.pass)
-            → GoesOn C.shows (connection L.state service.now) result (stage L.state self.new) rest }
+        ensures pass { (self.new.pass ≡ self.old.pass) × (self.new.viewer ≡ self.old.viewer) }
+        ensures gives { (before : Known) (rest : List ℕ) → Owes C.shows C.agrees (connection L.state service.now) (record (stage L.state self.old) { known = before }) rest (whole (raw message.now)) → Grows before (known_by self.old.pass self.old.viewer)
+            → IsReply C.shows C.agrees (connection L.state service.now) (asked_by (raw message.now)) n response.now.reply (known_by self.old.pass self.old.viewer)
+            → GoesOn C.shows C.agrees (connection L.state service.now) result (stage L.state self.new) rest }
     {
         match send_answer(&mut self.link, service.alloc, message, response) {
             Ok(()) => {
@@ -268,13 +305,13 @@ impl<L: Link, C: SharedCluster> Serving<L, Served<C>> {
     // Writes the reply to bytes that are refused, behind which nothing comes.
     fn refuse<R, Cl, G>(
         &mut self,
-        service: &Service<R, Served<C>, Cl, G, L>,
+        service: &Service<R, Served<C>, Cl, G, L, Viewer<C::Pair>>,
         why: Rejection,
     ) -> Cause
         requires unshut { (L.state self.old.link).shut ≡ false }
-        ensures pass { self.new.pass ≡ self.old.pass }
-        ensures ends { OwesRefusal C.shows (connection L.state service.now) (L.state self.old.link) (known self.old.pass) self.old.requests why
-            → EndsBy C.shows (connection L.state service.now) result (L.state self.new.link) (known self.new.pass) self.new.requests }
+        ensures pass { (self.new.pass ≡ self.old.pass) × (self.new.viewer ≡ self.old.viewer) }
+        ensures ends { OwesRefusal C.shows C.agrees (connection L.state service.now) (L.state self.old.link) (known_by self.old.pass self.old.viewer) self.old.requests why
+            → EndsBy C.shows C.agrees (connection L.state service.now) result (L.state self.new.link) (known_by self.new.pass self.new.viewer) self.new.requests }
     {
         match send_refusal(&mut self.link, service.alloc, why) {
             Ok(()) => Cause::Refused(why),
@@ -285,7 +322,7 @@ impl<L: Link, C: SharedCluster> Serving<L, Served<C>> {
     // Answers a request.
     fn answer<R: Wait, Cl: Clock, G: Gate>(
         &mut self,
-        service: &Service<R, Served<C>, Cl, G, L>,
+        service: &Service<R, Served<C>, Cl, G, L, Viewer<C::Pair>>,
         routes: &Routes,
         message: &RawRequest,
     ) -> Result<(), Cause>
@@ -293,12 +330,20 @@ impl<L: Link, C: SharedCluster> Serving<L, Served<C>> {
         requires agent { (0 < service.now.agent) × (service.now.agent ≤ C.agents) }
         requires unshut { (L.state self.old.link).shut ≡ false }
         ensures ours { IsOurs (arc_value service.now.board) self.new.pass }
-        ensures goes_on { (rest : List ℕ) → Owes C.shows (connection L.state service.now) (stage L.state self.old) rest (whole (raw message.now)) → GoesOn C.shows (connection L.state service.now) result (stage L.state self.new) rest }
+        ensures goes_on { (rest : List ℕ) → Owes C.shows C.agrees (connection L.state service.now) (stage L.state self.old) rest (whole (raw message.now)) → GoesOn C.shows C.agrees (connection L.state service.now) result (stage L.state self.new) rest }
     {
         let Some(n) = self.requests.checked_add(1) else {
             return Err(Cause::Memory);
         };
-        match reply_to(service, routes, &mut self.pass, &mut self.link, message, n) {
+        match reply_to(
+            service,
+            routes,
+            &mut self.pass,
+            &mut self.viewer,
+            &mut self.link,
+            message,
+            n,
+        ) {
             Ok(response) => {
                 let given = self.give(service, message, &response, n);
                 drop(response);
@@ -312,7 +357,7 @@ impl<L: Link, C: SharedCluster> Serving<L, Served<C>> {
     // Does what the reader asks for.
     fn handle<R: Wait, Cl: Clock, G: Gate>(
         &mut self,
-        service: &Service<R, Served<C>, Cl, G, L>,
+        service: &Service<R, Served<C>, Cl, G, L, Viewer<C::Pair>>,
         routes: &Routes,
         got: Got,
     ) -> Result<(), Cause>
@@ -320,7 +365,7 @@ impl<L: Link, C: SharedCluster> Serving<L, Served<C>> {
         requires agent { (0 < service.now.agent) × (service.now.agent ≤ C.agents) }
         requires unshut { (L.state self.old.link).shut ≡ false }
         ensures ours { IsOurs (arc_value service.now.board) self.new.pass }
-        ensures goes_on { (rest : List ℕ) → Comes C.shows (connection L.state service.now) (stage L.state self.old) rest got → GoesOn C.shows (connection L.state service.now) result (stage L.state self.new) rest }
+        ensures goes_on { (rest : List ℕ) → Comes C.shows C.agrees (connection L.state service.now) (stage L.state self.old) rest got → GoesOn C.shows C.agrees (connection L.state service.now) result (stage L.state self.new) rest }
         ensures taking { OnOk result (IsTaking got) }
     {
         match got {
@@ -339,19 +384,19 @@ impl<L: Link, C: SharedCluster> Serving<L, Served<C>> {
     // Takes the first bytes of a piece that is not empty, and says how many.
     fn take_some<R: Wait, Cl: Clock, G: Gate>(
         &mut self,
-        service: &Service<R, Served<C>, Cl, G, L>,
+        service: &Service<R, Served<C>, Cl, G, L, Viewer<C::Pair>>,
         routes: &Routes,
         piece: &[u8],
     ) -> Result<usize, Cause>
         requires some { 0 < length piece.now }
         requires ours { IsOurs (arc_value service.now.board) self.old.pass }
         requires agent { (0 < service.now.agent) × (service.now.agent ≤ C.agents) }
-        requires talks { Talks C.shows (connection L.state service.now) (stage L.state self.old) piece.now }
+        requires talks { Talks C.shows C.agrees (connection L.state service.now) (stage L.state self.old) piece.now }
         ensures ours { IsOurs (arc_value service.now.board) self.new.pass }
         ensures used { IfOk result (λ used. (0 < used) × (used ≤ length piece.now)) }
         ensures goes_on { MatchResult result
-            (λ used. Talks C.shows (connection L.state service.now) (stage L.state self.new) (drop used piece.now))
-            (λ why. EndsBy C.shows (connection L.state service.now) why (L.state self.new.link) (known self.new.pass) self.new.requests) }
+            (λ used. Talks C.shows C.agrees (connection L.state service.now) (stage L.state self.new) (drop used piece.now))
+            (λ why. EndsBy C.shows C.agrees (connection L.state service.now) why (L.state self.new.link) (known_by self.new.pass self.new.viewer) self.new.requests) }
     {
         let Fed { used, got } = self.reader.feed(piece);
         match self.handle(service, routes, got) {
@@ -363,15 +408,15 @@ impl<L: Link, C: SharedCluster> Serving<L, Served<C>> {
     // Takes a whole piece that was read.
     fn take_piece<R: Wait, Cl: Clock, G: Gate>(
         &mut self,
-        service: &Service<R, Served<C>, Cl, G, L>,
+        service: &Service<R, Served<C>, Cl, G, L, Viewer<C::Pair>>,
         routes: &Routes,
         piece: &[u8],
     ) -> Result<(), Cause>
         requires ours { IsOurs (arc_value service.now.board) self.old.pass }
         requires agent { (0 < service.now.agent) × (service.now.agent ≤ C.agents) }
-        requires talks { Talks C.shows (connection L.state service.now) (stage L.state self.old) piece.now }
+        requires talks { Talks C.shows C.agrees (connection L.state service.now) (stage L.state self.old) piece.now }
         ensures ours { IsOurs (arc_value service.now.board) self.new.pass }
-        ensures goes_on { GoesOn C.shows (connection L.state service.now) result (stage L.state self.new) [] }
+        ensures goes_on { GoesOn C.shows C.agrees (connection L.state service.now) result (stage L.state self.new) [] }
     {
         let mut done = 0;
         while done < piece.len() {
@@ -386,17 +431,17 @@ impl<L: Link, C: SharedCluster> Serving<L, Served<C>> {
     // Reads the next bytes, and says how many.
     fn read_some<R, Cl, G>(
         &mut self,
-        service: &Service<R, Served<C>, Cl, G, L>,
+        service: &Service<R, Served<C>, Cl, G, L, Viewer<C::Pair>>,
         buffer: &mut [u8],
     ) -> Result<usize, Cause>
         requires room { 0 < length buffer.old }
-        requires talks { Talks C.shows (connection L.state service.now) (stage L.state self.old) [] }
+        requires talks { Talks C.shows C.agrees (connection L.state service.now) (stage L.state self.old) [] }
         ensures most { IfOk result (λ n. n ≤ length buffer.new) }
         ensures room { length buffer.new ≡ length buffer.old }
-        ensures pass { self.new.pass ≡ self.old.pass }
+        ensures pass { (self.new.pass ≡ self.old.pass) × (self.new.viewer ≡ self.old.viewer) }
         ensures goes_on { MatchResult result
-            (λ n. Talks C.shows (connection L.state service.now) (stage L.state self.new) (take n buffer.new))
-            (λ why. EndsBy C.shows (connection L.state service.now) why (L.state self.new.link) (known self.new.pass) self.new.requests) }
+            (λ n. Talks C.shows C.agrees (connection L.state service.now) (stage L.state self.new) (take n buffer.new))
+            (λ why. EndsBy C.shows C.agrees (connection L.state service.now) why (L.state self.new.link) (known_by self.new.pass self.new.viewer) self.new.requests) }
     {
         match read_next(&mut self.link, awaited(&self.reader), buffer) {
             Ok(0) => Err(Cause::Closed),
@@ -408,14 +453,14 @@ impl<L: Link, C: SharedCluster> Serving<L, Served<C>> {
     // Serves the connection to its end by these routes, and says why it ended.
     fn serve_by<R: Wait, Cl: Clock, G: Gate>(
         &mut self,
-        service: &Service<R, Served<C>, Cl, G, L>,
+        service: &Service<R, Served<C>, Cl, G, L, Viewer<C::Pair>>,
         routes: &Routes,
     ) -> Cause
         requires ours { IsOurs (arc_value service.now.board) self.old.pass }
         requires agent { (0 < service.now.agent) × (service.now.agent ≤ C.agents) }
-        requires talks { Talks C.shows (connection L.state service.now) (stage L.state self.old) [] }
+        requires talks { Talks C.shows C.agrees (connection L.state service.now) (stage L.state self.old) [] }
         ensures ours { IsOurs (arc_value service.now.board) self.new.pass }
-        ensures ends { EndsBy C.shows (connection L.state service.now) result (L.state self.new.link) (known self.new.pass) self.new.requests }
+        ensures ends { EndsBy C.shows C.agrees (connection L.state service.now) result (L.state self.new.link) (known_by self.new.pass self.new.viewer) self.new.requests }
     {
         let mut buffer = [0; ROOM];
         for _ in service.rt.forever() {
@@ -433,13 +478,13 @@ impl<L: Link, C: SharedCluster> Serving<L, Served<C>> {
     /// Serves the connection to its end, and says why it ended.
     pub(crate) fn serve<R: Wait, Cl: Clock, G: Gate>(
         &mut self,
-        service: &Service<R, Served<C>, Cl, G, L>,
+        service: &Service<R, Served<C>, Cl, G, L, Viewer<C::Pair>>,
     ) -> Cause
         requires ours { IsOurs (arc_value service.now.board) self.old.pass }
         requires agent { (0 < service.now.agent) × (service.now.agent ≤ C.agents) }
-        requires talks { Talks C.shows (connection L.state service.now) (stage L.state self.old) [] }
+        requires talks { Talks C.shows C.agrees (connection L.state service.now) (stage L.state self.old) [] }
         ensures ours { IsOurs (arc_value service.now.board) self.new.pass }
-        ensures ends { EndsBy C.shows (connection L.state service.now) result (L.state self.new.link) (known self.new.pass) self.new.requests }
+        ensures ends { EndsBy C.shows C.agrees (connection L.state service.now) result (L.state self.new.link) (known_by self.new.pass self.new.viewer) self.new.requests }
     {
         match Routes::new(service.alloc) {
             Ok(routes) => self.serve_by(service, &routes),

@@ -1,6 +1,6 @@
 //! The connections of a run are accepted, and a job of its own is started for each.
 
-ghost use Rattle.std.specs.Prelude.{◌≡◌, ◌+◌, ◌<◌, ◌≤◌, [], false, IfErr, IfOk, IfSome, List, MatchOption, MatchResult, None, Err, OnOk, length};
+ghost use Rattle.std.specs.Prelude.{◌≡◌, ◌+◌, ◌<◌, ◌≤◌, [], false, IfErr, IfOk, IfSome, List, MatchOption, MatchResult, None, Err, OnErr, OnOk, length};
 ghost use Rattle.std.specs.Arc.{arc_value};
 ghost use Rattle.cat_model.specs.declared.reply.Mark.{Mark as SpecMark};
 ghost use Rattle.cat_outside.specs.Causes.{Rose};
@@ -23,6 +23,7 @@ use crate::writing::send_refusing;
 use cat_model::{Draw, Memory, Refusal};
 use http_wire::RequestReader;
 use serve_outside::{Clock, Gate, Job, Link, Listener, NoteOf, Spawner, Words, start};
+use stale_view::{Viewer, parts_cross};
 use std::alloc::{AllocError, Global};
 use std::sync::{Arc, Wait};
 use std::thread::{Promise, Threads};
@@ -30,7 +31,7 @@ use turn_lock::{NoShare, Pass};
 
 // What a job needs of its own.
 fn parts<R, C: SharedCluster, Cl, G: Drop>(
-    server: &Server<R, Served<C>, Cl, G>,
+    server: &Server<R, Served<C>, Cl, G, Viewer<C::Pair>>,
     pass: &mut Pass<Served<C>>,
 ) -> Result<
     (
@@ -38,6 +39,7 @@ fn parts<R, C: SharedCluster, Cl, G: Drop>(
         Arc<Board<Served<C>>, Global>,
         Arc<G, Global>,
         Pass<Served<C>>,
+        Viewer<C::Pair>,
     ),
     Memory,
 >
@@ -51,9 +53,10 @@ fn parts<R, C: SharedCluster, Cl, G: Drop>(
     let reader = RequestReader::new(server.alloc)?;
     let board = Arc::try_clone(&server.board)?;
     let gate = Arc::try_clone(&server.gate)?;
+    let viewer = server.viewer.split()?;
     let lock = &**server.board;
     match lock.split(pass) {
-        Ok(own) => Ok((reader, board, gate, own)),
+        Ok(own) => Ok((reader, board, gate, own, viewer)),
         Err(NoShare) => Err(Memory),
     }
 }
@@ -75,25 +78,25 @@ fn job_of<
     G: Gate + Drop,
     L: Link,
 >(
-    server: &Server<R, Served<C>, Cl, G>,
+    server: &Server<R, Served<C>, Cl, G, Viewer<C::Pair>>,
     pass: &mut Pass<Served<C>>,
     link: L,
     draw: Draw,
     n: u64,
-) -> Result<ServeJob<R, Served<C>, Cl, G, L>, L>
+) -> Result<ServeJob<R, Served<C>, Cl, G, L, Viewer<C::Pair>>, L>
     requires ours { IsOurs (arc_value server.now.board) pass.old }
     requires agents { (0 < server.now.agents) × (server.now.agents ≡ C.agents) }
     requires number { 0 < n }
     requires unshut { (L.state link).shut ≡ false }
     ensures ours { IsOurs (arc_value server.now.board) pass.new }
     ensures told { (known pass.new).told ≡ (known pass.old).told }
-    ensures ready { IfOk result (⟦<ServeJob<R, Served<C>, Cl, G, L> as Job>⟧.ready) }
+    ensures ready { IfOk result (⟦<ServeJob<R, Served<C>, Cl, G, L, Viewer<C::Pair>> as Job>⟧.ready) }
     ensures job { IfOk result (λ job. (job.link ≡ link) × (job.draw ≡ draw) × (job.agent ≡ agent_of C.agents n)) }
     ensures pass { IfOk result (λ job. IsOurs (arc_value server.now.board) job.pass) }
     ensures refused { IfErr result (λ back. back ≡ link) }
 {
     match parts(server, pass) {
-        Ok((reader, board, gate, own)) => Ok(ServeJob {
+        Ok((reader, board, gate, own, viewer)) => Ok(ServeJob {
             rt: server.rt,
             alloc: server.alloc,
             board,
@@ -104,6 +107,7 @@ fn job_of<
             link,
             reader,
             pass: own,
+            viewer,
         }),
         Err(Memory) => Err(link),
     }
@@ -118,6 +122,32 @@ fn turn_away<L: Link>(link: &mut L, alloc: Global)
     link.shut();
 }
 
+// Starts a job, whose parts may all go to another thread.
+fn start_job<
+    R: Threads + Wait + Copy + Send + Drop + 'static,
+    C: SharedCluster + Send + 'static,
+    Cl: Clock + Copy + Send + Drop + 'static,
+    G: Gate + Send + Sync + Drop + 'static,
+    L: Link + Send + 'static,
+    Sp: Spawner,
+>(
+    rt: &R,
+    alloc: Global,
+    spawner: &mut Sp,
+    job: ServeJob<R, Served<C>, Cl, G, L, Viewer<C::Pair>>,
+) -> Result<TaskOf<R, C, Cl, G, L>, ServeJob<R, Served<C>, Cl, G, L, Viewer<C::Pair>>>
+where
+    C::Pair: Send + Sync + 'static,
+    requires ready { ⟦<ServeJob<R, Served<C>, Cl, G, L, Viewer<C::Pair>> as Job>⟧.ready job }
+    ensures started { IfOk result (λ task. ((note_of task).0.value ≡ job) × IsKept ⟦<NoteOf<ServeJob<R, Served<C>, Cl, G, L, Viewer<C::Pair>>> as Promise<Finished<L, Served<C>, Viewer<C::Pair>>>>⟧.kept_by task) }
+    ensures refused { IfErr result (λ back. back ≡ job) }
+    ensures cause { OnErr result (Rose (Sp.faults spawner.old) (Sp.faults spawner.new)) }
+    ensures counted { (Sp.faults spawner.old ≤ Sp.faults spawner.new) × (Sp.faults spawner.new ≤ Sp.faults spawner.old + 1) }
+{
+    parts_cross();
+    start(spawner, rt, alloc, job)
+}
+
 // Starts a connection's job. Where it cannot be started, the link is turned away and handed back.
 fn launch<
     R: Threads + Wait + Copy + Send + Drop + 'static,
@@ -127,30 +157,31 @@ fn launch<
     L: Listener,
     Sp: Spawner,
 >(
-    server: &Server<R, Served<C>, Cl, G>,
+    server: &Server<R, Served<C>, Cl, G, Viewer<C::Pair>>,
     pass: &mut Pass<Served<C>>,
     listener: &mut L,
     spawner: &mut Sp,
-    job: ServeJob<R, Served<C>, Cl, G, L::Link>,
+    job: ServeJob<R, Served<C>, Cl, G, L::Link, Viewer<C::Pair>>,
 ) -> Option<TaskOf<R, C, Cl, G, L::Link>>
 where
     L::Link: Send + 'static,
+    C::Pair: Send + Sync + 'static,
     requires ours { IsOurs (arc_value server.now.board) pass.old }
     requires theirs { IsOurs (arc_value server.now.board) job.pass }
-    requires ready { ⟦<ServeJob<R, Served<C>, Cl, G, L::Link> as Job>⟧.ready job }
+    requires ready { ⟦<ServeJob<R, Served<C>, Cl, G, L::Link, Viewer<C::Pair>> as Job>⟧.ready job }
     requires new { IsNew (L.Link.state job.link).number (L.Link.state job.link) }
     ensures ours { IsOurs (arc_value server.now.board) pass.new }
     ensures told { (seen : List SpecMark) → IsAmong seen (known pass.old).told → IsAmong seen (known pass.new).told }
     ensures given { L.given listener.new ≡ L.given listener.old }
     ensures faults { L.faults listener.new ≡ L.faults listener.old }
     ensures port { L.listens_on listener.new ≡ L.listens_on listener.old }
-    ensures kept { IfSome result (IsKept ⟦<NoteOf<ServeJob<R, Served<C>, Cl, G, L::Link>> as Promise<Finished<L::Link, Served<C>>>>⟧.kept_by) }
+    ensures kept { IfSome result (IsKept ⟦<NoteOf<ServeJob<R, Served<C>, Cl, G, L::Link, Viewer<C::Pair>>> as Promise<Finished<L::Link, Served<C>, Viewer<C::Pair>>>>⟧.kept_by) }
     ensures job { IfSome result (λ task. (note_of task).0.value ≡ job) }
     ensures turned { MatchOption result
         (TurnedAway (L.closed listener.old) (L.closed listener.new) (Sp.faults spawner.old) (Sp.faults spawner.new) 1)
         (λ _. TurnedAway (L.closed listener.old) (L.closed listener.new) (Sp.faults spawner.old) (Sp.faults spawner.new) 0) }
 {
-    match start(spawner, &server.rt, server.alloc, job) {
+    match start_job(&server.rt, server.alloc, spawner, job) {
         Ok(task) => Some(task),
         Err(job) => {
             let ServeJob {
@@ -175,7 +206,7 @@ fn start_one<
     L: Listener,
     Sp: Spawner,
 >(
-    server: &Server<R, Served<C>, Cl, G>,
+    server: &Server<R, Served<C>, Cl, G, Viewer<C::Pair>>,
     pass: &mut Pass<Served<C>>,
     listener: &mut L,
     spawner: &mut Sp,
@@ -184,13 +215,14 @@ fn start_one<
 ) -> Result<Option<TaskOf<R, C, Cl, G, L::Link>>, Stop>
 where
     L::Link: Send + 'static,
+    C::Pair: Send + Sync + 'static,
     requires ours { IsOurs (arc_value server.now.board) pass.old }
     requires agents { (0 < server.now.agents) × (server.now.agents ≡ C.agents) }
     requires number { n ≡ L.given listener.old + 1 }
     ensures ours { IsOurs (arc_value server.now.board) pass.new }
     ensures told { (seen : List SpecMark) → IsAmong seen (known pass.old).told → IsAmong seen (known pass.new).told }
     ensures given { MatchResult result (λ _. L.given listener.new ≡ n) (λ why. L.given listener.new ≡ L.given listener.old + lacking (Err why)) }
-    ensures kept { IfOk result (λ o. IfSome o (IsKept ⟦<NoteOf<ServeJob<R, Served<C>, Cl, G, L::Link>> as Promise<Finished<L::Link, Served<C>>>>⟧.kept_by)) }
+    ensures kept { IfOk result (λ o. IfSome o (IsKept ⟦<NoteOf<ServeJob<R, Served<C>, Cl, G, L::Link, Viewer<C::Pair>>> as Promise<Finished<L::Link, Served<C>, Viewer<C::Pair>>>>⟧.kept_by)) }
     ensures job { IfOk result (λ o. IfSome o (λ task. IsStartedAs n draw (arc_value server.now.board) C.agents L.Link.state (note_of task).0.value)) }
     ensures turned { MatchResult result
         (λ o. MatchOption o
@@ -224,7 +256,7 @@ fn start_next<
     W: Words,
     Sp: Spawner,
 >(
-    server: &Server<R, Served<C>, Cl, G>,
+    server: &Server<R, Served<C>, Cl, G, Viewer<C::Pair>>,
     pass: &mut Pass<Served<C>>,
     listener: &mut L,
     words: &mut W,
@@ -234,17 +266,18 @@ fn start_next<
 ) -> Result<(), Stop>
 where
     L::Link: Send + 'static,
+    C::Pair: Send + Sync + 'static,
     requires ours { IsOurs (arc_value server.now.board) pass.old }
     requires agents { (0 < server.now.agents) × (server.now.agents ≡ C.agents) }
     requires number { n ≡ L.given listener.old + 1 }
     requires drawn { HasDrawn (W.draws words.old) (L.given listener.old) }
-    requires tasks { AllTasks tasks.old.items ⟦<NoteOf<ServeJob<R, Served<C>, Cl, G, L::Link>> as Promise<Finished<L::Link, Served<C>>>>⟧.kept_by (λ p. IsStarted (arc_value server.now.board) C.agents (W.draws words.old) L.Link.state p.0.value) }
+    requires tasks { AllTasks tasks.old.items ⟦<NoteOf<ServeJob<R, Served<C>, Cl, G, L::Link, Viewer<C::Pair>>> as Promise<Finished<L::Link, Served<C>, Viewer<C::Pair>>>>⟧.kept_by (λ p. IsStarted (arc_value server.now.board) C.agents (W.draws words.old) L.Link.state p.0.value) }
     ensures ours { IsOurs (arc_value server.now.board) pass.new }
     ensures told { (seen : List SpecMark) → IsAmong seen (known pass.old).told → IsAmong seen (known pass.new).told }
     ensures given { OnOk result (L.given listener.new ≡ n) }
     ensures drawn { OnOk result (HasDrawn (W.draws words.new) n) }
     ensures later { KeepsDraws (W.draws words.old) (W.draws words.new) }
-    ensures tasks { AllTasks tasks.new.items ⟦<NoteOf<ServeJob<R, Served<C>, Cl, G, L::Link>> as Promise<Finished<L::Link, Served<C>>>>⟧.kept_by (λ p. IsStarted (arc_value server.now.board) C.agents (W.draws words.new) L.Link.state p.0.value) }
+    ensures tasks { AllTasks tasks.new.items ⟦<NoteOf<ServeJob<R, Served<C>, Cl, G, L::Link, Viewer<C::Pair>>> as Promise<Finished<L::Link, Served<C>, Viewer<C::Pair>>>>⟧.kept_by (λ p. IsStarted (arc_value server.now.board) C.agents (W.draws words.new) L.Link.state p.0.value) }
     ensures starts { Starts (L.closed listener.old) (L.closed listener.new) (Sp.faults spawner.old) (Sp.faults spawner.new) (L.given listener.old) (L.given listener.new) (length tasks.old.items) (length tasks.new.items) result }
     ensures counted { L.faults listener.old ≤ L.faults listener.new }
     ensures cause { IfErr result (λ why. why ≡ stops.Listener → Rose (L.faults listener.old) (L.faults listener.new)) }
@@ -276,7 +309,7 @@ pub(crate) fn start_tasks<
     W: Words,
     Sp: Spawner,
 >(
-    server: &Server<R, Served<C>, Cl, G>,
+    server: &Server<R, Served<C>, Cl, G, Viewer<C::Pair>>,
     pass: &mut Pass<Served<C>>,
     listener: &mut L,
     words: &mut W,
@@ -286,16 +319,17 @@ pub(crate) fn start_tasks<
 ) -> Result<(), Stop>
 where
     L::Link: Send + 'static,
+    C::Pair: Send + Sync + 'static,
     requires ours { IsOurs (arc_value server.now.board) pass.old }
     requires agents { (0 < server.now.agents) × (server.now.agents ≡ C.agents) }
     requires fresh { (L.given listener.old ≡ 0) × HasDrawn (W.draws words.old) 0 }
     requires none { (jobs.old.tasks.items ≡ []) × (jobs.old.short ≡ false) }
-    requires tasks { AllTasks jobs.old.tasks.items ⟦<NoteOf<ServeJob<R, Served<C>, Cl, G, L::Link>> as Promise<Finished<L::Link, Served<C>>>>⟧.kept_by (λ p. IsStarted (arc_value server.now.board) C.agents (W.draws words.old) L.Link.state p.0.value) }
+    requires tasks { AllTasks jobs.old.tasks.items ⟦<NoteOf<ServeJob<R, Served<C>, Cl, G, L::Link, Viewer<C::Pair>>> as Promise<Finished<L::Link, Served<C>, Viewer<C::Pair>>>>⟧.kept_by (λ p. IsStarted (arc_value server.now.board) C.agents (W.draws words.old) L.Link.state p.0.value) }
     ensures ours { IsOurs (arc_value server.now.board) pass.new }
     ensures told { (seen : List SpecMark) → IsAmong seen (known pass.old).told → IsAmong seen (known pass.new).told }
     ensures given { OnOk result (L.given listener.new ≡ count) }
-    ensures tasks { AllTasks jobs.new.tasks.items ⟦<NoteOf<ServeJob<R, Served<C>, Cl, G, L::Link>> as Promise<Finished<L::Link, Served<C>>>>⟧.kept_by (λ p. IsStarted (arc_value server.now.board) C.agents (W.draws words.new) L.Link.state p.0.value) }
-    ensures handed { Handed C.shows C.agents (W.draws words.new) (λ seen. IsAmong seen (known pass.new).told) (L.closed listener.old) (L.closed listener.new) (Sp.faults spawner.old) (Sp.faults spawner.new + lacking result) (L.given listener.new) (length jobs.new.tasks.items) jobs.new.short }
+    ensures tasks { AllTasks jobs.new.tasks.items ⟦<NoteOf<ServeJob<R, Served<C>, Cl, G, L::Link, Viewer<C::Pair>>> as Promise<Finished<L::Link, Served<C>, Viewer<C::Pair>>>>⟧.kept_by (λ p. IsStarted (arc_value server.now.board) C.agents (W.draws words.new) L.Link.state p.0.value) }
+    ensures handed { Handed C.shows C.agrees C.agents (W.draws words.new) (λ seen. IsAmong seen (known pass.new).told) (L.closed listener.old) (L.closed listener.new) (Sp.faults spawner.old) (Sp.faults spawner.new + lacking result) (L.given listener.new) (length jobs.new.tasks.items) jobs.new.short }
     ensures cause { IfErr result (λ why. why ≡ stops.Listener → Rose (L.faults listener.old) (L.faults listener.new)) }
     ensures port { L.listens_on listener.new ≡ L.listens_on listener.old }
 {

@@ -10,8 +10,10 @@ ghost use Rattle.serve_loop.specs.Boards.{IsOurs, known};
 use crate::cluster::SharedCluster;
 use crate::run::{Server, give_back};
 use crate::served::{NOBODY, Served};
+use crate::serving::Board;
 use cat_model::Memory;
 use serve_outside::{Clock, Gate, Job, NoteOf, Spawner, Task, finish, start_beside};
+use stale_view::{Viewer, parts_cross};
 use std::alloc::Global;
 use std::sync::atomic::{AtomicBool, Ordering};
 use std::sync::{Arc, Wait};
@@ -23,15 +25,18 @@ const MOST_MS: u64 = 1_000;
 
 /// Lets the clocks go on, at least once a second, until it is told to stop. It asks nothing.
 #[derive(Drop)]
-pub struct Timekeeper<R, S: History, Cl, G> {
-    pub server: Server<R, S, Cl, G>,
+pub struct Timekeeper<R, S: History, Cl, G, V> {
+    pub server: Server<R, S, Cl, G, V>,
     /// Whether it is to stop.
     pub stop: Arc<AtomicBool, Global>,
     pub pass: Pass<S>,
 }
 
 // A timekeeper's task.
-type KeeperTask<R, C, Cl, G> = Task<NoteOf<Timekeeper<R, Served<C>, Cl, G>>, Pass<Served<C>>>;
+type KeeperTask<R, C, Cl, G> = Task<
+    NoteOf<Timekeeper<R, Served<C>, Cl, G, Viewer<<C as SharedCluster>::Pair>>>,
+    Pass<Served<C>>,
+>;
 
 /// A timekeeper that was started, and what tells it to stop.
 #[derive(Drop)]
@@ -41,25 +46,29 @@ pub(crate) struct Keeping<T> {
 }
 
 // Takes a turn in which the clocks go on. What finds no memory is done in a later turn.
-fn keep_time<R: Wait, C: SharedCluster, Cl: Clock, G: Gate>(
-    server: &Server<R, Served<C>, Cl, G>,
+fn keep_time<R: Wait, C: SharedCluster, G: Gate>(
+    rt: &R,
+    alloc: Global,
+    board: &Board<Served<C>>,
     pass: &mut Pass<Served<C>>,
+    viewer: &mut Viewer<C::Pair>,
+    now: u64,
+    gate: &G,
 )
-    requires ours { IsOurs (arc_value server.now.board) pass.old }
-    ensures ours { IsOurs (arc_value server.now.board) pass.new }
+    requires ours { IsOurs board.now pass.old }
+    ensures ours { IsOurs board.now pass.new }
     ensures asks_none { (known pass.new).mine ≡ (known pass.old).mine }
 {
-    let lock = &**server.board;
-    let now = server.clock.now_ms();
-    let mut turn = lock.take(&server.rt, pass);
-    let _ = turn.state().keep_time(server.alloc, now, &*server.gate);
+    let lock = &**board;
+    let mut turn = lock.take(rt, pass);
+    let _ = turn.state().keep_time(alloc, now, gate, viewer);
     lock.give(turn, pass);
 }
 
 /// Lets the clocks of a cluster go on until the timekeeper is told to stop, and gives its pass back, by which no request
 /// was asked.
 pub fn keep_clocks<R: Wait + Drop, C: SharedCluster, Cl: Clock + Drop, G: Gate + Drop>(
-    keeper: Timekeeper<R, Served<C>, Cl, G>,
+    keeper: Timekeeper<R, Served<C>, Cl, G, Viewer<C::Pair>>,
 ) -> Pass<Served<C>>
     requires ours { IsOurs (arc_value keeper.server.board) keeper.pass }
     ensures ours { IsOurs (arc_value keeper.server.board) result }
@@ -70,19 +79,29 @@ pub fn keep_clocks<R: Wait + Drop, C: SharedCluster, Cl: Clock + Drop, G: Gate +
         stop,
         mut pass,
     } = keeper;
-    for _ in server.rt.forever() {
-        let rings = server.gate.rings(NOBODY);
+    let Server {
+        rt,
+        alloc,
+        board,
+        clock,
+        gate,
+        agents: _,
+        mut viewer,
+    } = server;
+    for _ in rt.forever() {
+        let rings = gate.rings(NOBODY);
         if stop.load(Ordering::SeqCst) {
             break;
         }
-        server.gate.idle(NOBODY, rings, MOST_MS);
-        keep_time(&server, &mut pass);
+        gate.idle(NOBODY, rings, MOST_MS);
+        let now = clock.now_ms();
+        keep_time(&rt, alloc, &*board, &mut pass, &mut viewer, now, &*gate);
     }
     pass
 }
 
 impl<R: Wait + Drop, C: SharedCluster, Cl: Clock + Drop, G: Gate + Drop> Job
-    for Timekeeper<R, Served<C>, Cl, G> {
+    for Timekeeper<R, Served<C>, Cl, G, Viewer<C::Pair>> {
     ghost use Rattle.std.specs.Arc.{arc_value};
     ghost use Rattle.serve_loop.specs.Boards.{IsOurs, known};
 
@@ -99,10 +118,11 @@ impl<R: Wait + Drop, C: SharedCluster, Cl: Clock + Drop, G: Gate + Drop> Job
 
 // The same server once more.
 fn shared<R: Copy, C: SharedCluster, Cl: Copy, G>(
-    server: &Server<R, Served<C>, Cl, G>,
-) -> Result<Server<R, Served<C>, Cl, G>, Memory>
+    server: &Server<R, Served<C>, Cl, G, Viewer<C::Pair>>,
+) -> Result<Server<R, Served<C>, Cl, G, Viewer<C::Pair>>, Memory>
     ensures { IfOk result (λ s. arc_value s.board ≡ arc_value server.now.board) }
 {
+    let viewer = server.viewer.split()?;
     let board = Arc::try_clone(&server.board)?;
     let gate = Arc::try_clone(&server.gate)?;
     Ok(Server {
@@ -112,14 +132,21 @@ fn shared<R: Copy, C: SharedCluster, Cl: Copy, G>(
         clock: server.clock,
         gate,
         agents: server.agents,
+        viewer,
     })
 }
 
 // A timekeeper, and what tells it to stop.
 fn make_timekeeper<R: Copy + Drop, C: SharedCluster, Cl: Copy + Drop, G: Drop>(
-    server: &Server<R, Served<C>, Cl, G>,
+    server: &Server<R, Served<C>, Cl, G, Viewer<C::Pair>>,
     pass: &mut Pass<Served<C>>,
-) -> Result<(Timekeeper<R, Served<C>, Cl, G>, Arc<AtomicBool, Global>), Memory>
+) -> Result<
+    (
+        Timekeeper<R, Served<C>, Cl, G, Viewer<C::Pair>>,
+        Arc<AtomicBool, Global>,
+    ),
+    Memory,
+>
     requires ours { IsOurs (arc_value server.now.board) pass.old }
     ensures ours { IsOurs (arc_value server.now.board) pass.new }
     ensures board { IfOk result (λ r. arc_value r.0.server.board ≡ arc_value server.now.board) }
@@ -150,17 +177,20 @@ pub(crate) fn start_timekeeper<
     G: Gate + Send + Sync + Drop + 'static,
     Sp: Spawner,
 >(
-    server: &Server<R, Served<C>, Cl, G>,
+    server: &Server<R, Served<C>, Cl, G, Viewer<C::Pair>>,
     pass: &mut Pass<Served<C>>,
     spawner: &Sp,
 ) -> Option<Keeping<KeeperTask<R, C, Cl, G>>>
+where
+    C::Pair: Send + Sync + 'static,
     requires ours { IsOurs (arc_value server.now.board) pass.old }
     ensures ours { IsOurs (arc_value server.now.board) pass.new }
-    ensures kept { IfSome result (λ k. IsKept ⟦<NoteOf<Timekeeper<R, Served<C>, Cl, G>> as Promise<Pass<Served<C>>>>⟧.kept_by k.task) }
+    ensures kept { IfSome result (λ k. IsKept ⟦<NoteOf<Timekeeper<R, Served<C>, Cl, G, Viewer<C::Pair>>> as Promise<Pass<Served<C>>>>⟧.kept_by k.task) }
     ensures board { IfSome result (λ k. arc_value (note_of k.task).0.value.server.board ≡ arc_value server.now.board) }
 {
     match make_timekeeper(server, pass) {
         Ok((keeper, stop)) => {
+            parts_cross();
             let task = start_beside(spawner, &server.rt, keeper, &stop);
             Some(Keeping { stop, task })
         }
@@ -170,10 +200,10 @@ pub(crate) fn start_timekeeper<
 
 // Tells a timekeeper to stop, waits for it, and takes its pass back.
 fn finish_keeping<R: Threads + Wait + Drop, C: SharedCluster, Cl: Clock + Drop, G: Gate + Drop>(
-    server: &Server<R, Served<C>, Cl, G>,
+    server: &Server<R, Served<C>, Cl, G, Viewer<C::Pair>>,
     keeping: Keeping<KeeperTask<R, C, Cl, G>>,
 ) -> Pass<Served<C>>
-    requires kept { IsKept ⟦<NoteOf<Timekeeper<R, Served<C>, Cl, G>> as Promise<Pass<Served<C>>>>⟧.kept_by keeping.task }
+    requires kept { IsKept ⟦<NoteOf<Timekeeper<R, Served<C>, Cl, G, Viewer<C::Pair>>> as Promise<Pass<Served<C>>>>⟧.kept_by keeping.task }
     requires board { arc_value (note_of keeping.task).0.value.server.board ≡ arc_value server.now.board }
     ensures ours { IsOurs (arc_value server.now.board) result }
 {
@@ -190,12 +220,12 @@ pub(crate) fn finish_timekeeper<
     Cl: Clock + Drop,
     G: Gate + Drop,
 >(
-    server: &Server<R, Served<C>, Cl, G>,
+    server: &Server<R, Served<C>, Cl, G, Viewer<C::Pair>>,
     pass: &mut Pass<Served<C>>,
     keeping: Option<Keeping<KeeperTask<R, C, Cl, G>>>,
 )
     requires ours { IsOurs (arc_value server.now.board) pass.old }
-    requires kept { IfSome keeping (λ k. IsKept ⟦<NoteOf<Timekeeper<R, Served<C>, Cl, G>> as Promise<Pass<Served<C>>>>⟧.kept_by k.task) }
+    requires kept { IfSome keeping (λ k. IsKept ⟦<NoteOf<Timekeeper<R, Served<C>, Cl, G, Viewer<C::Pair>>> as Promise<Pass<Served<C>>>>⟧.kept_by k.task) }
     requires board { IfSome keeping (λ k. arc_value (note_of k.task).0.value.server.board ≡ arc_value server.now.board) }
     ensures ours { IsOurs (arc_value server.now.board) pass.new }
     ensures told { (seen : List SpecMark) → IsAmong seen (known pass.old).told → IsAmong seen (known pass.new).told }

@@ -1,12 +1,13 @@
 //! A connection's request, from its asking to its reply.
 
-ghost use Rattle.std.specs.Prelude.{◌≡◌, IfErr, IfOk};
+ghost use Rattle.std.specs.Prelude.{◌≡◌, IfErr, IfOk, OnOk};
 ghost use Rattle.serve_outside.specs.Links.{Leaves};
 ghost use Rattle.turn_lock.specs.Lists.{Among};
 ghost use Rattle.turn_lock.specs.Passes.{IsFree, IsSame};
 ghost use Rattle.serve_loop.specs.declared.cluster.Ask.{Ask as SpecAsk};
 ghost use Rattle.serve_loop.specs.declared.turning.NoReply.TheVariants as no_reply;
 ghost use Rattle.serve_loop.specs.Boards.{known};
+ghost use Rattle.serve_loop.specs.Knowing.{HasLearned, known_by};
 ghost use Rattle.serve_loop.specs.Turns.{MayAsk};
 ghost use Rattle.serve_loop.specs.Waiting.{Grows, IsAfterAsk, IsAnswered, IsBehind, IsHeld, Stands, Waits};
 
@@ -16,16 +17,18 @@ use crate::served::{NOBODY, Served, Turned};
 use cat_model::Memory;
 use open_requests::Reply;
 use serve_outside::{Clock, Gate, Link};
+use stale_view::Viewer;
 use std::alloc::Global;
 use std::sync::Wait;
 use turn_lock::{HistoryLock, Pass};
 
-/// The first turn of a request.
+/// The first turn of a request. Behind it the viewer has read all that is agreed by then.
 pub(crate) fn first_turn<R: Wait, C: SharedCluster, G: Gate>(
     rt: &R,
     alloc: Global,
     lock: &HistoryLock<Served<C>>,
     pass: &mut Pass<Served<C>>,
+    viewer: &mut Viewer<C::Pair>,
     now: u64,
     gate: &G,
     ask: Ask,
@@ -35,12 +38,15 @@ pub(crate) fn first_turn<R: Wait, C: SharedCluster, G: Gate>(
     requires may { MayAsk C.agents ask }
     ensures own { IsSame pass.old.seat pass.new.seat }
     ensures free { IsFree pass.new.seat }
-    ensures grown { Grows (known pass.old) (known pass.new) }
+    ensures grown { Grows (known_by pass.old viewer.old) (known_by pass.new viewer.new) }
     ensures behind { IfOk result (λ t. IsBehind t.number ask (known pass.old).seen (known pass.new).seen) }
-    ensures stands { IfOk result (λ t. Stands C.shows t.number ask t.got (known pass.new)) }
+    ensures stands { IfOk result (λ t. Stands C.shows t.number ask t.got (known_by pass.new viewer.new)) }
+    ensures learned { OnOk result (HasLearned C.agrees (known_by pass.new viewer.new)) }
 {
     let mut turn = lock.take(rt, pass);
-    let turned = turn.state().turn(alloc, now, gate, Some(ask), NOBODY);
+    let turned = turn
+        .state()
+        .turn(alloc, now, gate, Some(ask), NOBODY, viewer);
     lock.give(turn, pass);
     turned
 }
@@ -51,6 +57,7 @@ pub(crate) fn next_turn<R: Wait, C: SharedCluster, G: Gate>(
     alloc: Global,
     lock: &HistoryLock<Served<C>>,
     pass: &mut Pass<Served<C>>,
+    viewer: &mut Viewer<C::Pair>,
     now: u64,
     gate: &G,
     number: u64,
@@ -60,11 +67,12 @@ pub(crate) fn next_turn<R: Wait, C: SharedCluster, G: Gate>(
     requires mine { Among number (known pass.old).mine }
     ensures own { IsSame pass.old.seat pass.new.seat }
     ensures free { IsFree pass.new.seat }
-    ensures grown { Grows (known pass.old) (known pass.new) }
-    ensures stands { IfOk result (λ t. (ask : SpecAsk) → Waits number ask (known pass.old).seen (known pass.old).mine → Stands C.shows t.number ask t.got (known pass.new)) }
+    ensures grown { Grows (known_by pass.old viewer.old) (known_by pass.new viewer.new) }
+    ensures stands { IfOk result (λ t. (ask : SpecAsk) → Waits number ask (known pass.old).seen (known pass.old).mine → Stands C.shows t.number ask t.got (known_by pass.new viewer.new)) }
+    ensures learned { OnOk result (HasLearned C.agrees (known_by pass.new viewer.new)) }
 {
     let mut turn = lock.take(rt, pass);
-    let turned = turn.state().turn(alloc, now, gate, None, number);
+    let turned = turn.state().turn(alloc, now, gate, None, number, viewer);
     lock.give(turn, pass);
     turned
 }
@@ -119,6 +127,7 @@ pub(crate) fn ask_and_wait<R: Wait, C: SharedCluster, Cl: Clock, G: Gate, L: Lin
     alloc: Global,
     lock: &HistoryLock<Served<C>>,
     pass: &mut Pass<Served<C>>,
+    viewer: &mut Viewer<C::Pair>,
     clock: &Cl,
     gate: &G,
     link: &mut L,
@@ -129,15 +138,18 @@ pub(crate) fn ask_and_wait<R: Wait, C: SharedCluster, Cl: Clock, G: Gate, L: Lin
     requires may { MayAsk C.agents ask }
     ensures own { IsSame pass.old.seat pass.new.seat }
     ensures free { IsFree pass.new.seat }
-    ensures grown { Grows (known pass.old) (known pass.new) }
+    ensures grown { Grows (known_by pass.old viewer.old) (known_by pass.new viewer.new) }
     ensures link { IsAfterAsk result (L.state link.old) (L.state link.new) }
     ensures answered { IfOk result (λ reply. IsAnswered C.shows ask reply (known pass.new).seen (known pass.new).mine) }
-    ensures left { IfErr result (λ why. why ≡ no_reply.Left → IsHeld ask (known pass.new)) }
+    ensures learned { OnOk result (HasLearned C.agrees (known_by pass.new viewer.new)) }
+    ensures left { IfErr result (λ why. why ≡ no_reply.Left → IsHeld ask (known_by pass.new viewer.new)) }
 {
     let now = clock.now_ms();
     let patience = patience_of(&ask, now);
-    match first_turn(rt, alloc, lock, pass, now, gate, ask) {
-        Ok(turned) => wait_for(rt, alloc, lock, pass, clock, gate, link, patience, turned),
+    match first_turn(rt, alloc, lock, pass, viewer, now, gate, ask) {
+        Ok(turned) => wait_for(
+            rt, alloc, lock, pass, viewer, clock, gate, link, patience, turned,
+        ),
         Err(Memory) => Err(NoReply::Memory),
     }
 }
@@ -148,6 +160,7 @@ fn wait_for<R: Wait, C: SharedCluster, Cl: Clock, G: Gate, L: Link>(
     alloc: Global,
     lock: &HistoryLock<Served<C>>,
     pass: &mut Pass<Served<C>>,
+    viewer: &mut Viewer<C::Pair>,
     clock: &Cl,
     gate: &G,
     link: &mut L,
@@ -156,14 +169,16 @@ fn wait_for<R: Wait, C: SharedCluster, Cl: Clock, G: Gate, L: Link>(
 ) -> Result<Reply, NoReply>
     requires own { pass.old.seat.table_id ≡ lock.now.table.shared.table_id }
     requires free { IsFree pass.old.seat }
-    requires stands { (ask : SpecAsk) × Stands C.shows turned.number ask turned.got (known pass.old) }
+    requires stands { (ask : SpecAsk) × Stands C.shows turned.number ask turned.got (known_by pass.old viewer.old) }
+    requires learned { HasLearned C.agrees (known_by pass.old viewer.old) }
     ensures own { IsSame pass.old.seat pass.new.seat }
     ensures free { IsFree pass.new.seat }
-    ensures grown { Grows (known pass.old) (known pass.new) }
+    ensures grown { Grows (known_by pass.old viewer.old) (known_by pass.new viewer.new) }
     ensures link { IsAfterAsk result (L.state link.old) (L.state link.new) }
-    ensures answered { IfOk result (λ reply. (ask : SpecAsk) → Stands C.shows turned.number ask turned.got (known pass.old)
+    ensures answered { IfOk result (λ reply. (ask : SpecAsk) → Stands C.shows turned.number ask turned.got (known_by pass.old viewer.old)
         → IsAnswered C.shows ask reply (known pass.new).seen (known pass.new).mine) }
-    ensures left { IfErr result (λ why. why ≡ no_reply.Left → (ask : SpecAsk) → Stands C.shows turned.number ask turned.got (known pass.old) → IsHeld ask (known pass.new)) }
+    ensures learned { OnOk result (HasLearned C.agrees (known_by pass.new viewer.new)) }
+    ensures left { IfErr result (λ why. why ≡ no_reply.Left → (ask : SpecAsk) → Stands C.shows turned.number ask turned.got (known_by pass.old viewer.old) → IsHeld ask (known_by pass.new viewer.new)) }
 {
     let Turned {
         mut number,
@@ -184,7 +199,7 @@ fn wait_for<R: Wait, C: SharedCluster, Cl: Clock, G: Gate, L: Link>(
         if waits_in_vain(rt, clock, gate, link, &held) {
             return Err(NoReply::Left);
         }
-        match next_turn(rt, alloc, lock, pass, clock.now_ms(), gate, number) {
+        match next_turn(rt, alloc, lock, pass, viewer, clock.now_ms(), gate, number) {
             Ok(turned) => {
                 number = turned.number;
                 got = turned.got;

@@ -1,7 +1,7 @@
 -- Words that ask for a server ask for one.
 use Rattle.std.proofs.Common.{◌≡◌, ℕ, zero, suc, ◌<◌, ◌≤◌, List, [], ◌∷◌, ◌++◌, length, map, take, drop, get_or, Option, Some, None, Ok, Bor, refl, sym, ap, subst, ◌∙◌, arith}
 use Rattle.std.proofs.lemmas.List.{length-append, length-map, drop-map, take-map}
-use Rattle.std.specs.Prelude.{◌≢◌, codes, MatchOption}
+use Rattle.std.specs.Prelude.{codes, MatchOption}
 use Rattle.std.specs.Option.{option_copied}
 use Rattle.script_lang.specs.Numbers.{number_in}
 use Rattle.server.specs.declared.options.Options.{Options}

@@ -4,6 +4,7 @@ use Rattle.std.specs.Prelude.{IfOk, MatchResult, min}
 use Rattle.std.proofs.lemmas.List.{length-map}
 use Rattle.cat_outside.specs.Causes.{Rose}
 use Rattle.script_player.specs.declared.report.Report.{Report}
+use Rattle.cluster_rules.specs.Reached.{MayBegin}
 use Rattle.turn_lock.specs.Lists.{IsFront}
 use Rattle.serve_loop.specs.Runs.{Back, turned_of}
 use Rattle.serve_loop.proofs.Complete.{all_answered}
@@ -33,7 +34,7 @@ done run f report e s =
       links = map (λ l. l.0) links;
       back = b.all.are;
       count = length-map links (λ (l : Back). l.0) ∙ ((let k = b.all.count in let g : length links ≡ run.given = omega (arith, k) in g) ∙ s.run.count);
-      answered = all_answered (ShowsOver s.size.stores) s.size.agents run.draws (λ seen. IsFront seen (reverse s.run.reached.past)) links b.all.each none (sym b.all.short_is ∙ b.well.1);
+      answered = all_answered (ShowsOver s.size.stores) (MayBegin s.size.stores) s.size.agents run.draws (λ seen. IsFront seen (reverse s.run.reached.past)) links b.all.each none (sym b.all.short_is ∙ b.well.1);
     }
 
 pub complete : (run : Run) → IsServers run → IsFaultless run → (run.ended ≡ Err stop.Memory) ⊎ IsComplete run

@@ -1,5 +1,18 @@
 -- How a server ends, from its parts.
-use Rattle.std.proofs.Common.{◌≡◌, ◌⊎◌, inl, ℕ, List, Option, Some, Result, Ok, Err, sym, subst}
+use Rattle.std.proofs.Common.{◌≡◌, inl, ℕ, List, [], ◌∷◌, reverse, Option, None, Some, Result, Ok, Err, sym, ap, ◌∙◌, subst}
+use Rattle.std.specs.List.{AllByRecursion}
+use Rattle.std.proofs.lemmas.List.{reverse-reverse}
+use mathlib.Core.List.{IsPrefix}
+use Rattle.cat_model.specs.declared.command.Command.{Command}
+use Rattle.cat_model.specs.declared.reply.Mark.{Mark}
+use Rattle.cat_model.specs.Log.{commands_of}
+use Rattle.cluster_rules.specs.Reached.{MayBegin}
+use Rattle.cluster_rules.specs.Sound.{entered_in}
+use Rattle.turn_lock.specs.Lists.{IsFront}
+use Rattle.serve_loop.specs.Marks.{agreed_by}
+use Rattle.serve_loop.proofs.Agreeing.{agreed_front}
+use Rattle.serving_rules.specs.Holding.{Holds}
+use Rattle.serving_cluster.specs.Shown.{ShowsOver}
 use Rattle.std.specs.Prelude.{IfErr, IfOk, OnErr, OnOk}
 use Rattle.std.specs.Io.KnownBytes.{Appends}
 use Rattle.std.proofs.KnownBytes.{Appends-trans}
@@ -13,7 +26,7 @@ use Rattle.script_player.specs.Text.{last_text}
 use Rattle.serve_outside.specs.Links.{LinkState}
 use Rattle.serve_outside.specs.Stores.{AddsMade, Made, made_from}
 use Rattle.serve_loop.specs.declared.run.Stop as loop
-use Rattle.serve_loop.specs.Runs.{most_of}
+use Rattle.serve_loop.specs.Runs.{Back, HaveRead, IsBack, most_of}
 use Rattle.serving_rules.specs.Serving.{Size, Serves}
 use Rattle.serving_rules.proofs.Holding.{holds}
 use Rattle.server.specs.declared.options.Options.{Options}
@@ -21,7 +34,18 @@ use Rattle.server.specs.declared.running.Stop.{Stop}
 use Rattle.server.specs.declared.running.Stop.TheVariants as stops
 use Rattle.server.specs.Served.{Fits, GivesBack, Serve, Served, ServedBy, WritesFront, WritesWhole, all_back, none_given, of_first}
 use Rattle.server.specs.Text.{listening_text}
-use Rattle.server.proofs.Texts.{front_all, part_whole, whole_all}
+use Rattle.server.proofs.Texts.{front_all, whole_all}
+
+-- what the viewers of these links had read is of the one log
+have_read : (size : Size) (draws : Option (List Draw)) (c : Cluster) → Holds size.stores c → MayBegin size.stores → (links : List Back) (each : AllByRecursion (IsBack (ShowsOver size.stores) (MayBegin size.stores) size.agents draws (λ seen. IsFront seen (reverse c.past))) links)
+    → HaveRead (ShowsOver size.stores) (MayBegin size.stores) size.agents draws (λ seen. IsFront seen (reverse c.past)) (commands_of c.world.agreed) links each
+have_read size draws c h kept [] each = tt
+have_read size draws c h kept ((link, None) ∷ links) each = have_read size draws c h kept links each.1
+have_read size draws c h kept ((link, Some why) ∷ links) each =
+    (λ long. subst (IsPrefix each.0.known.read) (agreed_is c h) (subst (λ (l : List Command). IsPrefix l (agreed_by (reverse c.past))) (sym (each.0.learned long kept)) (agreed_front each.0.known.seen (reverse c.past) each.0.seen)), have_read size draws c h kept links each.1)
+  where
+    agreed_is : (c : Cluster) → Holds size.stores c → agreed_by (reverse c.past) ≡ commands_of c.world.agreed
+    agreed_is c h = ap (λ (l : List Mark). commands_of (entered_in l)) (reverse-reverse c.past) ∙ ap commands_of h.sound.parts.counts.entries
 
 -- the links of a run, whose listener had given none before
 module _ (o : Options) (size : Size) (f : Fits o size) (draws : Option (List Draw)) (closed closed₁ closed' : List LinkState) (same : closed₁ ≡ closed) (faults faults' given : ℕ) (c : Cluster) (ended : Result Unit loop.Stop) where
@@ -35,16 +59,18 @@ module _ (o : Options) (size : Size) (f : Fits o size) (draws : Option (List Dra
       → Serve size draws c closed₁ closed' faults faults' given ended
       → OnOk ended (given ≡ most_of o.connections) → Appends held mid (listening_text o.port) → OnOk r (Appends mid held' (last_text Whole c)) → IfOk r (IsReportOf c (events_in c.past)) → OnOk r (ended ≡ Ok tt)
       → IfOk r (ServedBy size o draws closed closed' faults faults' given port held held')
-  served_of port at held mid held' (Ok report) serves links count first text tells whole = record {
-    reached = c;
-    serves = serves;
-    holds = holds size c serves;
-    links = subst (λ (z : Result Unit loop.Stop). Serve size draws c closed closed' faults faults' given z) whole (links_of links);
-    count = subst (λ (z : Result Unit loop.Stop). OnOk z (given ≡ most_of o.connections)) whole count;
-    listens = at;
-    written = Appends-trans held mid held' (listening_text o.port) (last_text Whole c) first text;
-    tells = tells;
-  }
+  served_of port at held mid held' (Ok report) serves links count first text tells whole =
+      let all : Serve size draws c closed closed' faults faults' given (Ok tt) = subst (λ (z : Result Unit loop.Stop). Serve size draws c closed closed' faults faults' given z) whole (links_of links) in record {
+        reached = c;
+        serves = serves;
+        holds = holds size c serves;
+        links = all;
+        views = λ kept. have_read size draws c (holds size c serves kept) kept all.all.links all.all.each;
+        count = subst (λ (z : Result Unit loop.Stop). OnOk z (given ≡ most_of o.connections)) whole count;
+        listens = at;
+        written = Appends-trans held mid held' (listening_text o.port) (last_text Whole c) first text;
+        tells = tells;
+      }
   served_of port at held mid held' (Err why) serves links count first text tells whole = tt
 
   pub front_of : (held mid held' : Option (List ℕ)) (r : Result Report Stop) → Serves size c → Appends held mid (listening_text o.port) → OnErr r (WritesPart mid held' (last_text Whole c)) → OnErr r (WritesFront o held held')

@@ -1,5 +1,5 @@
 -- What a server has written so far.
-use Rattle.std.proofs.Common.{◌≡◌, ℕ, List, [], ◌++◌, Option, sym, append-nil}
+use Rattle.std.proofs.Common.{ℕ, List, [], Option, sym, append-nil}
 use Rattle.std.specs.Io.KnownBytes.{Appends}
 use Rattle.std.proofs.KnownBytes.{Appends-trans}
 use Rattle.cluster_rules.specs.Cluster.{Cluster}
@@ -10,7 +10,7 @@ use Rattle.script_player.proofs.Written.{part_after}
 use Rattle.serving_rules.specs.Serving.{Serves, Size}
 use Rattle.server.specs.declared.options.Options.{Options}
 use Rattle.server.specs.Served.{Fits, WritesFront, WritesWhole, of_all, all}
-use Rattle.server.specs.Text.{listening_text, served_text}
+use Rattle.server.specs.Text.{listening_text}
 
 pub part_whole : (held held' : Option (List ℕ)) (text : List ℕ) → Appends held held' text → WritesPart held held' text
 part_whole held held' text written = record { front = text; rest = []; written = written; splits = sym (append-nil text) }

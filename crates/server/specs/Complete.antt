@@ -4,6 +4,7 @@ use Rattle.std.specs.List.{AllByRecursion}
 use Rattle.cat_model.specs.declared.request.Draw.{Draw}
 use Rattle.cat_outside.specs.Causes.{Rose}
 use Rattle.cluster_rules.specs.Cluster.{Cluster}
+use Rattle.cluster_rules.specs.Reached.{MayBegin}
 use Rattle.script_player.specs.declared.report.Report.{Report}
 use Rattle.serve_outside.specs.Links.{LinkState}
 use Rattle.serve_outside.specs.Stores.{AddsMade, Made, made_from}
@@ -65,4 +66,4 @@ pub record IsComplete (run : Run) : Type 0 where
   pub links : List LinkState
   pub back : run.closed' ≡ run.closed ++ links
   pub count : length links ≡ most_of run.options.connections
-  pub answered : AllByRecursion (λ link. IsUnbroken link → AnswersAll (ShowsOver size.stores) size.agents run.draws (λ seen. IsFront seen (reverse reached.past)) link) links
+  pub answered : AllByRecursion (λ link. IsUnbroken link → AnswersAll (ShowsOver size.stores) (MayBegin size.stores) size.agents run.draws (λ seen. IsFront seen (reverse reached.past)) link) links

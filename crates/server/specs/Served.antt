@@ -1,11 +1,11 @@
 -- What a server did.
-use Rattle.std.specs.Prelude.{◌≡◌, ℕ, List, [], length, reverse, Option, None, Some, Result, Ok, Err}
+use Rattle.std.specs.Prelude.{◌≡◌, ℕ, List, [], length, reverse, Option, None, Some, Result, Ok}
 use Rattle.std.specs.Io.KnownBytes.{Appends}
 use Rattle.cat_model.specs.declared.request.Draw.{Draw}
+use Rattle.cat_model.specs.Log.{commands_of}
 use Rattle.cat_outside.specs.Causes.{Rose}
 use Rattle.cat_outside.specs.declared.faults.KeepFail.{KeepFail}
 use Rattle.cat_outside.specs.declared.faults.KeepFail.TheVariants as keep_fail
-use Rattle.raft_model.specs.Node.{Store}
 use Rattle.raft_model.specs.World.{AreEmpty}
 use Rattle.cluster_rules.specs.Cluster.{Cluster}
 use Rattle.cluster_rules.specs.Reached.{AreSure, MayBegin}
@@ -16,7 +16,7 @@ use Rattle.serve_outside.specs.Links.{LinkState}
 use Rattle.serve_outside.specs.Stores.{AddsMade, Made, made_from}
 use Rattle.turn_lock.specs.Lists.{IsFront}
 use Rattle.serve_loop.specs.declared.run.Stop as loop
-use Rattle.serve_loop.specs.Runs.{HandsBack, most_of}
+use Rattle.serve_loop.specs.Runs.{HandsBack, HaveRead, most_of}
 use Rattle.serving_rules.specs.Serving.{Size, Serves}
 use Rattle.serving_rules.specs.Holding.{Holds}
 use Rattle.serving_cluster.specs.Shown.{ShowsOver}
@@ -34,15 +34,17 @@ pub record Fits (options : Options) (size : Size) : Type 0 where
 -- Each connection that was given came back: it was served over this cluster's one log, or turned away.
 abbrev pub Serve : Size → Option (List Draw) → Cluster → List LinkState → List LinkState → ℕ → ℕ → ℕ → Result Unit loop.Stop → Type 0
 Serve size draws c closed closed' faults faults' given result =
-    HandsBack (ShowsOver size.stores) size.agents draws (λ seen. IsFront seen (reverse c.past)) closed closed' faults faults' given result
+    HandsBack (ShowsOver size.stores) (MayBegin size.stores) size.agents draws (λ seen. IsFront seen (reverse c.past)) closed closed' faults faults' given result
 
 -- So many connections were served at the port as asked, by a cluster of this size, of which all that must holds if its
--- stores were empty or such as an earlier run of as many servers left, and this is reported of it.
+-- stores were empty or such as an earlier run of as many servers left, and this is reported of it. Then too all lists over
+-- which stale reads were answered begin the log that it has agreed, but those of connections that ended for want of memory.
 pub record ServedBy (size : Size) (options : Options) (draws : Option (List Draw)) (closed closed' : List LinkState) (faults faults' given : ℕ) (port : Option ℕ) (held held' : Option (List ℕ)) (report : Report) : Type 0 where
   pub reached : Cluster
   pub serves : Serves size reached
   pub holds : MayBegin size.stores → Holds size.stores reached
   pub links : Serve size draws reached closed closed' faults faults' given (Ok tt)
+  pub views : MayBegin size.stores → HaveRead (ShowsOver size.stores) (MayBegin size.stores) size.agents draws (λ seen. IsFront seen (reverse reached.past)) (commands_of reached.world.agreed) links.all.links links.all.each
   pub count : given ≡ most_of options.connections
   pub listens : port ≡ Some options.port
   pub written : Appends held held' (served_text options.port reached)

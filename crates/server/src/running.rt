@@ -32,13 +32,18 @@ use crossbeam_utils::CachePadded;
 use script_player::{Report, write_all, write_report};
 use serve_loop::{Board, Served, Server, SharedCluster, serve_all};
 use serve_outside::{Clock, Gate, Keepers, Listener, Spawner, Words};
-use serving_cluster::{ClusterSize, ServingCluster};
+use serving_cluster::{ClusterSize, ServingCluster, ViewedCluster, clusters_send};
+use stale_view::{Opened, PairName, Publisher, Viewer, stale_pair};
 use std::alloc::{AllocError, Global};
 use std::marker::Brand;
 use std::sync::{Arc, Wait};
 use std::thread::Threads;
 use thiserror::Error;
 use turn_lock::{HistoryLock, Pass};
+
+/// How many stale reads are answered at once without one waiting for another. Whatever shows viewers what is agreed visits
+/// the place of each.
+const READERS: u32 = 32;
 
 /// Why a server broke off.
 #[derive(Clone, Copy, Debug, PartialEq, Eq, Error)]
@@ -150,6 +155,7 @@ fn serve_over<
 >(
     machine: Machine<R, Cl, G>,
     cluster: C,
+    viewer: Viewer<C::Pair>,
     options: &Options<'_>,
     listener: &mut L,
     words: &mut W,
@@ -157,9 +163,10 @@ fn serve_over<
 ) -> Result<(C, Result<(), serve_loop::Stop>), Memory>
 where
     L::Link: Send + 'static,
+    C::Pair: Send + Sync + 'static,
     requires agents { (0 < options.now.agents) × (options.now.agents ≡ C.agents) }
     requires fresh { (L.given listener.old ≡ 0) × HasDrawn (W.draws words.old) 0 }
-    ensures links { IfOk result (λ r. HandsBack C.shows C.agents (W.draws words.new) (λ seen. IsFront seen (C.marks r.0)) (L.closed listener.old) (L.closed listener.new) (Sp.faults spawner.old) (Sp.faults spawner.new) (L.given listener.new) r.1) }
+    ensures links { IfOk result (λ r. HandsBack C.shows C.agrees C.agents (W.draws words.new) (λ seen. IsFront seen (C.marks r.0)) (L.closed listener.old) (L.closed listener.new) (Sp.faults spawner.old) (Sp.faults spawner.new) (L.given listener.new) r.1) }
     ensures count { IfOk result (λ r. OnOk r.1 (L.given listener.new ≡ most_of options.now.connections)) }
     ensures cause { IfOk result (λ r. IfErr r.1 (λ why. why ≡ loop.Listener → Rose (L.faults listener.old) (L.faults listener.new))) }
     ensures port { IfOk result (λ r. L.listens_on listener.new ≡ L.listens_on listener.old) }
@@ -180,8 +187,50 @@ where
         clock,
         gate,
         agents: options.agents,
+        viewer,
     };
     Ok(serve_all(&server, pass, listener, words, spawner, options.connections))
+}
+
+// Serves so many connections over a cluster that serves, of which viewers see what it has agreed. Gives it as they leave it,
+// and says what stopped them.
+fn serve_shown<
+    J: ClusterSize + PairName + Send + Sync + 'static,
+    S: ClusterInterface + Send + 'static,
+    R: Threads + Wait + Copy + Send + Drop + 'static,
+    Cl: Clock + Copy + Send + Drop + 'static,
+    G: Gate + Send + Sync + Drop + 'static,
+    L: Listener,
+    W: Words,
+    Sp: Spawner,
+>(
+    machine: Machine<R, Cl, G>,
+    cluster: ServingCluster<J, S>,
+    pair: (Publisher<J, R>, Viewer<J>),
+    options: &Options<'_>,
+    listener: &mut L,
+    words: &mut W,
+    spawner: &mut Sp,
+) -> Result<(ServingCluster<J, S>, Result<(), serve_loop::Stop>), Memory>
+where
+    L::Link: Send + 'static,
+    S::K: Send + 'static,
+    requires new { pair.0.taken ≡ [] }
+    requires agents { (0 < options.now.agents) × (options.now.agents ≡ J.size.agents) }
+    requires fresh { (L.given listener.old ≡ 0) × HasDrawn (W.draws words.old) 0 }
+    ensures links { IfOk result (λ r. spec.Serve J.size (W.draws words.new) r.0 (L.closed listener.old) (L.closed listener.new) (Sp.faults spawner.old) (Sp.faults spawner.new) (L.given listener.new) r.1) }
+    ensures count { IfOk result (λ r. OnOk r.1 (L.given listener.new ≡ most_of options.now.connections)) }
+    ensures cause { IfOk result (λ r. IfErr r.1 (λ why. why ≡ loop.Listener → Rose (L.faults listener.old) (L.faults listener.new))) }
+    ensures port { IfOk result (λ r. L.listens_on listener.new ≡ L.listens_on listener.old) }
+    ensures none { OnErr result ((listener.new ≡ listener.old) × (words.new ≡ words.old) × (spawner.new ≡ spawner.old)) }
+{
+    clusters_send::<J, S, R>();
+    let (publisher, viewer) = pair;
+    let cluster = ViewedCluster::new(cluster, publisher);
+    match serve_over(machine, cluster, viewer, options, listener, words, spawner) {
+        Ok((cluster, ended)) => Ok((cluster.into_serving(), ended)),
+        Err(Memory) => Err(Memory),
+    }
 }
 
 // Writes the last line, and reports what the cluster was led to. A count of events that fits no number is told as want of
@@ -242,7 +291,7 @@ fn end<J: ClusterSize, S: ClusterInterface, Si: Sink>(
 
 // Serves by a cluster of this size, from the line that says where it listens to the last one.
 fn serve_begun<
-    J: ClusterSize + Send + 'static,
+    J: ClusterSize + PairName + Send + Sync + 'static,
     S: ClusterInterface + Send + 'static,
     R: Threads + Wait + Copy + Send + Drop + 'static,
     Cl: Clock + Copy + Send + Drop + 'static,
@@ -255,6 +304,7 @@ fn serve_begun<
     machine: Machine<R, Cl, G>,
     options: &Options<'_>,
     cluster: ServingCluster<J, S>,
+    pair: (Publisher<J, R>, Viewer<J>),
     sink: &mut Si,
     listener: &mut L,
     words: &mut W,
@@ -263,6 +313,7 @@ fn serve_begun<
 where
     L::Link: Send + 'static,
     S::K: Send + 'static,
+    requires new { pair.0.taken ≡ [] }
     requires fits { spec.Fits options.now J.size }
     requires bounds { IsWithin options.now }
     requires fresh { (L.given listener.old ≡ 0) × HasDrawn (W.draws words.old) 0 }
@@ -275,7 +326,7 @@ where
 {
     let alloc = machine.alloc;
     match listen(alloc, sink, listener, options.port) {
-        Ok(()) => match serve_over(machine, cluster, options, listener, words, spawner) {
+        Ok(()) => match serve_shown(machine, cluster, pair, options, listener, words, spawner) {
             Ok((cluster, ended)) => end(alloc, sink, cluster, ended),
             Err(Memory) => Err(Stop::Memory),
         },
@@ -285,7 +336,7 @@ where
 
 // Serves by a cluster over these stores, of the size that `J` tells.
 fn serve_sized<
-    J: ClusterSize + Send + 'static,
+    J: ClusterSize + PairName + Send + Sync + 'static,
     S: ClusterInterface + Send + 'static,
     R: Threads + Wait + Copy + Send + Drop + 'static,
     Cl: Clock + Copy + Send + Drop + 'static,
@@ -299,6 +350,7 @@ fn serve_sized<
     machine: Machine<R, Cl, G>,
     options: &Options<'_>,
     stores: List<Ks::K>,
+    opened: Opened,
     sink: &mut Si,
     listener: &mut L,
     words: &mut W,
@@ -308,6 +360,7 @@ fn serve_sized<
 where
     L::Link: Send + 'static,
     S::K: Send + 'static,
+    requires named { opened.front.book ≡ J.book }
     requires size { J.size ≡ record { stores = map (λ k. store_of (S.K.held k) (S.K.armed k) (S.K.faults k) (S.K.sure k)) stores; agents = options.now.agents } }
     requires fits { spec.Fits options.now J.size }
     requires count { length stores ≡ options.now.servers }
@@ -325,8 +378,13 @@ where
     ensures untouched { IfErr result (λ why. why ≡ Stop.Keepers → (sink.new ≡ sink.old) × (listener.new ≡ listener.old) × (words.new ≡ words.old) × (spawner.new ≡ spawner.old)) }
     ensures made { Ks.made keepers.new ≡ Ks.made keepers.old }
 {
+    let Ok(pair) = stale_pair::<J, R>(machine.alloc, machine.rt, opened, READERS) else {
+        return Err(Stop::Memory);
+    };
     match begin_over::<J, S, Ks>(machine.alloc, keepers, stores, options.agents) {
-        Ok(cluster) => serve_begun(machine, options, cluster, sink, listener, words, spawner),
+        Ok(cluster) => serve_begun(
+            machine, options, cluster, pair, sink, listener, words, spawner,
+        ),
         Err(KeepFail::Failed) => Err(Stop::Keepers),
         Err(KeepFail::Memory) => Err(Stop::Memory),
     }
@@ -373,7 +431,15 @@ where
 {
     match make_stores(machine.alloc, keepers, options) {
         Ok(stores) => serve_sized::<Brand, S, R, Cl, G, Si, L, W, Sp, Ks>(
-            machine, options, stores, sink, listener, words, spawner, keepers,
+            machine,
+            options,
+            stores,
+            Opened::new(),
+            sink,
+            listener,
+            words,
+            spawner,
+            keepers,
         ),
         Err(KeepFail::Failed) => Err(Stop::Keepers),
         Err(KeepFail::Memory) => Err(Stop::Memory),

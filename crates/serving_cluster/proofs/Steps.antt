@@ -34,7 +34,7 @@ use Rattle.turn_lock.proofs.Lists.{numbers_append}
 use Rattle.serve_loop.specs.declared.cluster.Ask.{Ask}
 use Rattle.serve_loop.specs.declared.cluster.Collected.TheVariants as collected
 use Rattle.serve_loop.specs.Collects.{Collects, IsGiven}
-use Rattle.serve_loop.specs.Marks.{AddsAsked, AddsCut, AddsQuiet, AreKept, Delivers, TicksBy, TicksNone, answered_mark, asked_mark, opens, takes, ticks, ticks_by}
+use Rattle.serve_loop.specs.Marks.{AddsAsked, AddsCut, AddsQuiet, AreKept, Delivers, TicksBy, TicksNone, answered_mark, asked_mark, log_of, opens, takes, ticks, ticks_by}
 use Rattle.serve_loop.proofs.Clocks.{by_none, none_none, ticks_none}
 use Rattle.serve_loop.proofs.MarkLists.{append_none, in_right, joined, quiet_cut, quiet_none, quiet_quiet}
 use Rattle.serving_rules.specs.Keeping.{Keeps}
@@ -43,7 +43,7 @@ use Rattle.serving_rules.proofs.Keeping.{step_keeps}
 use Rattle.serving_cluster.specs.Shared.{IsOpen, Sifts, shared_of}
 use Rattle.serving_cluster.specs.Ticks.{Ticked, TicksOne, TicksUpTo}
 use Rattle.serving_rules.proofs.Serving.{agent_ticked_on, asked_on, elected, handed_on, is_booked, is_sound, none_closed, partly_on, settled_on, taken_on, ticked_on}
-use Rattle.serving_cluster.specs.Shown.{ShowsOver, log_of, question}
+use Rattle.serving_cluster.specs.Shown.{ShowsOver, question}
 use Rattle.serving_cluster.proofs.Marks.{Silent, Went, are_kept, asked_event, cut_event, opened, quiet_event, quietly, ticked_event, took, unticked_event, went_event}
 use Rattle.serving_cluster.proofs.Reverses.{among_or_not, in_back, in_reverse, once_last, reverse_cons}
 

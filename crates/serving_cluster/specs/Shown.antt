@@ -1,21 +1,16 @@
 -- What the replies of a cluster that serves show.
-use Rattle.std.specs.Prelude.{◌≡◌, ℕ, List, reverse}
+use Rattle.std.specs.Prelude.{◌≡◌, ℕ, List}
 use Rattle.cat_model.specs.declared.reply.Mark.{Mark}
-use Rattle.raft_model.specs.Log.{Log}
 use Rattle.raft_model.specs.Node.{Store}
 use Rattle.cluster_rules.specs.Reached.{MayBegin}
 use Rattle.cluster_rules.specs.Lasting.{Lasting}
 use Rattle.cluster_rules.specs.Replies.{Question, Reply, reply_of}
-use Rattle.cluster_rules.specs.Sound.{entered_in}
 use Rattle.serve_loop.specs.declared.cluster.Ask.{Ask}
+use Rattle.serve_loop.specs.Marks.{log_of}
 
 -- the request with this number
 abbrev pub question : ℕ → Ask → Question
 question number a = record { number = number; agent = a.agent; asked = a.asked; draw = a.draw }
-
--- the agreed log that marks tell; the first mark stands first
-abbrev pub log_of : List Mark → Log
-log_of marks = entered_in (reverse marks)
 
 -- The reply shows what its request and its kind give over the agreed log that the marks tell, and what it rests on lasts.
 pub record Shows (number : ℕ) (a : Ask) (reply : Reply) (marks : List Mark) : Type 0 where

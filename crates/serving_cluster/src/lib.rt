@@ -2,7 +2,11 @@
 //! server restarts.
 #![tactic(auto)]
 
+mod sending;
 mod serving;
 mod sharing;
+mod showing;
 
+pub use sending::clusters_send;
 pub use serving::{ClusterSize, NotBegun, ServingCluster};
+pub use showing::ViewedCluster;

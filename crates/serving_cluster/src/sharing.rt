@@ -1,18 +1,21 @@
-//! The cluster as its users' turns see it.
+//! What turns do with a cluster that serves.
 
-ghost use Rattle.std.specs.Prelude.{◌≡◌, [], IfOk, OnErr, OnOk, length, reverse};
+ghost use Rattle.std.specs.Prelude.{◌≡◌, ◌<◌, [], IfOk, OnErr, OnOk, length, reverse};
+ghost use Rattle.cat_model.specs.Log.{commands_of};
 ghost use Rattle.cluster_rules.specs.Cluster.{clock_of};
+ghost use Rattle.cluster_rules.specs.Reached.{MayBegin};
+ghost use Rattle.open_requests.specs.Taking.{IsNumberAt};
 ghost use Rattle.serve_loop.specs.Collects.{Collects};
-ghost use Rattle.serve_loop.specs.Marks.{AddsAsked, AddsCut, AddsQuiet, Delivers, TicksAll, TicksBy, TicksNone};
+ghost use Rattle.serve_loop.specs.Marks.{AddsAsked, AddsCut, AddsQuiet, AreKept, Delivers, TicksAll, TicksBy, TicksNone, agreed_by};
 ghost use Rattle.serve_loop.specs.Turns.{MayAsk};
 ghost use Rattle.serving_cluster.specs.Shown.{ShowsOver};
 ghost use Rattle.serving_cluster.specs.Shared.{IsOpen, Sifts, shared_of};
 ghost use Rattle.serving_cluster.specs.Ticks.{TicksOne, TicksWholly};
 
 use crate::serving::{ClusterSize, ServingCluster};
-use cat_model::{Asked, Event, Memory};
+use cat_model::{Entry, Event, Memory};
 use cluster_interface::ClusterInterface;
-use serve_loop::{Ask, Collected, SharedCluster};
+use serve_loop::{Ask, Collected};
 use std::alloc::Global;
 
 // A request's reply, or what else there is of a request that is not closed.
@@ -129,7 +132,7 @@ impl<J: ClusterSize, S: ClusterInterface> ServingCluster<J, S> {
     }
 
     // Asks an agent that is there.
-    fn ask_agent(&mut self, alloc: Global, ask: &Ask) -> Result<u64, Memory>
+    pub(crate) fn ask_agent(&mut self, alloc: Global, ask: &Ask) -> Result<u64, Memory>
         requires { MayAsk J.size.agents ask.now }
         ensures asked { IfOk result (λ number. AddsAsked number ask.now (reverse self.old.past) (reverse self.new.past)) }
         ensures cut { OnErr result (AddsCut (reverse self.old.past) (reverse self.new.past)) }
@@ -158,7 +161,7 @@ impl<J: ClusterSize, S: ClusterInterface> ServingCluster<J, S> {
     }
 
     // Takes a request's reply, if it is there. No request is closed, since no server restarts.
-    fn take_reply(&mut self, number: u64) -> Collected
+    pub(crate) fn take_reply(&mut self, number: u64) -> Collected
         ensures got { Collects (ShowsOver J.size.stores) number result (reverse self.old.past) (reverse self.new.past) }
         ensures world { self.new.world ≡ self.old.world }
     {
@@ -167,58 +170,57 @@ impl<J: ClusterSize, S: ClusterInterface> ServingCluster<J, S> {
     }
 }
 
-impl<J: ClusterSize, S: ClusterInterface> SharedCluster for ServingCluster<J, S> {
-    ghost use Rattle.std.specs.Prelude.{◌≡◌, [], length, reverse};
-    ghost use Rattle.cluster_rules.specs.Cluster.{clock_of};
-    ghost use Rattle.serving_cluster.specs.Shown.{ShowsOver};
-
-    ghost marks = { λ c. reverse c.past };
-
-    ghost agents = { J.size.agents };
-
-    ghost servers = { λ c. length c.servers };
-
-    ghost clock = { λ c s. clock_of c.world s };
-
-    ghost idle = { λ c. c.world.bag.packets ≡ [] };
-
-    ghost tray = { λ c. c.tray };
-
-    ghost shows = { ShowsOver J.size.stores };
-
-    fn kept(&self) {
+impl<J: ClusterSize, S: ClusterInterface> ServingCluster<J, S> {
+    // Each number is asked at most once and answered at most once, and only what was asked is taken.
+    pub(crate) fn kept(&self)
+        ensures { AreKept (reverse self.now.past) }
+    {
         // What the type keeps is at hand once the cluster is read, whatever is read of it.
         self.cluster.asked();
     }
 
-    fn advance(&mut self, alloc: Global, ms: u64) -> Result<(), Memory> {
+    // The agreed log, which the marks tell.
+    pub(crate) fn agreed(&self) -> &[Entry]
+        ensures log { MayBegin J.size.stores → agreed_by (reverse self.now.past) ≡ commands_of result.now }
+    {
+        self.cluster.agreed()
+    }
+
+    // All clocks go on, if that is by some time.
+    pub(crate) fn advance(&mut self, alloc: Global, ms: u64) -> Result<(), Memory>
+        ensures quiet { AddsQuiet (reverse self.old.past) (reverse self.new.past) }
+        ensures ticks { TicksBy ms (reverse self.old.past) (reverse self.new.past) }
+        ensures all { OnOk result (0 < ms → TicksAll (length self.old.servers) (λ s. clock_of self.old.world s) ms (reverse self.old.past) (reverse self.new.past)) }
+    {
         if ms == 0 {
             return Ok(());
         }
         self.go_on(alloc, ms)
     }
 
-    fn ask(&mut self, alloc: Global, ask: Ask) -> Result<u64, Memory> {
-        let asked = self.ask_agent(alloc, &ask);
-        drop(ask);
-        asked
-    }
-
-    fn settle(&mut self, alloc: Global, most: u32) -> Result<u32, Memory> {
+    // Delivers the messages between servers, and lets go of the outs of syncs.
+    pub(crate) fn settle(&mut self, alloc: Global, most: u32) -> Result<u32, Memory>
+        ensures quiet { AddsQuiet (reverse self.old.past) (reverse self.new.past) }
+        ensures unticked { TicksNone (reverse self.old.past) (reverse self.new.past) }
+        ensures delivered { IfOk result (λ count. Delivers most (self.new.world.bag.packets ≡ []) count (reverse self.old.past) (reverse self.new.past)) }
+    {
         let settled = self.deliver(alloc, most);
         self.drop_syncs();
         settled
     }
 
-    fn collect(&mut self, number: u64) -> Collected {
-        self.take_reply(number)
-    }
-
-    fn outs(&self) -> usize {
+    // How many outs wait to be taken.
+    pub(crate) fn outs(&self) -> usize
+        ensures { result ≡ length self.now.tray }
+    {
         self.cluster.outs()
     }
 
-    fn out_number(&self, at: usize) -> Option<u64> {
+    // The number of the request whose out stands at this place of those that wait, where it is a request's.
+    pub(crate) fn out_number(&self, at: usize) -> Option<u64>
+        requires { at < length self.now.tray }
+        ensures { IsNumberAt at self.now.tray result }
+    {
         self.cluster.out_number(at)
     }
 }

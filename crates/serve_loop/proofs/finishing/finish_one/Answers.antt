@@ -3,6 +3,7 @@ use Rattle.cluster_rules.specs.Sound.{IsAmong}
 use Rattle.serve_outside.specs.Tasks.{note_of}
 use Rattle.serve_loop.specs.Boards.{known}
 use Rattle.serve_loop.specs.Jobs.{connection_of}
+use Rattle.serve_loop.specs.Knowing.{known_by}
 use Rattle.serve_loop.proofs.Runs.{is_served, told_before, told_now}
 use Rattle.serve_loop.proofs.finishing.finish_one.Goals as goal
 
@@ -17,8 +18,8 @@ returns-clause-served g c =
     let told = c.give_back.new.pass.seat.me.0.told in let own = known done.pass in record {
       link = state done.link;
       why = done.cause;
-      is = is_served g.C.SharedCluster.shows g.C.SharedCluster.agents (g.W.Words.draws c.args.words.now) (λ seen. IsAmong seen told) (connection_of state job) (state done.link) own done.cause done.requests
-          (told_now (c.args.pass.now.seat.me.0.told ++ own.told) told own.seen c.give_back.ensures.told) s.new s.agent s.drawn e.1 e.2;
+      is = is_served g.C.SharedCluster.shows g.C.SharedCluster.agrees g.C.SharedCluster.agents (g.W.Words.draws c.args.words.now) (λ seen. IsAmong seen told) (connection_of state job) (state done.link) (known_by done.pass done.viewer) done.cause done.requests
+          (told_now (c.args.pass.now.seat.me.0.told ++ own.told) told own.seen c.give_back.ensures.told) e.3 s.new s.agent s.drawn e.1 e.2;
       are = c.close.ensures.closed;
       short_is = c.lacked_memory.ensures;
     }

@@ -12,14 +12,14 @@ loop-left-init g c =
       refl,
       refl,
       λ seen a. a,
-      joins_none g.C.SharedCluster.shows g.C.SharedCluster.agents draws knows (g.L.Listener.closed c.args.listener.now) (length c.args.jobs.now.tasks.items) c.args.jobs.now.short,
+      joins_none g.C.SharedCluster.shows g.C.SharedCluster.agrees g.C.SharedCluster.agents draws knows (g.L.Listener.closed c.args.listener.now) (length c.args.jobs.now.tasks.items) c.args.jobs.now.short,
       c.requires.tasks,
       refl,
     )
 
 pub loop-left-preserved : goal.loop-left-preserved
 loop-left-preserved g c =
-    let shows = g.C.SharedCluster.shows in let agents = g.C.SharedCluster.agents in let draws = g.W.Words.draws c.args.words.now in
+    let shows = g.C.SharedCluster.shows in let agrees = g.C.SharedCluster.agrees in let agents = g.C.SharedCluster.agents in let draws = g.W.Words.draws c.args.words.now in
     let given = g.L.Listener.given in let faults = g.L.Listener.faults in let port = g.L.Listener.listens_on in let closed = g.L.Listener.closed in
     let i = c.loop-left.invariant in
     let knows : List Mark → Type 0 = λ seen. IsAmong seen c.loop-left.pass.seat.me.0.told in let knows' : List Mark → Type 0 = λ seen. IsAmong seen c.sweep_one.new.pass.seat.me.0.told in
@@ -29,8 +29,8 @@ loop-left-preserved g c =
       ◌∙◌ {a = given c.sweep_one.new.listener} c.sweep_one.ensures.given i.1,
       ◌∙◌ {a = faults c.sweep_one.new.listener} c.sweep_one.ensures.faults i.2,
       λ seen x. c.sweep_one.ensures.told seen (i.3 seen x),
-      joins_on shows agents draws knows' a b z n m o c.args.jobs.now.short c.loop-left.jobs.short c.sweep_one.new.jobs.short
-          (joins_later shows agents draws draws (λ k w x. x) knows knows' c.sweep_one.ensures.told a b n m c.args.jobs.now.short c.loop-left.jobs.short i.4) c.sweep_one.ensures.joins,
+      joins_on shows agrees agents draws knows' a b z n m o c.args.jobs.now.short c.loop-left.jobs.short c.sweep_one.new.jobs.short
+          (joins_later shows agrees agents draws draws (λ k w x. x) knows knows' c.sweep_one.ensures.told a b n m c.args.jobs.now.short c.loop-left.jobs.short i.4) c.sweep_one.ensures.joins,
       c.sweep_one.ensures.tasks,
       ◌∙◌ {a = port c.sweep_one.new.listener} c.sweep_one.ensures.port i.6,
     )

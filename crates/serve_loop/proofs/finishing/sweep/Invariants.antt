@@ -13,9 +13,9 @@ invariant-loop-left g l =
     × (g.L.Listener.given l.listener ≡ g.L.Listener.given l.fn.listener)
     × (g.L.Listener.faults l.listener ≡ g.L.Listener.faults l.fn.listener)
     × ((seen : _) → IsAmong seen l.fn.pass.seat.me.0.told → IsAmong seen l.pass.seat.me.0.told)
-    × Joins g.C.SharedCluster.shows g.C.SharedCluster.agents (g.W.Words.draws l.words) (λ seen. IsAmong seen l.pass.seat.me.0.told) (g.L.Listener.closed l.fn.listener) (g.L.Listener.closed l.listener) (length l.fn.jobs.tasks.items) (length l.jobs.tasks.items) l.fn.jobs.short l.jobs.short
+    × Joins g.C.SharedCluster.shows g.C.SharedCluster.agrees g.C.SharedCluster.agents (g.W.Words.draws l.words) (λ seen. IsAmong seen l.pass.seat.me.0.told) (g.L.Listener.closed l.fn.listener) (g.L.Listener.closed l.listener) (length l.fn.jobs.tasks.items) (length l.jobs.tasks.items) l.fn.jobs.short l.jobs.short
     × AllTasks l.jobs.tasks.items
-    (λ p d. HasEnded g.C.SharedCluster.shows g.L.Link.Link.state p.0.value d)
+    (λ p d. HasEnded g.C.SharedCluster.shows g.C.SharedCluster.agrees g.L.Link.Link.state p.0.value d)
     (λ p. IsStarted (arc_value l.server.board) g.C.SharedCluster.agents (g.W.Words.draws l.words) g.L.Link.Link.state p.0.value)
     × (g.L.Listener.listens_on l.listener ≡ g.L.Listener.listens_on l.fn.listener)
 

@@ -1,5 +1,5 @@
 use Rattle.std.proofs.Common.{sym, subst}
-use Rattle.serve_loop.specs.Boards.{known}
+use Rattle.serve_loop.specs.Knowing.{known_by}
 use Rattle.serve_loop.specs.Services.{connection}
 use Rattle.serve_loop.specs.Turns.{MayAsk}
 use Rattle.serve_loop.proofs.Exchanges.{answered_by, held_by}
@@ -11,11 +11,13 @@ ask_and_wait-requires-clause-may g c = subst (MayAsk g.C.SharedCluster.agents) (
 
 pub returns-in-Ok-clause-reply : goal.returns-in-Ok-clause-reply
 returns-in-Ok-clause-reply g c =
-    answered_by g.C.SharedCluster.shows (connection g.L.Link.state c.args.service.now) c.args.request c.args.n c.in-Ok.ask c.ask_and_wait.result (known c.ask_and_wait.new.pass) c.in-Ok.ensures c.ask_and_wait.ensures.answered
+    let k = connection g.L.Link.state c.args.service.now in
+    answered_by g.C.SharedCluster.shows g.C.SharedCluster.agrees k c.args.request c.args.n c.in-Ok.ask c.ask_and_wait.result (known_by c.ask_and_wait.new.pass c.ask_and_wait.new.viewer) c.in-Ok.ensures c.ask_and_wait.ensures.answered c.ask_and_wait.ensures.learned
 
 pub returns-in-Ok-clause-left : goal.returns-in-Ok-clause-left
 returns-in-Ok-clause-left g c =
-    held_by g.C.SharedCluster.shows (connection g.L.Link.state c.args.service.now) c.args.request c.args.n c.in-Ok.ask c.ask_and_wait.result (known c.ask_and_wait.new.pass) c.in-Ok.ensures c.ask_and_wait.ensures.left
+    let k = connection g.L.Link.state c.args.service.now in
+    held_by g.C.SharedCluster.shows g.C.SharedCluster.agrees k c.args.request c.args.n c.in-Ok.ask c.ask_and_wait.result (known_by c.ask_and_wait.new.pass c.ask_and_wait.new.viewer) c.in-Ok.ensures c.requires.unviewed c.ask_and_wait.ensures.left
 
 pub returns-in-Err-clause-grown : goal.returns-in-Err-clause-grown
-returns-in-Err-clause-grown g c = grows_none (known c.args.pass.now)
+returns-in-Err-clause-grown g c = grows_none (known_by c.args.pass.now c.args.viewer.now)

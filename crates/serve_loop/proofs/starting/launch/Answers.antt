@@ -5,12 +5,12 @@ use Rattle.serve_loop.proofs.Runs.{told_before, turned_none, turned_one}
 use Rattle.serve_loop.proofs.starting.launch.Goals as goal
 
 pub returns-in-Ok-clause-turned : goal.returns-in-Ok-clause-turned
-returns-in-Ok-clause-turned g c = turned_none (g.L.Listener.closed c.args.listener.now) (g.Sp.Spawner.faults c.args.spawner.now) (g.Sp.Spawner.faults c.start.new.spawner) c.in-Ok.ensures.counted.0
+returns-in-Ok-clause-turned g c = turned_none (g.L.Listener.closed c.args.listener.now) (g.Sp.Spawner.faults c.args.spawner.now) (g.Sp.Spawner.faults c.start_job.new.spawner) c.in-Ok.ensures.counted.0
 
 pub returns-in-Err-clause-turned : goal.returns-in-Err-clause-turned
 returns-in-Err-clause-turned g c =
     let state = g.L.Link.Link.state in
-    turned_one (g.L.Listener.closed c.args.listener.now) (g.L.Listener.closed c.close.new.self) (g.Sp.Spawner.faults c.args.spawner.now) (g.Sp.Spawner.faults c.start.new.spawner) (state c.in-Err.job.link).number (state c.in-Err.job.link) (state c.turn_away.new.link)
+    turned_one (g.L.Listener.closed c.args.listener.now) (g.L.Listener.closed c.close.new.self) (g.Sp.Spawner.faults c.args.spawner.now) (g.Sp.Spawner.faults c.start_job.new.spawner) (state c.in-Err.job.link).number (state c.in-Err.job.link) (state c.turn_away.new.link)
     (subst (λ (j : _). IsNew (state j.link).number (state j.link)) (sym c.in-Err.ensures.refused) c.requires.new)
     c.turn_away.ensures c.close.ensures.closed c.in-Err.ensures.cause
 

@@ -11,7 +11,7 @@ use Rattle.serve_loop.proofs.starting.start_next.Goals as goal
 pub returns-in-Ok-Some-clause-tasks : goal.returns-in-Ok-Some-clause-tasks
 returns-in-Ok-Some-clause-tasks g c =
     let state = g.L.Link.Link.state in let is : c.in-Ok-Some.field-0 ≡ Some c.in-Ok-Some.task = cc in
-    started_more (λ p. p.0.value) (λ p d. HasEnded g.C.SharedCluster.shows state p.0.value d) (arc_value c.args.server.now.board) g.C.SharedCluster.agents (g.W.Words.draws c.args.words.now) (g.W.Words.draws c.draw-draw.new.self) state
+    started_more (λ p. p.0.value) (λ p d. HasEnded g.C.SharedCluster.shows g.C.SharedCluster.agrees state p.0.value d) (arc_value c.args.server.now.board) g.C.SharedCluster.agents (g.W.Words.draws c.args.words.now) (g.W.Words.draws c.draw-draw.new.self) state
     c.draw-draw.result (g.L.Listener.given c.args.listener.now) c.args.n c.args.tasks.now.items c.reserve.new.self.items c.push_reserved.new.self.items c.in-Ok-Some.field-0 c.in-Ok-Some.task
     c.requires.tasks is c.in-Ok-Some.ensures.kept c.in-Ok-Some.ensures.job c.requires.drawn c.requires.number c.draw-draw.ensures c.reserve.ensures.items c.push_reserved.ensures.items
 

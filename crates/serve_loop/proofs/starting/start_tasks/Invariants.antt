@@ -13,10 +13,10 @@ invariant-loop-n g l =
     × IsOurs (arc_value l.server.board) l.pass
     × (g.L.Listener.given l.listener ≡ l.n)
     × HasDrawn (g.W.Words.draws l.words) l.n
-    × Handed g.C.SharedCluster.shows g.C.SharedCluster.agents (g.W.Words.draws l.words) (λ seen. IsAmong seen l.pass.seat.me.0.told) (g.L.Listener.closed l.fn.listener) (g.L.Listener.closed l.listener) (g.Sp.Spawner.faults l.fn.spawner) (g.Sp.Spawner.faults l.spawner) (g.L.Listener.given l.listener) (length l.jobs.tasks.items) l.jobs.short
+    × Handed g.C.SharedCluster.shows g.C.SharedCluster.agrees g.C.SharedCluster.agents (g.W.Words.draws l.words) (λ seen. IsAmong seen l.pass.seat.me.0.told) (g.L.Listener.closed l.fn.listener) (g.L.Listener.closed l.listener) (g.Sp.Spawner.faults l.fn.spawner) (g.Sp.Spawner.faults l.spawner) (g.L.Listener.given l.listener) (length l.jobs.tasks.items) l.jobs.short
     × (g.L.Listener.faults l.fn.listener ≤ g.L.Listener.faults l.listener)
     × AllTasks l.jobs.tasks.items
-    (λ p d. HasEnded g.C.SharedCluster.shows g.L.Link.Link.state p.0.value d)
+    (λ p d. HasEnded g.C.SharedCluster.shows g.C.SharedCluster.agrees g.L.Link.Link.state p.0.value d)
     (λ p. IsStarted (arc_value l.server.board) g.C.SharedCluster.agents (g.W.Words.draws l.words) g.L.Link.Link.state p.0.value)
     × (g.L.Listener.listens_on l.listener ≡ g.L.Listener.listens_on l.fn.listener)
     × ((seen : _) → IsAmong seen l.fn.pass.seat.me.0.told → IsAmong seen l.pass.seat.me.0.told)

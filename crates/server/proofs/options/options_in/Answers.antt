@@ -1,4 +1,4 @@
-use Rattle.std.proofs.Common.{arith, rules}
+use Rattle.std.proofs.Common.{rules}
 use Rattle.server.proofs.Asking.{asks_from, word_at, words_count}
 use Rattle.server.proofs.options.options_in.Goals as goal
 use Rattle.server.proofs.options.options_in.Goals.{in_default-via-then-words-lt7, in_default-via-else-words-lt7+then-words-lt8+in-serve+in-text+in-text+in_default, in_default-via-else-words-lt7+then-words-lt8+in-serve+in-text+in_default, in_default-via-else-words-lt7+then-words-lt8+in-serve+in_default, in_default-via-else-words-lt7+then-words-lt8+in_default, in_default-via-else-words-lt7+else-words-lt8}

@@ -1,4 +1,4 @@
-use Rattle.std.proofs.Common.{◌⊎◌, inl, map, refl, sym, ◌∙◌, subst, arith}
+use Rattle.std.proofs.Common.{inl, map, refl, sym, ◌∙◌, subst, arith}
 use Rattle.server.specs.Stores.{HasOneFailed}
 use Rattle.server.proofs.Failing.{given_back}
 use Rattle.server.proofs.stores.give_back.Goals as goal

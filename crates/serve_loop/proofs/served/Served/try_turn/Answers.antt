@@ -1,3 +1,4 @@
+use Rattle.serve_loop.proofs.Agreeing.{prefix_self}
 use Rattle.serve_loop.proofs.Clocks.{goes_still}
 use Rattle.serve_loop.proofs.OwnTurns.{turns_or}
 use Rattle.serve_loop.proofs.served.Served.try_turn.Goals as goal
@@ -10,3 +11,6 @@ returns-in-Ok-clause-turned g c =
 
 pub returns-in-Ok-clause-time : goal.returns-in-Ok-clause-time
 returns-in-Ok-clause-time g c = goes_still _ _ _ c.args.now _ _ _ c.in-Ok.ensures.time c.exchange.ensures.still
+
+pub returns-in-Err-clause-viewed : goal.returns-in-Err-clause-viewed
+returns-in-Err-clause-viewed g c = prefix_self c.args.viewer.now
