@@ -1,7 +1,7 @@
 use anyhow::Result;
 use cat_model::{Bytes, List};
 use cat_outside::{SureSink, SureSource};
-use catalog_top::{Machine, run};
+use catalog_top::{Machine, run, status_of};
 use serve_outside::{Bells, CountWords, MemListener, MemSpawner, SetClock, SureKeepers};
 use std::alloc::Global;
 use std::sync::Wait;
@@ -40,10 +40,9 @@ pub fn play<R: Threads + Wait + time::Clock + Copy + Send + Sync + Drop + 'stati
         &mut MemSpawner::new(List::new(alloc)),
         &mut SureKeepers::new(),
     );
-    Ok(Played {
-        status: outcome.into_status(),
-        sink,
-    })
+    let status = status_of(&outcome);
+    drop(outcome);
+    Ok(Played { status, sink })
 }
 
 /// The machine, with a clock that stands still.

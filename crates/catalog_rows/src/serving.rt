@@ -5,7 +5,7 @@ use crate::served_row::{Connection, ServedRow};
 use anyhow::Result;
 use cat_model::{Bytes, List};
 use cat_outside::{SureSink, SureSource};
-use catalog_top::{Machine, run};
+use catalog_top::{Machine, run, status_of};
 use serve_outside::{
     Bells, Clock, CountWords, Gate, MachineClock, MemListener, MemSpawner, Script, Spawner,
     SureKeepers, ThreadSpawner,
@@ -105,8 +105,10 @@ fn serve_by<
         spawner,
         &mut SureKeepers::new(),
     );
+    let status = status_of(&outcome);
+    drop(outcome);
     Ok(Ended {
-        status: outcome.into_status(),
+        status,
         sink,
         listener,
     })

@@ -1,12 +1,16 @@
 -- A script within the limits and without a refused line runs whole.
-use Rattle.std.proofs.Common.{◌≡◌, ◌⊎◌, ℕ, ◌≤◌, Bool, true, false, nat_lt, nat_eq, ◌||◌, cond, List, [], ◌∷◌, ◌++◌, length, length-append, Option, None, Some, ap, ◌∙◌, append-nil, inl, inr, subst, arith}
+use Rattle.std.proofs.Common.{◌≡◌, ℕ, ◌≤◌, Bool, true, false, nat_lt, nat_eq, ◌||◌, cond, List, [], ◌∷◌, ◌++◌, length, length-append, Option, None, Some, Result, Ok, Err, ap, ◌∙◌, append-nil, subst, arith}
 use Rattle.std.proofs.lemmas.Bool.Decides.{nat_tests}
 use Rattle.std.specs.Io.KnownBytes.{Consumes, IsAtEnd}
 use Rattle.script_player.specs.Line.{lines_of, onto_line}
 use Rattle.script_player.specs.Script.{script_of}
 use Rattle.catalog_top.specs.Limits.{is_too_long}
+use Rattle.script_player.specs.declared.report.Report.{Report}
+use Rattle.catalog_top.specs.declared.stop.Stop.{Stop}
+use Rattle.catalog_top.specs.declared.stop.Stop.TheVariants as stop
+use Rattle.catalog_top.specs.Ends.{EndsWell, PlaysScript}
+use Rattle.catalog_top.specs.Outside.{Input, Output}
 use Rattle.catalog_top.specs.Run.{NeverRefuses, RefusesLine, PassesLimit}
-use Rattle.catalog_top.specs.Stops.{IsEnded}
 
 onto_line-more : (b : ℕ) (ls ms : List (List ℕ)) → length ls ≤ length ms → length (onto_line b ls) ≤ length (onto_line b ms)
 onto_line-more b [] [] h = omega arith
@@ -42,24 +46,25 @@ taken-all : (left' : Option (List ℕ)) (bytes taken : List ℕ) → Consumes (S
 taken-all None bytes taken took end = absurd took
 taken-all (Some rest) bytes taken took end = took ∙ ap (λ r. taken ++ r) end ∙ append-nil taken
 
-not_refused : (left' : Option (List ℕ)) (ends ends' : ℕ) (held held' : Option (List ℕ)) (bytes : List ℕ) →
-    RefusesLine (Some bytes) left' ends ends' held held' → NeverRefuses (script_of bytes) → ⊥
-not_refused left' ends ends' held held' bytes refuses never =
-    let same = taken-all left' bytes refuses.took.bytes refuses.took.consumed refuses.took.at_end in
+not_refused : (i i' : Input) (o o' : Output) (bytes : List ℕ) → i.left ≡ Some bytes → RefusesLine i i' o o' → NeverRefuses (script_of bytes) → ⊥
+not_refused i i' o o' bytes known refuses never =
+    let same = taken-all i'.left bytes refuses.took.bytes (subst (λ (l : Option (List ℕ)). Consumes l i'.left refuses.took.bytes) known refuses.took.consumed) refuses.took.at_end in
     subst (λ (b : List ℕ). NeverRefuses (script_of b)) same never refuses.run.line refuses.run.why refuses.run.text refuses.run.writes
 
-not_past : (left' : Option (List ℕ)) (held held' : Option (List ℕ)) (bytes : List ℕ) →
-    PassesLimit (Some bytes) left' held held' → is_too_long bytes ≡ false → ⊥
-not_past left' held held' bytes passes short =
-    let front = taken-front left' bytes passes.bytes passes.consumed in
+not_past : (i i' : Input) (o o' : Output) (bytes : List ℕ) → i.left ≡ Some bytes → PassesLimit i i' o o' → is_too_long bytes ≡ false → ⊥
+not_past i i' o o' bytes known passes short =
+    let front = taken-front i'.left bytes passes.bytes (subst (λ (l : Option (List ℕ)). Consumes l i'.left passes.bytes) known passes.consumed) in
     too_long-front passes.bytes front.0 (subst (λ (b : List ℕ). is_too_long b ≡ false) front.1 short) passes.too_long
 
-pub complete_from : (left left' : Option (List ℕ)) (ends ends' : ℕ) (held held' : Option (List ℕ)) (status : ℕ) (form : Type 0) →
-    IsEnded status → (status ≡ 2 → (form → ⊥)) → (status ≡ 3 → RefusesLine left left' ends ends' held held') → (status ≡ 7 → PassesLimit left left' held held') →
-    (bytes : List ℕ) → form → left ≡ Some bytes → is_too_long bytes ≡ false → NeverRefuses (script_of bytes) → (status ≡ 0) ⊎ (status ≡ 8)
-complete_from left left' ends ends' held held' status form (inl zero) usage refused limit bytes is_form known short whole = inl zero
-complete_from left left' ends ends' held held' status form (inr (inl two)) usage refused limit bytes is_form known short whole = absurd (usage two is_form)
-complete_from left left' ends ends' held held' status form (inr (inr (inl three))) usage refused limit bytes is_form known short whole =
-    absurd (not_refused left' ends ends' held held' bytes (subst (λ (l : Option (List ℕ)). RefusesLine l left' ends ends' held held') known (refused three)) whole)
-complete_from left left' ends ends' held held' status form (inr (inr (inr seven))) usage refused limit bytes is_form known short whole =
-    absurd (not_past left' held held' bytes (subst (λ (l : Option (List ℕ)). PassesLimit l left' held held') known (limit seven)) short)
+-- how it ends is a report, a fault, or out of memory
+pub complete : (i i' : Input) (o o' : Output) (r : Result Report Stop) (bytes : List ℕ) → PlaysScript i i' o o' r →
+    i.left ≡ Some bytes → is_too_long bytes ≡ false → NeverRefuses (script_of bytes) → EndsWell r
+complete i i' o o' (Ok report) bytes plays known short never = tt
+complete i i' o o' (Err stop.Words) bytes plays known short never = plays
+complete i i' o o' (Err stop.Line) bytes plays known short never = not_refused i i' o o' bytes known plays.0 never
+complete i i' o o' (Err stop.Source) bytes plays known short never = tt
+complete i i' o o' (Err stop.Sink) bytes plays known short never = tt
+complete i i' o o' (Err stop.Listener) bytes plays known short never = plays
+complete i i' o o' (Err stop.Limit) bytes plays known short never = not_past i i' o o' bytes known plays.0 short
+complete i i' o o' (Err stop.Memory) bytes plays known short never = tt
+complete i i' o o' (Err stop.Store) bytes plays known short never = plays

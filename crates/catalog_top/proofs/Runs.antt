@@ -1,5 +1,5 @@
--- How a run ends, from its parts.
-use Rattle.std.proofs.Common.{◌≡◌, ◌⊎◌, ℕ, ◌<◌, ◌≤◌, true, false, nat_lt, ◌||◌, List, [], length, Option, refl, sym, inl, inr, arith}
+-- How a script's run ends, from its parts.
+use Rattle.std.proofs.Common.{◌≡◌, ◌⊎◌, ℕ, ◌<◌, ◌≤◌, true, false, nat_lt, ◌||◌, List, [], length, Err, refl, subst, sym, inl, inr, arith}
 use Rattle.std.proofs.lemmas.Bool.Decides.{nat_tests}
 use Rattle.std.specs.Io.KnownBytes.{Consumes, Appends}
 use Rattle.std.proofs.KnownBytes.{Appends-nil}
@@ -12,13 +12,14 @@ use Rattle.script_player.specs.Run.{PartOfRun, RefusedRun, WholeRun, WritesPart}
 use Rattle.script_player.specs.Stage.{CountsWrite}
 use Rattle.catalog_top.specs.declared.input.ReadFail.{ReadFail}
 use Rattle.catalog_top.specs.declared.input.ReadFail.TheVariants as read_fail
-use Rattle.catalog_top.specs.declared.outcome.Stop.{Stop}
+use Rattle.catalog_top.specs.declared.stop.Stop.{Stop}
 use Rattle.catalog_top.specs.Text.{limit_text}
 use Rattle.catalog_top.specs.Limits.{is_too_long}
+use Rattle.catalog_top.specs.Outside.{Input, Output}
 use Rattle.catalog_top.specs.Input.{CountsRead, TakesSome}
-use Rattle.catalog_top.specs.Run.{Ran, RefusesLine, PassesLimit, IsReadOut, StopsShort, nothing, of_limit, of_run}
+use Rattle.catalog_top.specs.Ends.{PlaysScript}
+use Rattle.catalog_top.specs.Run.{Ran, RefusesLine, PassesLimit, IsReadOut, StopsShort, TookScript, nothing, of_limit, of_run}
 use Rattle.catalog_top.specs.Status.{stop_of_read, stop_of_write}
-use Rattle.catalog_top.specs.Stops.{CountsStop, Breaks}
 
 -- a script within the limits has been read to its end
 short_is_short : (n lines : ℕ) → (nat_lt 16777216 n || nat_lt 1048576 lines) ≡ false → 16777216 < n → ⊥
@@ -35,53 +36,47 @@ pub within_bytes : (bytes : List ℕ) → false ≡ is_too_long bytes → length
 unfolding is_too_long
 within_bytes bytes e = within (length bytes) (length (lines_of bytes)) (sym e)
 
-pub ran_from : (left left' : Option (List ℕ)) (ends ends' : ℕ) (held held' : Option (List ℕ)) (bytes : List ℕ) (report : Report) →
-    Consumes left left' bytes → IsReadOut left' ends ends' bytes → false ≡ is_too_long bytes → WholeRun (script_of bytes) held held' report → Ran left left' ends ends' held held' report
-ran_from left left' ends ends' held held' bytes report took (inl end) short run =
-    record { took = record { bytes = bytes; consumed = took; at_end = end.0; found = end.1; within = sym short }; run = run }
-ran_from left left' ends ends' held held' bytes report took (inr long) short run = absurd (too_long-bytes bytes (sym short) long)
+module _ (i i' : Input) (bytes : List ℕ) (took : Consumes i.left i'.left bytes) (out : IsReadOut i i' bytes) where
+  took_from : IsReadOut i i' bytes → false ≡ is_too_long bytes → (t : TookScript i i') × (t.bytes ≡ bytes)
+  took_from (inl end) short = (record { bytes = bytes; consumed = took; at_end = end.0; found = end.1; within = sym short }, refl)
+  took_from (inr long) short = absurd (too_long-bytes bytes (sym short) long)
 
-pub refuses_from : (left left' : Option (List ℕ)) (ends ends' : ℕ) (held held' : Option (List ℕ)) (bytes : List ℕ) →
-    Consumes left left' bytes → IsReadOut left' ends ends' bytes → false ≡ is_too_long bytes → RefusedRun (script_of bytes) held held' → RefusesLine left left' ends ends' held held'
-refuses_from left left' ends ends' held held' bytes took (inl end) short run =
-    record { took = record { bytes = bytes; consumed = took; at_end = end.0; found = end.1; within = sym short }; run = run }
-refuses_from left left' ends ends' held held' bytes took (inr long) short run = absurd (too_long-bytes bytes (sym short) long)
+  pub ran_from : (o o' : Output) (report : Report) → false ≡ is_too_long bytes → WholeRun (script_of bytes) o.held o'.held report → Ran i i' o o' report
+  ran_from o o' report short run =
+      let t = took_from out short in
+      record { took = t.0; run = subst (λ b. WholeRun (script_of b) o.held o'.held report) (sym t.1) run }
 
-pub passes_from : (left left' held held' : Option (List ℕ)) (bytes : List ℕ) →
-    Consumes left left' bytes → length bytes ≤ 16777217 → true ≡ is_too_long bytes → Appends held held' limit_text → PassesLimit left left' held held'
-passes_from left left' held held' bytes took most long written =
-    record { bytes = bytes; consumed = took; too_long = sym long; most = most; written = written }
+  pub refuses_from : (o o' : Output) → false ≡ is_too_long bytes → RefusedRun (script_of bytes) o.held o'.held → RefusesLine i i' o o'
+  refuses_from o o' short run =
+      let t = took_from out short in
+      record { took = t.0; run = subst (λ b. RefusedRun (script_of b) o.held o'.held) (sym t.1) run }
 
-pub breaks_reading : (left left' : Option (List ℕ)) (ends ends' : ℕ) (held : Option (List ℕ)) (fail : ReadFail) (stop : Stop) →
-    stop ≡ stop_of_read fail → TakesSome left left' → Breaks stop left left' ends ends' held held
-breaks_reading left left' ends ends' held read_fail.Failed stop e some = rw e (Appends-nil held)
-breaks_reading left left' ends ends' held read_fail.Memory stop e some =
-    rw e (record { bytes = some.bytes; consumed = some.consumed; part = nothing (Appends-nil held); read = inl (Appends-nil held) })
+  pub passes_from : (o o' : Output) → length bytes ≤ 16777217 → true ≡ is_too_long bytes → Appends o.held o'.held limit_text → PassesLimit i i' o o'
+  passes_from o o' most long written = record { bytes = bytes; consumed = took; too_long = sym long; most = most; written = written }
 
-breaks-writing : (left left' : Option (List ℕ)) (ends ends' : ℕ) (held held' : Option (List ℕ)) (fail : KeepFail) (stop : Stop) →
-    stop ≡ stop_of_write fail → StopsShort left left' ends ends' held held' → Breaks stop left left' ends ends' held held'
-breaks-writing left left' ends ends' held held' keep_fail.Failed stop e short = rw e short
-breaks-writing left left' ends ends' held held' keep_fail.Memory stop e short = rw e short
+-- a failed read, before which the sink was not touched
+pub stops_reading : (i i' : Input) (o : Output) (fail : ReadFail) (stop : Stop) →
+    stop ≡ stop_of_read fail → TakesSome i.left i'.left → CountsRead fail i.faults i'.faults → PlaysScript i i' o o (Err stop)
+stops_reading i i' o read_fail.Failed stop e some counts = rw e (counts, refl, Appends-nil o.held)
+stops_reading i i' o read_fail.Memory stop e some counts =
+    rw e ((counts, refl), record { bytes = some.bytes; consumed = some.consumed; part = nothing (Appends-nil o.held); read = inl (Appends-nil o.held) })
 
-pub breaks_at_limit : (left left' : Option (List ℕ)) (ends ends' : ℕ) (held held' : Option (List ℕ)) (bytes : List ℕ) (fail : KeepFail) (stop : Stop) →
-    stop ≡ stop_of_write fail → Consumes left left' bytes → IsReadOut left' ends ends' bytes → true ≡ is_too_long bytes → WritesPart held held' limit_text →
-    Breaks stop left left' ends ends' held held'
-breaks_at_limit left left' ends ends' held held' bytes fail stop e took out long part =
-    breaks-writing left left' ends ends' held held' fail stop e (record { bytes = bytes; consumed = took; part = of_limit (sym long) part; read = inr out })
+-- a failed write
+stops-writing : (i i' : Input) (o o' : Output) (fail : KeepFail) (stop : Stop) →
+    stop ≡ stop_of_write fail → i'.faults ≡ i.faults → CountsWrite fail o.faults o'.faults → StopsShort i i' o o' → PlaysScript i i' o o' (Err stop)
+stops-writing i i' o o' keep_fail.Failed stop e same counts short = rw e (same, counts, short)
+stops-writing i i' o o' keep_fail.Memory stop e same counts short = rw e ((same, counts), short)
 
-pub breaks_playing : (left left' : Option (List ℕ)) (ends ends' : ℕ) (held held' : Option (List ℕ)) (bytes : List ℕ) (fail : KeepFail) (stop : Stop) →
-    stop ≡ stop_of_write fail → Consumes left left' bytes → IsReadOut left' ends ends' bytes → false ≡ is_too_long bytes → Appends held held' [] ⊎ PartOfRun (script_of bytes) held held' →
-    Breaks stop left left' ends ends' held held'
-breaks_playing left left' ends ends' held held' bytes fail stop e took out short (inl none) =
-    breaks-writing left left' ends ends' held held' fail stop e (record { bytes = bytes; consumed = took; part = nothing none; read = inr out })
-breaks_playing left left' ends ends' held held' bytes fail stop e took out short (inr part) =
-    breaks-writing left left' ends ends' held held' fail stop e (record { bytes = bytes; consumed = took; part = of_run (sym short) part; read = inr out })
+pub stops_at_limit : (i i' : Input) (o o' : Output) (bytes : List ℕ) (fail : KeepFail) (stop : Stop) →
+    stop ≡ stop_of_write fail → i'.faults ≡ i.faults → CountsWrite fail o.faults o'.faults →
+    Consumes i.left i'.left bytes → IsReadOut i i' bytes → true ≡ is_too_long bytes → WritesPart o.held o'.held limit_text → PlaysScript i i' o o' (Err stop)
+stops_at_limit i i' o o' bytes fail stop e same counts took out long part =
+    stops-writing i i' o o' fail stop e same counts (record { bytes = bytes; consumed = took; part = of_limit (sym long) part; read = inr out })
 
-pub counts_reading : (reads reads' writes : ℕ) (fail : ReadFail) (stop : Stop) → stop ≡ stop_of_read fail → CountsRead fail reads reads' → CountsStop stop reads reads' writes writes
-counts_reading reads reads' writes read_fail.Failed stop e counts = rw e (counts, refl)
-counts_reading reads reads' writes read_fail.Memory stop e counts = rw e (counts, refl)
-
-pub counts_writing : (reads reads' writes writes' : ℕ) (fail : KeepFail) (stop : Stop) →
-    stop ≡ stop_of_write fail → reads' ≡ reads → CountsWrite fail writes writes' → CountsStop stop reads reads' writes writes'
-counts_writing reads reads' writes writes' keep_fail.Failed stop e same counts = rw e (same, counts)
-counts_writing reads reads' writes writes' keep_fail.Memory stop e same counts = rw e (same, counts)
+pub stops_playing : (i i' : Input) (o o' : Output) (bytes : List ℕ) (fail : KeepFail) (stop : Stop) →
+    stop ≡ stop_of_write fail → i'.faults ≡ i.faults → CountsWrite fail o.faults o'.faults →
+    Consumes i.left i'.left bytes → IsReadOut i i' bytes → false ≡ is_too_long bytes → Appends o.held o'.held [] ⊎ PartOfRun (script_of bytes) o.held o'.held → PlaysScript i i' o o' (Err stop)
+stops_playing i i' o o' bytes fail stop e same counts took out short (inl none) =
+    stops-writing i i' o o' fail stop e same counts (record { bytes = bytes; consumed = took; part = nothing none; read = inr out })
+stops_playing i i' o o' bytes fail stop e same counts took out short (inr part) =
+    stops-writing i i' o o' fail stop e same counts (record { bytes = bytes; consumed = took; part = of_run (sym short) part; read = inr out })

@@ -2,6 +2,7 @@
 
 use crate::playing::{Failing, NONE_FAILS, Played, play, play_with};
 use cat_model::{Bytes, List, Memory};
+use catalog_top::status_of;
 use serve_outside::{MadeStore, Script};
 use std::alloc::Global;
 use std::process::Abort;
@@ -206,13 +207,12 @@ fn expect_ending<R: Abort + Threads + Wait + time::Clock + Copy + Send + Sync + 
 
 fn expect_told(rt: &impl Abort, played: &Played, ending: &Ending) {
     assert_eq!(rt;
-        played.outcome.status,
+        status_of(&played.outcome),
         ending.status,
         "of {:?}",
         ending.text
     );
     assert_eq!(rt; played.bytes(), ending.text.as_bytes());
-    assert_eq!(rt; played.outcome.report.is_some(), ending.status == 0);
 }
 
 #[test]
@@ -272,7 +272,7 @@ fn are_made(made: &[MadeStore], wanted: &[u32]) -> bool {
 
 fn expect_made(rt: &impl Abort, played: &Played, wanted: &Stores) {
     assert_eq!(rt;
-        played.outcome.status,
+        status_of(&played.outcome),
         wanted.status,
         "of {:?}",
         wanted.make
@@ -280,7 +280,6 @@ fn expect_made(rt: &impl Abort, played: &Played, wanted: &Stores) {
     assert_eq!(rt; played.bytes(), wanted.text.as_bytes());
     assert!(rt; are_made(played.keepers.made(), wanted.made));
     assert_eq!(rt; played.listener.port(), wanted.port);
-    assert_eq!(rt; played.outcome.report.is_some(), wanted.status == 0);
 }
 
 #[test]

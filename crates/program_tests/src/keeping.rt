@@ -2,7 +2,7 @@
 
 use cat_model::{Bytes, List};
 use cat_outside::{SureSink, SureSource};
-use catalog_top::{Machine, run};
+use catalog_top::{Machine, run, status_of};
 use host_keeper::{HostFiles, HostKeepers, JournalFiles, MemFiles};
 use serve_outside::{Bells, CountWords, MemListener, MemSpawner, Script, SetClock};
 use std::alloc::Global;
@@ -62,7 +62,9 @@ where
     for link in listener.kept() {
         said.extend_from_slice(link.said())?;
     }
-    Ok((outcome.into_status(), said))
+    let status = status_of(&outcome);
+    drop(outcome);
+    Ok((status, said))
 }
 
 #[test]

@@ -23,4 +23,6 @@ mod reports;
 #[cfg(test)]
 mod serving;
 #[cfg(test)]
+mod stale;
+#[cfg(test)]
 mod waiting;

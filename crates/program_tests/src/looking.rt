@@ -13,7 +13,8 @@ use crossbeam_utils::CachePadded;
 use http_wire::RequestReader;
 use serve_loop::{Board, Cause, ServeJob, Served, SharedCluster, serve_connection};
 use serve_outside::{Clock, Gate, Link, MemLink, Script};
-use serving_cluster::{ClusterSize, ServingCluster};
+use serving_cluster::{ClusterSize, ServingCluster, ViewedCluster};
+use stale_view::{Opened, PairName, Viewer, stale_pair};
 use std::alloc::Global;
 use std::marker::Brand;
 use std::sync::atomic::{AtomicU64, Ordering};
@@ -85,24 +86,40 @@ fn board_over<C: SharedCluster>(
     }
 }
 
-// Whether a connection to a cluster of one server and one agent answers the read as it should, at its end.
-fn is_answered<J: ClusterSize, R: Wait + Drop>(
+// A cluster of one server and one agent that serves, with what shows its agreed log to viewers, and its first viewer.
+fn viewed<J: ClusterSize + PairName, R: Wait + Drop>(
     rt: R,
     alloc: Global,
+    opened: Opened,
+) -> Result<(ViewedCluster<J, Cluster<MemKeeper>, R>, Viewer<J>), Memory>
+    requires size { J.size ≡ record { stores = store_of (Some nothing_kept) 0 0 true ∷ []; agents = 1 } }
+    requires named { opened.front.book ≡ J.book }
+{
+    let mut stores = List::new(alloc);
+    stores.push(MemKeeper::new(alloc, List::new(alloc)))?;
+    let Ok(cluster) = ServingCluster::<J, Cluster<MemKeeper>>::begin(alloc, stores, 1, 4096) else {
+        return Err(Memory);
+    };
+    let (publisher, viewer) = stale_pair::<J, R>(alloc, rt, opened, 1)?;
+    Ok((ViewedCluster::new(cluster, publisher), viewer))
+}
+
+// Whether a connection to this cluster answers the read as it should, at its end.
+fn is_answered<J: ClusterSize + PairName, R: Wait + Copy + Drop>(
+    rt: R,
+    alloc: Global,
+    opened: Opened,
     steps: &Arc<Steps, Global>,
 ) -> Result<bool, Memory>
-    requires { J.size ≡ record { stores = store_of (Some nothing_kept) 0 0 true ∷ []; agents = 1 } }
+    requires size { J.size ≡ record { stores = store_of (Some nothing_kept) 0 0 true ∷ []; agents = 1 } }
+    requires named { opened.front.book ≡ J.book }
 {
     let script = Script {
         bytes: Bytes::new(alloc, WAITS)?,
         most: usize::MAX,
         failing: List::new(alloc),
     };
-    let mut stores = List::new(alloc);
-    stores.push(MemKeeper::new(alloc, List::new(alloc)))?;
-    let Ok(cluster) = ServingCluster::<J, Cluster<MemKeeper>>::begin(alloc, stores, 1, 4096) else {
-        return Err(Memory);
-    };
+    let (cluster, viewer) = viewed::<J, R>(rt, alloc, opened)?;
     let (board, pass) = board_over(alloc, cluster)?;
     let clock = StepClock {
         steps: Arc::try_clone(steps)?,
@@ -121,6 +138,7 @@ fn is_answered<J: ClusterSize, R: Wait + Drop>(
         link: MemLink::new(alloc, script, 1),
         reader: RequestReader::new(alloc)?,
         pass,
+        viewer,
     });
     let answered = ended.link.said() == ANSWER && ended.cause == Cause::Closed;
     drop(ended);
@@ -137,7 +155,7 @@ fn a_read_that_waits_looks_twice(rt: HostRuntime) -> Result<(), Fail> {
             waits: AtomicU64::new(0),
         },
     )?;
-    let answered = is_answered::<Brand, _>(rt, alloc, &steps);
+    let answered = is_answered::<Brand, _>(rt, alloc, Opened::new(), &steps);
     let waits = steps.waits.load(Ordering::SeqCst);
     drop(steps);
     assert!(rt; answered? && waits == 2, "it waited {waits} times");

@@ -64,6 +64,11 @@ pub fn hears(
     Some(got.as_slice().starts_with(front) && got.as_slice().ends_with(end))
 }
 
+// What stands in a text between these marks.
+pub fn between<'a>(text: &'a str, before: &str, behind: &str) -> Option<&'a str> {
+    text.split(before).nth(1)?.split(behind).next()
+}
+
 pub const FOUND: &[u8] = b"HTTP/1.1 200 OK\r\n";
 
 pub const NOT_FOUND: &[u8] = b"HTTP/1.1 404 Not Found\r\n";
@@ -135,7 +140,9 @@ pub fn serve_words<
         &mut ThreadSpawner::new(),
         &mut SureKeepers::new(),
     );
-    Some(outcome.into_status() == 0 && has(sink.bytes(), part))
+    let is_well = outcome.is_ok();
+    drop(outcome);
+    Some(is_well && has(sink.bytes(), part))
 }
 
 // A port on which nothing listens.

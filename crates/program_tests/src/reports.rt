@@ -110,10 +110,9 @@ fn expect_report<R: Abort + Threads + Wait + time::Clock + Copy + Send + Sync + 
 }
 
 fn expect_done(rt: &impl Abort, played: &Played, wanted: &Reported) {
-    assert_eq!(rt; played.outcome.status, 0, "of {:?}", wanted.script);
-    match &played.outcome.report {
-        Some(report) => expect_numbers(rt, report, wanted),
-        None => assert!(rt; false),
+    match &played.outcome {
+        Ok(report) => expect_numbers(rt, report, wanted),
+        Err(_) => assert!(rt; false, "of {:?}", wanted.script),
     }
 }
 

@@ -1,7 +1,7 @@
 //! Requests that wait, over TCP and threads: one that the write of another connection answers, and one that the end of a
 //! session answers while nobody asks.
 
-use crate::over_tcp::{FOUND, NOT_FOUND, ask, connect, free_port, hear, hears, serve};
+use crate::over_tcp::{FOUND, NOT_FOUND, ask, between, connect, free_port, hear, hears, serve};
 use std::alloc::Global;
 use std::net::{Net, TcpListener, TcpStream};
 use std::process::Abort;
@@ -101,11 +101,6 @@ fn a_write_wakes_who_waits(rt: HostRuntime) -> Result<(), Fail> {
     let passed = answered.saturating_sub(written);
     assert!(rt; passed < MOST_MS, "the answer came after {passed} ms");
     Ok(())
-}
-
-// What stands in a text between these marks.
-fn between<'a>(text: &'a str, before: &str, behind: &str) -> Option<&'a str> {
-    text.split(before).nth(1)?.split(behind).next()
 }
 
 // A session of ten seconds that nobody renews, with whose end its keys go.

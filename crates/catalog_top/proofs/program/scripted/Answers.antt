@@ -1,9 +1,18 @@
-use Rattle.std.proofs.Common.{map}
-use Rattle.catalog_top.specs.Limits.{IsScriptForm}
-use Rattle.catalog_top.proofs.Complete.{complete_from}
+use Rattle.catalog_top.proofs.Runs.{ran_from, refuses_from}
 use Rattle.catalog_top.proofs.program.scripted.Goals as goal
 
-pub returns-in-Ok-clause-complete : goal.returns-in-Ok-clause-complete
-returns-in-Ok-clause-complete g c = λ bytes form known short whole no_read no_write.
-    complete_from _ _ _ _ _ _ c.in-Ok.outcome.status (IsScriptForm (map (λ w. w.now) c.args.words.now)) c.in-Ok.ensures.status
-    (λ two. (c.in-Ok.ensures.usage two).0) c.in-Ok.ensures.refused c.in-Ok.ensures.limit bytes form known short whole
+pub returns-in-Some : goal.returns-in-Some
+returns-in-Some g c = (
+  ran_from _ _ c.in_ok-script.script.items c.in_ok-script.ensures.bytes c.in_ok-script.ensures.whole _ _ c.in-Some.report
+      (rw c.deref.ensures.value at c.if-is_too_long.ensures)
+      (rw (c.in-Some.is, c.deref-2.ensures.value) at c.in_ok-report.ensures.run),
+  (c.in_ok-script.ensures.cause, c.in_ok-report.ensures.cause),
+)
+
+pub returns : goal.returns
+returns g c = (
+  refuses_from _ _ c.in_ok-script.script.items c.in_ok-script.ensures.bytes c.in_ok-script.ensures.whole _ _
+      (rw c.deref.ensures.value at c.if-is_too_long.ensures)
+      (rw (c.in-None.is, c.deref-2.ensures.value) at c.in_ok-report.ensures.run),
+  (c.in_ok-script.ensures.cause, c.in_ok-report.ensures.cause),
+)
