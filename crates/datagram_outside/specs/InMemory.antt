@@ -1,5 +1,5 @@
 -- What a port in memory tells.
-use Rattle.std.specs.Prelude.{List, map, take, Some}
+use Rattle.std.specs.Prelude.{map, take, Some}
 use Rattle.datagram_outside.specs.Ports.{Datagram, PortState}
 use Rattle.datagram_outside.specs.declared.mem_port.Packet.{Packet}
 use Rattle.datagram_outside.specs.declared.mem_port.MemPort.{MemPort}

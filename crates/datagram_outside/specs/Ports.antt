@@ -1,7 +1,6 @@
 -- What a port of datagrams tells, and what its calls do to that.
-use Rattle.std.specs.Prelude.{◌≡◌, ℕ, ◌+◌, ◌≤◌, List, [], ◌∷◌, ◌++◌, length, take, Option, option_map, Result, MatchResult, IfOk, OnOk, IsErrOf}
-use Rattle.cat_outside.specs.Causes.{Rose, HasCause}
-use Rattle.cat_outside.specs.declared.faults.Failed.{Failed}
+use Rattle.std.specs.Prelude.{◌≡◌, ℕ, ◌+◌, ◌≤◌, List, [], ◌∷◌, ◌++◌, length, take, Option, option_map, Result, MatchResult, OnOk, IsErrOf}
+use Rattle.cat_outside.specs.Causes.{Rose}
 use Rattle.cat_outside.specs.declared.faults.KeepFail.{KeepFail}
 use Rattle.cat_outside.specs.declared.faults.KeepFail.TheVariants as k
 

@@ -4,8 +4,8 @@ ghost use Rattle.std.specs.Prelude.{◌≡◌};
 
 use crate::{DnsDone, DnsJob, finish_names, start_names};
 use cat_model::{Bytes, Command, Entry, List, Memory, NewService, Shared, Text};
-use datagram_outside::{DatagramPort, Datagrams, MemPort, MemPorts, Packet, PortScript};
-use dns_server::{DnsCause, DnsEnded};
+use datagram_outside::{MemPort, Packet};
+use dns_server::DnsCause;
 use serve_outside::{MemSpawner, Spawner, ThreadSpawner};
 use stale_view::{Opened, PairName, stale_pair};
 use std::alloc::Global;

@@ -1,5 +1,5 @@
 -- One packet more is served, or the last one is left without its reply.
-use Rattle.std.proofs.Common.{◌≡◌, ℕ, ◌+◌, List, [], ◌∷◌, ◌++◌, length, take, refl, sym, ap, ◌∙◌, append_assoc, append-nil, arith, length-append, Option, Some, None, inl, inr}
+use Rattle.std.proofs.Common.{◌≡◌, ℕ, ◌+◌, List, [], ◌∷◌, ◌++◌, take, refl, sym, ap, ◌∙◌, append_assoc, append-nil, arith, length-append, Option, Some, None, inl, inr}
 use mathlib.Core.List.{IsPrefix}
 use Rattle.cat_model.specs.declared.command.Command.{Command}
 use Rattle.cat_outside.specs.declared.faults.KeepFail.{KeepFail}

@@ -1,8 +1,8 @@
 -- A reply is sent, or none.
-use Rattle.std.proofs.Common.{◌≡◌, ℕ, List, [], ◌∷◌, sym, subst, ◌∙◌, arith, Option, Some, None, Result, Ok, Err, OnOk, OnErr}
+use Rattle.std.proofs.Common.{◌≡◌, ℕ, List, [], sym, subst, ◌∙◌, arith, Option, Some, None, Result, Ok, Err, OnOk, OnErr}
 use Rattle.cat_model.specs.declared.command.Command.{Command}
 use Rattle.cat_outside.specs.declared.faults.KeepFail.{KeepFail}
-use Rattle.datagram_outside.specs.Ports.{Datagram, PortState, append_told, Sends}
+use Rattle.datagram_outside.specs.Ports.{PortState, append_told, Sends}
 use Rattle.dns_service.specs.Reading.{answers_at}
 use Rattle.dns_service.specs.Replies.{dns_reply}
 use Rattle.dns_server.specs.Served.{Passed, reply_by, sent_to}

@@ -1,4 +1,4 @@
-use Rattle.std.proofs.Common.{◌≡◌, ◌+◌, ◌≤◌, [], ◌∷◌, take, sym, subst, ◌∙◌, arith}
+use Rattle.std.proofs.Common.{◌+◌, [], take, sym, subst, ◌∙◌, arith}
 use Rattle.dns_server.specs.declared.serving.DnsCause.{DnsCause}
 use Rattle.dns_server.specs.Served.{Served, reply_by}
 use Rattle.dns_server.proofs.Rounds.{came_and_went, one_failing, one_more}

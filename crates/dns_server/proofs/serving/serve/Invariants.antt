@@ -1,4 +1,4 @@
-use Rattle.std.proofs.Common.{◌≡◌, ◌-◌, ◌≤◌, length}
+use Rattle.std.proofs.Common.{◌≡◌, ◌-◌, ◌≤◌}
 use Rattle.dns_server.specs.declared.serving.DnsCause.TheVariants as c
 use Rattle.dns_server.specs.Served.{Served}
 use Rattle.dns_server.proofs.serving.serve.Given as goal
