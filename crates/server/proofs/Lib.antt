@@ -4,5 +4,6 @@ pub mod Making
 pub mod Failing
 pub mod Texts
 pub mod Asking
+pub mod Naming
 pub mod Ends
 pub mod Complete

@@ -1,8 +1,7 @@
 -- Numbers of the command line.
-use Rattle.std.proofs.Common.{◌≡◌, ℕ, ◌≤◌, Bool, true, false, ◌&&◌, nat_le, if◌then◌else◌, List, Result, Ok, Err, refl, subst, arith}
+use Rattle.std.proofs.Common.{◌≡◌, ℕ, ◌≤◌, Bool, ◌&&◌, nat_le, if◌then◌else◌, List, Ok, Err, arith}
 use Rattle.std.proofs.lemmas.Bool.Decides.{nat_tests}
 use Rattle.std.specs.Str.Parse.{digits_value}
-use Rattle.script_lang.specs.declared.bad_line.BadLine.{BadLine}
 use Rattle.script_lang.specs.declared.bad_line.BadLine.TheVariants.{BadNumber}
 use Rattle.script_lang.specs.declared.numbers.Bounds.{Bounds}
 use Rattle.script_lang.specs.Numbers.{is_number, number_in}

@@ -6,6 +6,7 @@ use Rattle.cat_model.specs.Log.{commands_of}
 use Rattle.cat_outside.specs.Causes.{Rose}
 use Rattle.cat_outside.specs.declared.faults.KeepFail.{KeepFail}
 use Rattle.cat_outside.specs.declared.faults.KeepFail.TheVariants as keep_fail
+use Rattle.datagram_outside.specs.Ports.{PortState}
 use Rattle.raft_model.specs.World.{AreEmpty}
 use Rattle.cluster_rules.specs.Cluster.{Cluster}
 use Rattle.cluster_rules.specs.Reached.{AreSure, MayBegin}
@@ -21,8 +22,9 @@ use Rattle.serving_rules.specs.Serving.{Size, Serves}
 use Rattle.serving_rules.specs.Holding.{Holds}
 use Rattle.serving_cluster.specs.Shown.{ShowsOver}
 use Rattle.server.specs.declared.options.Options.{Options}
-use Rattle.server.specs.declared.running.Stop.{Stop}
-use Rattle.server.specs.declared.running.Stop.TheVariants as stop
+use Rattle.server.specs.Names.{NamesServed}
+use Rattle.server.specs.declared.stop.Stop.{Stop}
+use Rattle.server.specs.declared.stop.Stop.TheVariants as stop
 use Rattle.server.specs.Text.{listening_text, served_text}
 
 -- So many servers and agents were asked for. Without a folder the stores are empty, and fail nowhere.
@@ -38,13 +40,15 @@ Serve size draws c closed closed' faults faults' given result =
 
 -- So many connections were served at the port as asked, by a cluster of this size, of which all that must holds if its
 -- stores were empty or such as an earlier run of as many servers left, and this is reported of it. Then too all lists over
--- which stale reads were answered begin the log that it has agreed, but those of connections that ended for want of memory.
-pub record ServedBy (size : Size) (options : Options) (draws : Option (List Draw)) (closed closed' : List LinkState) (faults faults' given : ℕ) (port : Option ℕ) (held held' : Option (List ℕ)) (report : Report) : Type 0 where
+-- which stale reads and questions of names were answered begin the log that it has agreed, but those of connections that
+-- ended for want of memory.
+pub record ServedBy (size : Size) (options : Options) (draws : Option (List Draw)) (closed closed' : List LinkState) (faults faults' given : ℕ) (port : Option ℕ) (ports ports' : List PortState) (held held' : Option (List ℕ)) (report : Report) : Type 0 where
   pub reached : Cluster
   pub serves : Serves size reached
   pub holds : MayBegin size.stores → Holds size.stores reached
   pub links : Serve size draws reached closed closed' faults faults' given (Ok tt)
   pub views : MayBegin size.stores → HaveRead (ShowsOver size.stores) (MayBegin size.stores) size.agents draws (λ seen. IsFront seen (reverse reached.past)) (commands_of reached.world.agreed) links.all.links links.all.each
+  pub names : NamesServed options.dns (MayBegin size.stores) (commands_of reached.world.agreed) faults faults' ports ports'
   pub count : given ≡ most_of options.connections
   pub listens : port ≡ Some options.port
   pub written : Appends held held' (served_text options.port reached)
@@ -52,11 +56,11 @@ pub record ServedBy (size : Size) (options : Options) (draws : Option (List Draw
 
 -- Status 0: a cluster served, over just those stores that were made, in the folder that was asked for, for servers 1, 2,
 -- .. in this order. Without a folder all that must holds of it, whatever was before.
-pub record Served (options : Options) (made made' : Option (List Made)) (draws : Option (List Draw)) (closed closed' : List LinkState) (faults faults' given : ℕ) (port : Option ℕ) (held held' : Option (List ℕ)) (report : Report) : Type 0 where
+pub record Served (options : Options) (made made' : Option (List Made)) (draws : Option (List Draw)) (closed closed' : List LinkState) (faults faults' given : ℕ) (port : Option ℕ) (ports ports' : List PortState) (held held' : Option (List ℕ)) (report : Report) : Type 0 where
   pub size : Size
   pub fits : Fits options size
   pub stores_are : AddsMade made made' (made_from options.folder 1 size.stores)
-  pub run : ServedBy size options draws closed closed' faults faults' given port held held' report
+  pub run : ServedBy size options draws closed closed' faults faults' given port ports ports' held held' report
   pub holds : options.folder ≡ None → Holds size.stores run.reached
 
 -- Nothing was given yet, or each connection that was given came back.
@@ -78,19 +82,21 @@ abbrev pub stop_of_write : KeepFail → Stop
 stop_of_write keep_fail.Failed = stop.Sink
 stop_of_write keep_fail.Memory = stop.Memory
 
--- the sink's count of faults rose where it failed, and nowhere else; whoever writes makes no store
+-- the sink's count of faults rose where it failed, and nowhere else; whoever writes makes no store and binds no port
 abbrev pub CountsSink : Stop → ℕ → ℕ → Type 0
 CountsSink stop.Listener writes writes' = writes' ≡ writes
 CountsSink stop.Sink writes writes' = Rose writes writes'
 CountsSink stop.Keepers writes writes' = ⊥
+CountsSink stop.Datagrams writes writes' = ⊥
 CountsSink stop.Memory writes writes' = writes' ≡ writes
 
--- Why a server with its stores broke off: its listener or its sink failed, which has counted the fault, or there was no
--- memory.
+-- Why a server with its stores broke off: its listener or its sink failed, which has counted the fault, or its port of names
+-- could not be bound, or there was no memory.
 abbrev pub CountsServing : Stop → ℕ → ℕ → ℕ → ℕ → Type 0
 CountsServing stop.Listener listens listens' writes writes' = Rose listens listens' × (writes' ≡ writes)
 CountsServing stop.Sink listens listens' writes writes' = Rose writes writes'
 CountsServing stop.Keepers listens listens' writes writes' = ⊥
+CountsServing stop.Datagrams listens listens' writes writes' = (listens' ≡ listens) × (writes' ≡ writes)
 CountsServing stop.Memory listens listens' writes writes' = writes' ≡ writes
 
 -- The same of any server. Where a store could not be made or read, neither the listener nor the sink counted a fault.
@@ -98,6 +104,7 @@ abbrev pub CountsStop : Stop → ℕ → ℕ → ℕ → ℕ → Type 0
 CountsStop stop.Listener listens listens' writes writes' = Rose listens listens' × (writes' ≡ writes)
 CountsStop stop.Sink listens listens' writes writes' = Rose writes writes'
 CountsStop stop.Keepers listens listens' writes writes' = (listens' ≡ listens) × (writes' ≡ writes)
+CountsStop stop.Datagrams listens listens' writes writes' = (listens' ≡ listens) × (writes' ≡ writes)
 CountsStop stop.Memory listens listens' writes writes' = writes' ≡ writes
 
 -- the count of faults of what makes stores rose where a store could not be made or read, and nowhere else
@@ -105,4 +112,13 @@ abbrev pub CountsKeepers : Stop → ℕ → ℕ → Type 0
 CountsKeepers stop.Listener keeps keeps' = keeps' ≡ keeps
 CountsKeepers stop.Sink keeps keeps' = keeps' ≡ keeps
 CountsKeepers stop.Keepers keeps keeps' = Rose keeps keeps'
+CountsKeepers stop.Datagrams keeps keeps' = keeps' ≡ keeps
 CountsKeepers stop.Memory keeps keeps' = keeps' ≡ keeps
+
+-- the count of faults of what gives ports of datagrams rose where one could not be bound, and nowhere else
+abbrev pub CountsBinds : Stop → ℕ → ℕ → Type 0
+CountsBinds stop.Listener binds binds' = binds' ≡ binds
+CountsBinds stop.Sink binds binds' = binds' ≡ binds
+CountsBinds stop.Keepers binds binds' = binds' ≡ binds
+CountsBinds stop.Datagrams binds binds' = Rose binds binds'
+CountsBinds stop.Memory binds binds' = binds' ≡ binds

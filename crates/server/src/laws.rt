@@ -1,7 +1,7 @@
 //! Laws of servers, each the contract of a function with an empty body.
 
 ghost use Rattle.std.specs.Prelude.{Err, ◌≡◌, ◌⊎◌};
-ghost use Rattle.server.specs.declared.running.Stop.TheVariants as stop;
+ghost use Rattle.server.specs.declared.stop.Stop.TheVariants as stop;
 ghost use Rattle.server.specs.Complete.{IsComplete, IsFaultless, IsServers, Run};
 
 /// Completeness: whatever serve is called for, where no count of faults of what makes its stores, of its spawner, its

@@ -2,12 +2,17 @@
 #![tactic(auto)]
 
 mod beginning;
+mod connections;
 pub mod laws;
+mod listening;
 mod machine;
+mod names;
 mod options;
 mod running;
+mod stop;
 mod stores;
 
 pub use machine::Machine;
-pub use options::{Options, options_of};
-pub use running::{Stop, serve};
+pub use options::{Dns, Options, options_of};
+pub use running::serve;
+pub use stop::Stop;

@@ -1,10 +1,20 @@
-ghost use Rattle.std.specs.Prelude.{◌≡◌, ◌≢◌, ◌≤◌, ◌∷◌, ◌++◌, IfSome, MatchOption, ℕ, List, [], Option, None, codes, map};
+ghost use Rattle.std.specs.Prelude.{◌≡◌, ◌≢◌, ◌<◌, ◌≤◌, ◌^◌, ◌∷◌, ◌++◌, IfSome, MatchOption, ℕ, List, [], Option, None, codes, map};
 ghost use Rattle.std.specs.Option.{option_copied};
+ghost use Rattle.server.specs.declared.options.Dns.{Dns as SpecDns};
 ghost use Rattle.server.specs.declared.options.Options.{Options as SpecOptions};
-ghost use Rattle.server.specs.Options.{AreAdded, AreNumbered, AreWritten, AsksFor, IsCount, IsWithin, Writes, counting_words, kept_words};
+ghost use Rattle.server.specs.Options.{AreAdded, AreNumbered, AreWritten, AsksFor, IsCount, IsDns, IsUntold, IsWithin, Say, Writes, adding_words, told_words};
 
 use script_lang::{Bounds, number_in};
 use serve_outside::Folder;
+
+/// How questions of names (DNS) are answered, over UDP.
+#[derive(Clone, Copy, Debug, PartialEq, Eq)]
+pub struct Dns {
+    /// 1 to 65,535, on 127.0.0.1.
+    pub port: u16,
+    /// How many packets are answered in all, 1 to 1,000,000. Where none is told, all that come are.
+    pub packets: Option<u32>,
+}
 
 /// How a server is to be made.
 #[derive(Drop)]
@@ -19,6 +29,8 @@ pub struct Options<'a> {
     pub connections: Option<u32>,
     /// Where the servers' logs are kept. Without a folder they are lost when the process ends.
     pub folder: Option<Folder<'a>>,
+    /// Whether and how questions of names are answered.
+    pub dns: Option<Dns>,
 }
 
 // What may be left out of the words.
@@ -26,6 +38,16 @@ pub struct Options<'a> {
 struct Added<'a> {
     connections: Option<u32>,
     folder: Option<Folder<'a>>,
+    dns: Option<Dns>,
+}
+
+// The words that tell it, where they stand.
+#[derive(Clone, Copy)]
+struct Told<'a> {
+    count: Option<&'a str>,
+    folder: Option<&'a str>,
+    port: Option<&'a str>,
+    packets: Option<&'a str>,
 }
 
 // The number that a word writes, of those from 1 to `most`.
@@ -37,13 +59,14 @@ fn number_up_to(most: u64, word: &str) -> Option<u64>
 }
 
 // The count that a word writes, or that there is none without a word.
-fn count_in(word: Option<&str>) -> Option<Option<u32>>
-    ensures { MatchOption result ((count : Option ℕ) → IsCount (option_copied word.entry) count → ⊥) (IsCount (option_copied word.entry)) }
+fn count_in(most: u64, word: Option<&str>) -> Option<Option<u32>>
+    requires { most < 2 ^ 32 }
+    ensures { MatchOption result ((count : Option ℕ) → IsCount most (option_copied word.entry) count → ⊥) (IsCount most (option_copied word.entry)) }
 {
     match word {
         None => Some(None),
         Some(word) => {
-            let count = number_up_to(10_000, word)?;
+            let count = number_up_to(most, word)?;
             Some(Some(count as u32))
         }
     }
@@ -60,54 +83,96 @@ fn folder_in<'a>(name: Option<&'a str>) -> Option<Option<Folder<'a>>>
     }
 }
 
-// What these words add to a server's numbers.
-fn added_in<'a>(count: Option<&str>, name: Option<&'a str>) -> Option<Added<'a>>
+// The port that this word writes, and the count of its packets.
+fn dns_at(port: &str, packets: Option<&str>) -> Option<Dns>
     ensures { MatchOption result
-        ((connections : Option ℕ) → IsCount (option_copied count.entry) connections → IfSome (option_copied name.entry) (λ name. name ≢ []) → ⊥)
-        (λ added. IsCount (option_copied count.entry) added.connections × (added.folder ≡ option_copied name.entry) × IfSome added.folder (λ name. name ≢ [])) }
+        ((dns : SpecDns) → Writes port.now 65535 dns.port → IsCount 1000000 (option_copied packets.entry) dns.packets → ⊥)
+        (λ dns. Writes port.now 65535 dns.port × IsCount 1000000 (option_copied packets.entry) dns.packets) }
 {
-    let connections = count_in(count)?;
-    let folder = folder_in(name)?;
-    Some(Added {
-        connections,
-        folder,
+    let port = number_up_to(65_535, port)?;
+    let packets = count_in(1_000_000, packets)?;
+    Some(Dns {
+        port: port as u16,
+        packets,
     })
 }
 
-// The count that the words begin with, if they tell one, and the words behind it.
-fn split_count<'b, 'a>(words: &'b [&'a str]) -> (Option<&'a str>, &'b [&'a str])
-    ensures told { map (λ w. w.now) words.now ≡ counting_words (option_copied result.0) ++ map (λ w. w.now) result.1.now }
-    ensures untold { result.0 ≡ None → (count : List ℕ) (more : List (List ℕ)) → map (λ w. w.now) words.now ≡ codes "--connections" ∷ count ∷ more → ⊥ }
+// What these words say of questions of names, beside that for the count of connections.
+fn dns_in(count: Option<&str>, port: Option<&str>, packets: Option<&str>) -> Option<Option<Dns>>
+    ensures { MatchOption result
+        ((dns : Option SpecDns) → IsDns (option_copied count.entry) (option_copied port.entry) (option_copied packets.entry) dns → ⊥)
+        (IsDns (option_copied count.entry) (option_copied port.entry) (option_copied packets.entry)) }
 {
-    if words.len() < 2 || words[0] != "--connections" {
+    match (port, packets) {
+        (None, None) => Some(None),
+        (None, Some(_)) => None,
+        (Some(port), packets) => {
+            if packets.is_none() && count.is_some() {
+                return None;
+            }
+            let dns = dns_at(port, packets)?;
+            Some(Some(dns))
+        }
+    }
+}
+
+// What these words add to a server's numbers.
+fn added_in<'a>(told: Told<'a>) -> Option<Added<'a>>
+    ensures { MatchOption result
+        ((connections : Option ℕ) (dns : Option SpecDns) → Say (option_copied told.entry.count) (option_copied told.entry.folder) (option_copied told.entry.port) (option_copied told.entry.packets) connections dns → ⊥)
+        (λ added. Say (option_copied told.entry.count) (option_copied told.entry.folder) (option_copied told.entry.port) (option_copied told.entry.packets) added.connections added.dns × (added.folder ≡ option_copied told.entry.folder)) }
+{
+    let connections = count_in(10_000, told.count)?;
+    let folder = folder_in(told.folder)?;
+    let dns = dns_in(told.count, told.port, told.packets)?;
+    Some(Added {
+        connections,
+        folder,
+        dns,
+    })
+}
+
+// The word that this name tells, if the words begin with it, and the words behind it.
+fn split_told<'b, 'a>(name: &str, words: &'b [&'a str]) -> (Option<&'a str>, &'b [&'a str])
+    ensures told { map (λ w. w.now) words.now ≡ told_words name.now (option_copied result.0) ++ map (λ w. w.now) result.1.now }
+    ensures untold { result.0 ≡ None → IsUntold name.now (map (λ w. w.now) words.now) }
+{
+    if words.len() < 2 || words[0] != name {
         return (None, words);
     }
     let (front, rest) = words.split_at(2);
     (Some(front[1]), rest)
 }
 
-// The name of the folder that these words name, or that they name none, if they are such words.
-fn name_in<'a>(words: &[&'a str]) -> Option<Option<&'a str>>
+// What these words tell of what may be left out, if they tell nothing else.
+fn told_in<'a>(words: &[&'a str]) -> Option<Told<'a>>
     ensures { MatchOption result
-        ((name : Option (List ℕ)) → map (λ w. w.now) words.now ≡ kept_words name → ⊥)
-        (λ name. map (λ w. w.now) words.now ≡ kept_words (option_copied name)) }
+        ((count folder port packets : Option (List ℕ)) → map (λ w. w.now) words.now ≡ adding_words count folder port packets → ⊥)
+        (λ told. map (λ w. w.now) words.now ≡ adding_words (option_copied told.count) (option_copied told.folder) (option_copied told.port) (option_copied told.packets)) }
 {
-    match words {
-        [] => Some(None),
-        ["--keep", name] => Some(Some(name)),
-        _ => None,
+    let (count, rest) = split_told("--connections", words);
+    let (folder, rest) = split_told("--keep", rest);
+    let (port, rest) = split_told("--dns", rest);
+    let (packets, rest) = split_told("--packets", rest);
+    if !rest.is_empty() {
+        return None;
     }
+    Some(Told {
+        count,
+        folder,
+        port,
+        packets,
+    })
 }
 
 // What these words add to a server's numbers, if they are such words.
 fn added_of<'a>(words: &[&'a str]) -> Option<Added<'a>>
     ensures added { MatchOption result
-        ((connections : Option ℕ) (folder : Option (List ℕ)) → AreAdded (map (λ w. w.now) words.now) connections folder → ⊥)
-        (λ added. AreAdded (map (λ w. w.now) words.now) added.connections added.folder) }
+        ((connections : Option ℕ) (folder : Option (List ℕ)) (dns : Option SpecDns) → AreAdded (map (λ w. w.now) words.now) connections folder dns → ⊥)
+        (λ added. AreAdded (map (λ w. w.now) words.now) added.connections added.folder added.dns) }
 {
-    let (count, kept) = split_count(words);
-    match name_in(kept) {
-        Some(name) => added_in(count, name),
+    match told_in(words) {
+        Some(told) => added_in(told),
         None => None,
     }
 }
@@ -128,6 +193,7 @@ fn numbered<'a>(servers: &str, agents: &str, port: &str) -> Option<Options<'a>>
         port: port as u16,
         connections: None,
         folder: None,
+        dns: None,
     })
 }
 
@@ -152,15 +218,17 @@ fn options_in<'a>(words: &[&str]) -> Option<Options<'a>>
 
 // The same server, to which this is added.
 fn with_added<'a>(options: Options<'a>, added: Added<'a>) -> Options<'a>
-    ensures { result ≡ record options.entry { connections = added.entry.connections; folder = added.entry.folder } }
+    ensures { result ≡ record options.entry { connections = added.entry.connections; folder = added.entry.folder; dns = added.entry.dns } }
 {
     let Added {
         connections,
         folder,
+        dns,
     } = added;
     Options {
         connections,
         folder,
+        dns,
         ..options
     }
 }

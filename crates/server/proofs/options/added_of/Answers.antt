@@ -1,10 +1,13 @@
 use Rattle.std.proofs.Common.{map}
 use Rattle.std.specs.Option.{option_copied}
-use Rattle.server.proofs.Asking.{adds_none, none_copied}
+use Rattle.server.proofs.Asking.{added_from}
 use Rattle.server.proofs.options.added_of.Goals as goal
 
 pub returns-in-None : goal.returns-in-None
-returns-in-None c = record {
-  added = adds_none (map (λ w. w.now) c.args.words.now) (map (λ w. w.now) c.split_count.result.1.now) (option_copied c.split_count.result.0) c.split_count.ensures.told
-      (λ e. c.split_count.ensures.untold (none_copied c.split_count.result.0 e)) c.in-None.ensures;
+returns-in-None c = record { added = λ connections folder dns x. c.in-None.ensures x.count folder x.port x.packets x.are }
+
+pub returns-in-Some : goal.returns-in-Some
+returns-in-Some c = record {
+  added = added_from (map (λ w. w.now) c.args.words.now) (option_copied c.in-Some.told.count) (option_copied c.in-Some.told.folder) (option_copied c.in-Some.told.port) (option_copied c.in-Some.told.packets)
+      c.added_in.result c.in-Some.ensures c.added_in.ensures;
 }

@@ -14,7 +14,7 @@ returns-in-Ok-clause-served g c =
     served_all c.args.options.now (g.Ks.Keepers.made c.args.keepers.now) (g.Ks.Keepers.made c.make_stores.new.keepers) (g.Ks.Keepers.made c.serve_sized.new.keepers) _
     (fits_made (λ k. g.S.K.Keeper.held k) (λ k. g.S.K.Keeper.armed k) (λ k. g.S.K.Keeper.faults k) (λ k. g.S.K.Keeper.sure k) c.args.options.now c.in-Ok.stores c.in-Ok.ensures.count (λ none. c.in-Ok.ensures.empty none))
     c.in-Ok.ensures.made c.serve_sized.ensures.made
-    _ _ _ _ _ _ _ _ _ c.serve_sized.result c.serve_sized.ensures.served
+    _ _ _ _ _ _ _ _ _ _ _ c.serve_sized.result c.serve_sized.ensures.served
 
 pub returns-in-Ok-clause-keepers : goal.returns-in-Ok-clause-keepers
 returns-in-Ok-clause-keepers g c =

@@ -1,9 +1,0 @@
-use denote.Exit.{no}
-use denote.Param.Send.{arg_send, param_send}
-use Rattle.server.proofs.running.serve_shown.Goals as goal
-
-pub serve_over-requires-send-C : goal.serve_over-requires-send-C
-serve_over-requires-send-C g c κs within = param_send 0 _ (arg_send _ no _ c.clusters_send.ensures)
-
-pub returns-in-Ok-clause-links : goal.returns-in-Ok-clause-links
-returns-in-Ok-clause-links g c = rw c.into_serving.ensures c.in-Ok.ensures.links
