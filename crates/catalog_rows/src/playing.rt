@@ -2,6 +2,7 @@ use anyhow::Result;
 use cat_model::{Bytes, List};
 use cat_outside::{SureSink, SureSource};
 use catalog_top::{Machine, run, status_of};
+use datagram_outside::MemPorts;
 use serve_outside::{Bells, CountWords, MemListener, MemSpawner, SetClock, SureKeepers};
 use std::alloc::Global;
 use std::sync::Wait;
@@ -29,6 +30,7 @@ pub fn play<R: Threads + Wait + time::Clock + Copy + Send + Sync + Drop + 'stati
     script: Vec<u8>,
 ) -> Result<Played> {
     let mut listener = MemListener::new(alloc, Vec::new(alloc), List::new(alloc))?;
+    let mut ports = MemPorts::new(alloc, Vec::new(alloc), List::new(alloc))?;
     let mut sink = SureSink::new(alloc);
     let outcome = run(
         machine(rt, alloc)?,
@@ -39,6 +41,7 @@ pub fn play<R: Threads + Wait + time::Clock + Copy + Send + Sync + Drop + 'stati
         &mut CountWords::new(),
         &mut MemSpawner::new(List::new(alloc)),
         &mut SureKeepers::new(),
+        &mut ports,
     );
     let status = status_of(&outcome);
     drop(outcome);

@@ -6,6 +6,7 @@ use anyhow::Result;
 use cat_model::{Bytes, List};
 use cat_outside::{SureSink, SureSource};
 use catalog_top::{Machine, run, status_of};
+use datagram_outside::MemPorts;
 use serve_outside::{
     Bells, Clock, CountWords, Gate, MachineClock, MemListener, MemSpawner, Script, Spawner,
     SureKeepers, ThreadSpawner,
@@ -94,6 +95,7 @@ fn serve_by<
     let words: Vec<&str> = row.words.as_str().split(' ').collect(alloc)?;
     let scripts = scripts(alloc, row, most, fault)?;
     let mut listener = MemListener::new(alloc, scripts, List::new(alloc))?;
+    let mut ports = MemPorts::new(alloc, Vec::new(alloc), List::new(alloc))?;
     let mut sink = SureSink::new(alloc);
     let outcome = run(
         machine,
@@ -104,6 +106,7 @@ fn serve_by<
         &mut CountWords::new(),
         spawner,
         &mut SureKeepers::new(),
+        &mut ports,
     );
     let status = status_of(&outcome);
     drop(outcome);

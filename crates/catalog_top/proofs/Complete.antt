@@ -68,3 +68,4 @@ complete i i' o o' (Err stop.Listener) bytes plays known short never = plays
 complete i i' o o' (Err stop.Limit) bytes plays known short never = not_past i i' o o' bytes known plays.0 short
 complete i i' o o' (Err stop.Memory) bytes plays known short never = tt
 complete i i' o o' (Err stop.Store) bytes plays known short never = plays
+complete i i' o o' (Err stop.Datagrams) bytes plays known short never = plays

@@ -2,13 +2,13 @@
 use Rattle.std.proofs.Common.{◌≡◌, ℕ, List, Result, Err, refl, subst}
 use Rattle.script_player.specs.declared.report.Report.{Report}
 use Rattle.server.specs.declared.options.Options.{Options}
-use Rattle.server.specs.declared.running.Stop.{Stop as ServerStop}
-use Rattle.server.specs.declared.running.Stop.TheVariants as server
+use Rattle.server.specs.declared.stop.Stop.{Stop as ServerStop}
+use Rattle.server.specs.declared.stop.Stop.TheVariants as server
 use Rattle.server.specs.Options.{AsksFor}
-use Rattle.server.specs.Served.{CountsKeepers, CountsStop, WritesFront, WritesWhole}
+use Rattle.server.specs.Served.{CountsBinds, CountsKeepers, CountsStop, WritesFront, WritesWhole}
 use Rattle.server.proofs.Asking.{asks_once}
 use Rattle.catalog_top.specs.declared.stop.Stop.{Stop}
-use Rattle.catalog_top.specs.Ends.{EndsServing, Serves}
+use Rattle.catalog_top.specs.Ends.{EndsServing, IsUnserved, Serves}
 use Rattle.catalog_top.specs.Outside.{Output, Outside}
 use Rattle.catalog_top.specs.Status.{stop_of_server}
 
@@ -20,8 +20,9 @@ asked_serves words a b s s' o o' as_before r x y served = subst (λ (p : Options
 module _ (options : Options) (s s' : Outside) (o o' : Output) (as_before : Type 0) where
   pub ends_short : (why : ServerStop) (stop : Stop) → stop ≡ stop_of_server why → WritesFront options o.held o'.held →
       (why ≡ server.Listener → WritesWhole options o.held o'.held) → CountsStop why s.listens s'.listens o.faults o'.faults →
-      CountsKeepers why s.keeps s'.keeps → (why ≡ server.Keepers → as_before) → EndsServing options s s' o o' as_before (Err stop)
-  ends_short server.Listener stop e part whole counts keeps untouched = rw e (counts.0, whole refl, part, counts.1, keeps)
-  ends_short server.Sink stop e part whole counts keeps untouched = rw e (counts, part, keeps)
-  ends_short server.Keepers stop e part whole counts keeps untouched = rw e (keeps, untouched refl, part)
-  ends_short server.Memory stop e part whole counts keeps untouched = rw e (part, counts, keeps)
+      CountsKeepers why s.keeps s'.keeps → CountsBinds why s.binds s'.binds → (why ≡ server.Keepers → as_before) → (why ≡ server.Datagrams → IsUnserved s s' o o') → EndsServing options s s' o o' as_before (Err stop)
+  ends_short server.Listener stop e part whole counts keeps binds untouched unserved = rw e (counts.0, whole refl, part, counts.1, keeps, binds)
+  ends_short server.Sink stop e part whole counts keeps binds untouched unserved = rw e (counts, part, keeps, binds)
+  ends_short server.Keepers stop e part whole counts keeps binds untouched unserved = rw e (keeps, untouched refl, part)
+  ends_short server.Datagrams stop e part whole counts keeps binds untouched unserved = rw e (binds, unserved refl, counts.0, keeps)
+  ends_short server.Memory stop e part whole counts keeps binds untouched unserved = rw e (part, counts, keeps, binds)

@@ -8,6 +8,7 @@ use Rattle.script_player.specs.Run.{WritesPart}
 use Rattle.load_player.specs.declared.load.Load.{Load}
 use Rattle.load_player.specs.Played.{PlayedLoad, WritesLoadPart}
 use Rattle.server.specs.declared.options.Options.{Options}
+use Rattle.server.specs.Names.{GivesPortBack}
 use Rattle.server.specs.Served.{GivesBack, Served, WritesFront, WritesWhole}
 use Rattle.catalog_top.specs.declared.stop.Stop.{Stop}
 use Rattle.catalog_top.specs.declared.stop.Stop.TheVariants as stop
@@ -51,19 +52,30 @@ SaysUsage o o' (Err stop.Sink) = WritesPart o.held o'.held usage_text × Rose o.
 SaysUsage o o' (Err stop.Memory) = WritesPart o.held o'.held usage_text × (o'.faults ≡ o.faults)
 SaysUsage o o' other = ⊥
 
+-- Nothing was written and nothing served: no connection was taken, no word drawn, no job started and no port handed back.
+pub record IsUnserved (s s' : Outside) (o o' : Output) : Type 0 where
+  pub unwritten : o' ≡ o
+  pub given : s'.given ≡ s.given
+  pub closed : s'.closed ≡ s.closed
+  pub draws : s'.draws ≡ s.draws
+  pub spawns : s'.spawns ≡ s.spawns
+  pub ports : s'.ports ≡ s.ports
+
 -- A server that ended well served as it was asked to. Else it wrote a first part of its text, and all of it where its listener
--- failed at a connection. Where a store could not be made or read, all else is as it was.
+-- failed at a connection. Where its port of names could not be bound nothing is served, and where a store could not be made
+-- or read, all else is as it was.
 abbrev pub EndsServing : Options → Outside → Outside → Output → Output → Type 0 → Result Report Stop → Type 0
 EndsServing options s s' o o' as_before (Ok report) =
-    Served options s.made s'.made s'.draws s.closed s'.closed s.spawns s'.spawns s'.given s'.port o.held o'.held report × (o'.faults ≡ o.faults) × (s'.keeps ≡ s.keeps)
+    Served options s.made s'.made s'.draws s.closed s'.closed s.spawns s'.spawns s'.given s'.port s.ports s'.ports o.held o'.held report × (o'.faults ≡ o.faults) × (s'.keeps ≡ s.keeps) × (s'.binds ≡ s.binds)
 EndsServing options s s' o o' as_before (Err stop.Listener) =
-    Rose s.listens s'.listens × WritesWhole options o.held o'.held × WritesFront options o.held o'.held × (o'.faults ≡ o.faults) × (s'.keeps ≡ s.keeps)
-EndsServing options s s' o o' as_before (Err stop.Sink) = Rose o.faults o'.faults × WritesFront options o.held o'.held × (s'.keeps ≡ s.keeps)
-EndsServing options s s' o o' as_before (Err stop.Memory) = WritesFront options o.held o'.held × (o'.faults ≡ o.faults) × (s'.keeps ≡ s.keeps)
+    Rose s.listens s'.listens × WritesWhole options o.held o'.held × WritesFront options o.held o'.held × (o'.faults ≡ o.faults) × (s'.keeps ≡ s.keeps) × (s'.binds ≡ s.binds)
+EndsServing options s s' o o' as_before (Err stop.Sink) = Rose o.faults o'.faults × WritesFront options o.held o'.held × (s'.keeps ≡ s.keeps) × (s'.binds ≡ s.binds)
+EndsServing options s s' o o' as_before (Err stop.Memory) = WritesFront options o.held o'.held × (o'.faults ≡ o.faults) × (s'.keeps ≡ s.keeps) × (s'.binds ≡ s.binds)
 EndsServing options s s' o o' as_before (Err stop.Store) = Rose s.keeps s'.keeps × as_before × WritesFront options o.held o'.held
+EndsServing options s s' o o' as_before (Err stop.Datagrams) = Rose s.binds s'.binds × IsUnserved s s' o o' × (s'.listens ≡ s.listens) × (s'.keeps ≡ s.keeps)
 EndsServing options s s' o o' as_before (Err other) = ⊥
 
--- However a server ended, each connection that was given came back.
+-- However a server ended, each connection that was given came back, and so did its port of names.
 abbrev pub Serves : Options → Outside → Outside → Output → Output → Type 0 → Result Report Stop → Type 0
 Serves options s s' o o' as_before result =
-    EndsServing options s s' o o' as_before result × GivesBack options s'.draws s.closed s'.closed s.spawns s'.spawns s'.given
+    EndsServing options s s' o o' as_before result × GivesBack options s'.draws s.closed s'.closed s.spawns s'.spawns s'.given × GivesPortBack options.dns s.ports s'.ports

@@ -3,8 +3,8 @@ use Rattle.std.specs.Prelude.{ℕ, Result, Ok, Err}
 use Rattle.cat_outside.specs.declared.faults.KeepFail.{KeepFail}
 use Rattle.cat_outside.specs.declared.faults.KeepFail.TheVariants as keep_fail
 use Rattle.script_player.specs.declared.report.Report.{Report}
-use Rattle.server.specs.declared.running.Stop.{Stop as ServerStop}
-use Rattle.server.specs.declared.running.Stop.TheVariants as server
+use Rattle.server.specs.declared.stop.Stop.{Stop as ServerStop}
+use Rattle.server.specs.declared.stop.Stop.TheVariants as server
 use Rattle.catalog_top.specs.declared.input.ReadFail.{ReadFail}
 use Rattle.catalog_top.specs.declared.input.ReadFail.TheVariants as read_fail
 use Rattle.catalog_top.specs.declared.stop.Stop.{Stop}
@@ -19,6 +19,7 @@ number_of stop.Listener = 6
 number_of stop.Limit = 7
 number_of stop.Memory = 8
 number_of stop.Store = 9
+number_of stop.Datagrams = 10
 
 -- 0 where there is a report
 abbrev pub status_of : Result Report Stop → ℕ
@@ -37,4 +38,5 @@ abbrev pub stop_of_server : ServerStop → Stop
 stop_of_server server.Listener = stop.Listener
 stop_of_server server.Sink = stop.Sink
 stop_of_server server.Keepers = stop.Store
+stop_of_server server.Datagrams = stop.Datagrams
 stop_of_server server.Memory = stop.Memory

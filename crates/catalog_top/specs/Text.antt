@@ -6,4 +6,4 @@ limit_text = codes "limit: script\n"
 
 abbrev pub usage_text : List ℕ
 usage_text =
-    codes "usage: catalogd script / load SEED SIZE / serve --servers S --agents A --port P --connections N [--keep DIR]\n"
+    codes "usage: catalogd script / load SEED SIZE / serve --servers S --agents A --port P --connections N [--keep DIR] [--dns Q --packets M]\n"

@@ -30,6 +30,8 @@ pub enum Stop {
     Memory,
     #[error("the durable store of a server cannot be made or read")]
     Store,
+    #[error("the port for questions of names cannot be bound, which another program may use")]
+    Datagrams,
 }
 
 impl Stop {
@@ -37,7 +39,8 @@ impl Stop {
     ghost use Rattle.catalog_top.specs.Status.{number_of};
 
     /// The status with which the program ends: 2 wrong words, 3 a refused line, 4 the source failed, 5 the sink failed, 6 the
-    /// listener failed, 7 a script above a limit, 8 out of memory, 9 a durable store could not be made or read.
+    /// listener failed, 7 a script above a limit, 8 out of memory, 9 a durable store could not be made or read, 10 the port
+    /// for questions of names could not be bound.
     pub fn number(self) -> u8
         ensures { result ≡ number_of self }
     {
@@ -50,6 +53,7 @@ impl Stop {
             Stop::Limit => 7,
             Stop::Memory => 8,
             Stop::Store => 9,
+            Stop::Datagrams => 10,
         }
     }
 }
@@ -93,6 +97,7 @@ impl From<server::Stop> for Stop {
             server::Stop::Listener => Stop::Listener,
             server::Stop::Sink => Stop::Sink,
             server::Stop::Keepers => Stop::Store,
+            server::Stop::Datagrams => Stop::Datagrams,
             server::Stop::Memory => Stop::Memory,
         }
     }

@@ -24,7 +24,7 @@ const PUT_AND_GET: &str =
     "cluster 1 1 7\ntimeout 1\nhttp 1 PUT /v1/kv/a =hello\nhttp 1 GET /v1/kv/a\n";
 
 const USAGE: &str =
-    "usage: catalogd script / load SEED SIZE / serve --servers S --agents A --port P --connections N [--keep DIR]\n";
+    "usage: catalogd script / load SEED SIZE / serve --servers S --agents A --port P --connections N [--keep DIR] [--dns Q --packets M]\n";
 
 const SERVE: &str = "serve --servers 1 --agents 1 --port 8500 --connections 1";
 

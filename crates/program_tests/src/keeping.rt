@@ -3,6 +3,7 @@
 use cat_model::{Bytes, List};
 use cat_outside::{SureSink, SureSource};
 use catalog_top::{Machine, run, status_of};
+use datagram_outside::MemPorts;
 use host_keeper::{HostFiles, HostKeepers, JournalFiles, MemFiles};
 use serve_outside::{Bells, CountWords, MemListener, MemSpawner, Script, SetClock};
 use std::alloc::Global;
@@ -48,6 +49,7 @@ where
         "serve --servers {servers} --agents 1 --port 8500 --connections 1 --keep {FOLDER}"
     )?;
     let words: Vec<&str> = words.as_str().split(' ').collect(alloc)?;
+    let mut ports = MemPorts::new(alloc, Vec::new(alloc), List::new(alloc))?;
     let outcome = run(
         machine,
         &words,
@@ -57,6 +59,7 @@ where
         &mut CountWords::new(),
         &mut MemSpawner::new(List::new(alloc)),
         &mut HostKeepers::new(alloc, files, servers),
+        &mut ports,
     );
     let mut said = Vec::new(alloc);
     for link in listener.kept() {

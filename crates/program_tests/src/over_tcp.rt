@@ -3,6 +3,7 @@
 use cat_model::{Bytes, List};
 use cat_outside::{MemSink, MemSource};
 use catalog_top::{Machine, run};
+use datagram_outside::MemPorts;
 use serve_outside::{Bells, MachineClock, SeededWords, SureKeepers, TcpLinks, ThreadSpawner};
 use std::alloc::Global;
 use std::io::{Read, Write};
@@ -130,6 +131,7 @@ pub fn serve_words<
         clock: MachineClock::new(rt),
         gate: Bells::new(rt, alloc).ok()?,
     };
+    let mut ports = MemPorts::new(alloc, Vec::new(alloc), List::new(alloc)).ok()?;
     let outcome = run(
         machine,
         &words,
@@ -139,6 +141,7 @@ pub fn serve_words<
         &mut SeededWords::new(&rt),
         &mut ThreadSpawner::new(),
         &mut SureKeepers::new(),
+        &mut ports,
     );
     let is_well = outcome.is_ok();
     drop(outcome);

@@ -3,6 +3,7 @@
 use cat_model::{Bytes, List, Memory};
 use cat_outside::{MemSink, MemSource};
 use catalog_top::{Machine, Outcome, run};
+use datagram_outside::MemPorts;
 use serve_outside::{Bells, CountWords, MemKeepers, MemListener, MemSpawner, Script, SetClock};
 use std::alloc::{AllocError, Global};
 use std::sync::Wait;
@@ -76,6 +77,7 @@ pub(crate) fn play_with<R: Threads + Wait + time::Clock + Copy + Send + Sync + D
     let mut sink = MemSink::new(alloc, listed(alloc, failing.write)?);
     let mut listener = MemListener::new(alloc, connections, List::new(alloc))?;
     let mut keepers = MemKeepers::new(alloc, listed(alloc, failing.make)?);
+    let mut ports = MemPorts::new(alloc, Vec::new(alloc), List::new(alloc))?;
     let words = words_of(alloc, words)?;
     let outcome = run(
         machine(rt, alloc)?,
@@ -86,6 +88,7 @@ pub(crate) fn play_with<R: Threads + Wait + time::Clock + Copy + Send + Sync + D
         &mut CountWords::new(),
         &mut MemSpawner::new(List::new(alloc)),
         &mut keepers,
+        &mut ports,
     );
     Ok(Played {
         outcome,

@@ -2,7 +2,6 @@ use denote.Param.Send.{IsSend, arg_send, sendable, view_send, param_send, record
 use denote.Exit.{no}
 use denote.Struct.Declared as declared
 use Rattle.std.proofs.Crossing.{crosses}
-use Rattle.std.proofs.MapsCrossing as maps
 use Rattle.replica.specs.contracts.delays.Delays as kept
 use Rattle.replica.specs.contracts.replica.Replica as replica
 use Rattle.replica.specs.contracts.replica.Replica.TheInside as inside

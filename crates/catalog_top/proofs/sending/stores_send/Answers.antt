@@ -1,7 +1,7 @@
 use denote.Param.Send.{IsSend, arg_send, sendable, view_send, param_send, recorded_send, struct_send}
 use denote.Exit.{no}
 use denote.Struct.Declared as declared
-use Rattle.std.proofs.Crossing.{crosses, Vec-send}
+use Rattle.std.proofs.Crossing.{Vec-send}
 use Rattle.catalog_store.specs.contracts.tables.Tables as tables
 use Rattle.catalog_store.specs.contracts.store.Store as store
 use Rattle.catalog_store.specs.contracts.store.Store.TheInside as inside
