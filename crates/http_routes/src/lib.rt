@@ -15,9 +15,11 @@ mod params;
 mod query;
 mod router;
 mod routing;
+mod sending;
 mod session;
 mod table;
 mod target;
 
 pub use error::{Allow, Parameter, RouteError};
 pub use routing::{Routed, Routes, route};
+pub use sending::routes_cross;
