@@ -1,5 +1,5 @@
 -- The steps of all journals, one at a time in the order of their times, make one run.
-use Rattle.std.proofs.Common.{ℕ, List, None, Some, [], ap, arith, cond, get_or, inl, inr, length, map, refl, set, subst, suc, sym, take, zero, ◌+◌, ◌<◌, ◌∙◌, ◌∷◌, ◌≡◌, ◌≤◌, ◌⊎◌}
+use Rattle.std.proofs.Common.{ℕ, List, None, Some, [], ap, arith, cond, get_or, inl, inr, length, map, refl, set, subst, suc, sym, take, zero, ◌+◌, ◌<◌, ◌∙◌, ◌∷◌, ◌≡◌, ◌≢◌, ◌≤◌, ◌⊎◌}
 use Rattle.std.specs.Prelude.{Contains, ◌==◌}
 use Rattle.std.proofs.lemmas.List.{length-set, get_or-map, map-set, take_all}
 use Rattle.raft_model.proofs.Going.{longer_length}
@@ -11,12 +11,12 @@ use Rattle.raft_model.proofs.Tests.{eq_is, eq_tells, no_bool, at_bool}
 use Rattle.raft_model.specs.Facts.{IsLeading}
 use Rattle.raft_model.specs.Node.{Node, committed, set_server}
 use Rattle.raft_model.specs.Rules.{Beat, Input, Probe, Propose, Receive, Timeout}
-use Rattle.raft_model.specs.World.{Acts, IsNew, World, WorldStep, after}
+use Rattle.raft_model.specs.World.{Acts, IsNew, IsServer, World, WorldStep, after}
 use Rattle.node_journals.proofs.Accounting.{Accounts, GoesTo, accounts_go, adds_nothing, fits_here}
-use Rattle.node_journals.proofs.Lists.{IsNext, among, at_first, at_set, behind, is_other, is_stepped, made_or, stepped, in_none}
+use Rattle.node_journals.proofs.Lists.{IsNext, among, at_first, at_set, behind, is_other, is_stepped, made_or, same_or_not, stepped, in_none}
 use Rattle.node_journals.proofs.Soonest.{AllDone, AllRise, Soonest, rises_from, soonest}
 use Rattle.node_journals.specs.Causal.{Rises, WasSent}
-use Rattle.node_journals.specs.Journals.{Event, Given, IsJournal, IsProcess, IsStep, IsUnnumbered, Made, Process, Restart, Step, Was}
+use Rattle.node_journals.specs.Journals.{Event, Given, IsJournal, IsProcess, IsStep, IsUnnumbered, Made, Process, Restart, Step, Was, ended}
 use Rattle.node_journals.specs.OneWorld.{ends, goes, IsHeard, Leads, Takes, Turn, handing, move_of, steps_of}
 
 abbrev pub starts : List Process → List Node
@@ -189,9 +189,10 @@ pub record Story (earlier : List Turn) (w : World) (ps : List Process) (h : Hist
   pub last : World
   pub run : Leads earlier w turns last
   pub steps : (i : ℕ) (p : Process) → IsProcess ps i p → steps_of i turns ≡ p.steps
-  pub final : History
-  pub keeps : Keeps h final
-  pub told : (i : ℕ) (n : Node) → Was ps i n → IsTold final i n
+  pub nodes : (i : ℕ) (p : Process) → IsProcess ps i p → IsServer last i (ended p.start p.steps)
+  pub accounts : Accounts last.nodes last.agreed []
+  pub keeps : Keeps h accounts.history
+  pub told : (i : ℕ) (n : Node) → Was ps i n → IsTold accounts.history i n
 
 -- how many steps are still to come
 abbrev pub total : List Process → ℕ
@@ -227,7 +228,8 @@ ends_here earlier w ps e a done = record {
   last = w;
   run = ends;
   steps = λ i p is. sym (none i p is);
-  final = a.history;
+  nodes = λ i p is. subst (λ z. IsServer w i (ended p.start z)) (sym (none i p is)) (server i p is);
+  accounts = record { history = a.history; sound = a.sound; fits = a.fits; told = λ turn c. absurd (in_none turn c); agrees = a.agrees };
   keeps = keeps_itself a.history;
   told = λ i n was. elim was [ inl (p, is, same) ↦ start_told earlier w ps e a i p n is same | inr (s, made, same) ↦ absurd (in_none s (subst (λ z. Contains z s) (none i made.0 made.1) made.2)) ];
 }
@@ -235,6 +237,10 @@ ends_here earlier w ps e a done = record {
     none : (i : ℕ) (p : Process) → IsProcess ps i p → p.steps ≡ []
     none zero p is = absurd is
     none (suc j) p (l, at) = ap (λ (z : Process). z.steps) (sym at) ∙ done j p l
+
+    server : (i : ℕ) (p : Process) → IsProcess ps i p → IsServer w i p.start
+    server zero p is = is
+    server (suc j) p (l, at) = (node_within w ps e j l, node_at w ps e j p p.start l ∙ ap (λ (z : Process). z.start) at)
 
 -- the steps of a server where one more was made
 steps_then : (ps : List Process) (at : ℕ) (s : Step) (rest : List Step) → IsNext ps at s rest → (turns : List Turn) → ((i : ℕ) (p : Process) → IsProcess (stepped ps at s rest) i p → steps_of i turns ≡ p.steps)
@@ -250,6 +256,19 @@ steps_then ps at s rest n turns before (suc j) p (l, e) = at_bool (λ b. (suc at
         let here : steps_of (suc j) turns ≡ rest = subst (λ z. steps_of (suc z) turns ≡ rest) (sym same) (before (suc at) (record { start = s.node; steps = rest }) (is_stepped ps at s rest n)) in
         ap (λ (z : List Step). s ∷ z) here ∙ sym (ap (λ (z : Process). z.steps) (sym e) ∙ subst (λ z. (get_or ps z p).steps ≡ s ∷ rest) (sym same) (n.steps p))
 
+-- where it ends
+nodes_then : (ps : List Process) (at : ℕ) (s : Step) (rest : List Step) → IsNext ps at s rest → (w : World) → ((i : ℕ) (p : Process) → IsProcess (stepped ps at s rest) i p → IsServer w i (ended p.start p.steps))
+    → (i : ℕ) (p : Process) → IsProcess ps i p → IsServer w i (ended p.start p.steps)
+nodes_then ps at s rest n w after zero p is = absurd is
+nodes_then ps at s rest n w after (suc j) p (l, e) = go (same_or_not j at)
+  where
+    own : j ≡ at → p.steps ≡ s ∷ rest
+    own same = ap (λ (z : Process). z.steps) (sym e) ∙ subst (λ z. (get_or ps z p).steps ≡ s ∷ rest) (sym same) (n.steps p)
+
+    go : (j ≡ at) ⊎ (j ≢ at) → IsServer w (suc j) (ended p.start p.steps)
+    go (inl same) = subst (λ z. IsServer w (suc j) (ended p.start z)) (sym (own same)) (subst (λ z. IsServer w (suc z) (ended s.node rest)) (sym same) (after (suc at) (record { start = s.node; steps = rest }) (is_stepped ps at s rest n)))
+    go (inr ne) = after (suc j) p (is_other ps at s rest j p ne (l, e))
+
 -- one more step is made, and then what follows
 goes_on : (earlier : List Turn) (w : World) (ps : List Process) → w.nodes ≡ starts ps → (a : Accounts w.nodes w.agreed earlier) → (at : ℕ) (s : Step) (rest : List Step) → IsNext ps at s rest → (t : Turns earlier w a at s)
     → Story (record { server = suc at; step = s } ∷ earlier) t.next (stepped ps at s rest) t.goes.accounts.history → Story earlier w ps a.history
@@ -258,19 +277,20 @@ goes_on earlier w ps e a at s rest n t story = record {
   last = story.last;
   run = goes (record { server = suc at; step = s }) t.takes story.run;
   steps = steps_then ps at s rest n story.turns story.steps;
-  final = story.final;
+  nodes = nodes_then ps at s rest n story.last story.nodes;
+  accounts = story.accounts;
   keeps = keeps;
   told = λ i m was. elim was [
-    | inl (p, is, same) ↦ told_later a.history story.final i m keeps (start_told earlier w ps e a i p m is same)
+    | inl (p, is, same) ↦ told_later a.history story.accounts.history i m keeps (start_told earlier w ps e a i p m is same)
     | inr (u, made, same) ↦ elim (made_or ps at s rest n i u made) [
       | inl later ↦ story.told i m (inr (u, later, same))
-      | inr now ↦ subst (λ z. IsTold story.final z m) (now.0) (story.told (suc at) m (inl (record { start = s.node; steps = rest }, is_stepped ps at s rest n, ap (λ (z : Step). z.node) (now.1) ∙ same)))
+      | inr now ↦ subst (λ z. IsTold story.accounts.history z m) (now.0) (story.told (suc at) m (inl (record { start = s.node; steps = rest }, is_stepped ps at s rest n, ap (λ (z : Step). z.node) (now.1) ∙ same)))
     ]
   ];
 }
   where
-    keeps : Keeps a.history story.final
-    keeps = keeps_on (suc at) a.history t.goes.accounts.history story.final t.goes.goes story.keeps
+    keeps : Keeps a.history story.accounts.history
+    keeps = keeps_on (suc at) a.history t.goes.accounts.history story.accounts.history t.goes.goes story.keeps
 
 -- the next step of all
 next_turn : (earlier : List Turn) (w : World) (ps : List Process) → w.nodes ≡ starts ps → (a : Accounts w.nodes w.agreed earlier) → Ready earlier ps → (r : Soonest ps) → Turns earlier w a r.at r.step

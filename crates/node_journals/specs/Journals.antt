@@ -40,6 +40,11 @@ pub record Process : Type 0 where
   pub start : Node
   pub steps : List Step
 
+-- the node after its last step
+abbrev pub ended : Node → List Step → Node
+ended node [] = node
+ended node (s ∷ steps) = ended s.node steps
+
 -- process i is this one
 abbrev pub IsProcess : List Process → ℕ → Process → Type 0
 IsProcess processes zero p = ⊥

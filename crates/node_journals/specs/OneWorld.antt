@@ -1,9 +1,11 @@
 -- One run of the whole world in which each node makes just the steps of its journal.
 use Rattle.std.specs.Prelude.{◌≡◌, ℕ, ◌==◌, List, [], ◌∷◌, map, if◌then◌else◌, Contains}
+use Rattle.cat_model.specs.Log.{IsWellFormed}
+use Rattle.raft_model.specs.Facts.{HasMatchingLogs, HasOneLeader}
 use Rattle.raft_model.specs.Node.{Store}
 use Rattle.raft_model.specs.Rules.{Timeout, Beat, Receive, Propose, Probe}
-use Rattle.raft_model.specs.World.{World, Bag, Acts, Move, TimesOut, Beats, Proposes, Probes, Delivers, Restarts, WorldStep, IsServer, AreEmpty, Begins}
-use Rattle.node_journals.specs.Journals.{Event, Given, Restart, Step, Process, IsProcess}
+use Rattle.raft_model.specs.World.{World, Bag, Acts, Move, TimesOut, Beats, Proposes, Probes, Delivers, Restarts, WorldStep, IsServer, Agrees, AreEmpty, Begins}
+use Rattle.node_journals.specs.Journals.{Event, Given, Restart, Step, Process, IsProcess, ended}
 
 -- a step of a server
 pub record Turn : Type 0 where
@@ -21,8 +23,8 @@ IsHeard turns i (Given (Receive from message)) =
     (turn : Turn) × Contains turns turn × (turn.server ≡ from) × Contains turn.step.sent (record { to = i; message = message })
 IsHeard turns i event = Unit {0}
 
--- The links may hold any number of messages, more than the world's bag takes. They hand one to the server that is
--- given it.
+-- The links may hold any number of messages, more than the world's bag takes. Before a step they hand over the message
+-- that the server is given.
 abbrev pub handed : ℕ → Event → Bag
 handed i (Given (Receive from message)) = record { packets = record { number = 1; from = from; to = i; message = message } ∷ []; last = 1 }
 handed i event = record { packets = []; last = 0 }
@@ -55,6 +57,13 @@ pub data Leads : List Turn → World → List Turn → World → Type 0 where
   ends : {earlier : List Turn} {w : World} → Leads earlier w [] w
   goes : {earlier turns : List Turn} {w v u : World} (turn : Turn) → Takes earlier w turn v → Leads (turn ∷ earlier) v turns u → Leads earlier w (turn ∷ turns) u
 
+-- What Raft promises of a world: agreement, one leader a term, logs that match, and an agreed log that is well formed.
+pub record IsAgreed (w : World) : Type 0 where
+  pub agrees : Agrees w
+  pub leader : HasOneLeader w
+  pub matching : HasMatchingLogs w
+  pub well_formed : IsWellFormed w.agreed
+
 -- The processes' journals are those of one run of a world that began with empty stores.
 pub record AreOneWorld (processes : List Process) : Type 0 where
   pub stores : List Store
@@ -66,3 +75,5 @@ pub record AreOneWorld (processes : List Process) : Type 0 where
   pub last : World
   pub run : Leads [] first turns last
   pub steps : (i : ℕ) (p : Process) → IsProcess processes i p → steps_of i turns ≡ p.steps
+  pub nodes : (i : ℕ) (p : Process) → IsProcess processes i p → IsServer last i (ended p.start p.steps)
+  pub agreed : IsAgreed last
