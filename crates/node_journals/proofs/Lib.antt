@@ -1,0 +1,6 @@
+mod Lists
+mod Accounting
+mod Soonest
+mod Telling
+mod Whole
+mod Playing
