@@ -10,6 +10,7 @@ use cat_model::{Bytes, Draw, List, Memory};
 use cat_outside::MemKeeper;
 use cluster::Cluster;
 use crossbeam_utils::CachePadded;
+use http_routes::Routes;
 use http_wire::RequestReader;
 use serve_loop::{Board, Cause, ServeJob, Served, SharedCluster, serve_connection};
 use serve_outside::{Clock, Gate, Link, MemLink, Script};
@@ -133,6 +134,7 @@ fn is_answered<J: ClusterSize + PairName, R: Wait + Copy + Drop>(
         board,
         clock,
         gate: Arc::new(alloc, gate)?,
+        routes: Arc::new(alloc, Routes::new(alloc)?)?,
         agent: 1,
         draw: Draw { hi: 1, lo: 1 },
         link: MemLink::new(alloc, script, 1),

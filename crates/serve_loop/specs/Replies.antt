@@ -3,6 +3,8 @@ use Rattle.std.specs.Prelude.{◌≡◌, ℕ, zero, Bool, true, false, List, len
 use Rattle.cat_model.specs.declared.command.Command.{Command}
 use Rattle.cat_model.specs.declared.query.Answer.{Answer}
 use Rattle.cat_model.specs.declared.query.Query.{Query}
+use Rattle.cat_model.specs.declared.request.Asked.{Asked}
+use Rattle.cat_model.specs.declared.request.Asked.TheVariants.{Bad, Good}
 use Rattle.cat_model.specs.declared.request.Mode.TheVariants.{Stale}
 use Rattle.cat_model.specs.declared.request.Request.{Request}
 use Rattle.cat_model.specs.declared.request.Request.TheVariants.{Read}
@@ -30,6 +32,12 @@ refusing why = record {
 abbrev pub is_viewed : Request → Bool
 is_viewed (Read query Stale zero wait raw) = true
 is_viewed other = false
+
+-- A request that waits for nobody leaves the connection's pass as it was, so it took no turn: a stale read that waits for no
+-- index, and what is refused.
+abbrev pub TakesNoTurn : {P : Type 0} → Asked → P → P → Type 0
+TakesNoTurn (Good request) old new = is_viewed request ≡ true → new ≡ old
+TakesNoTurn (Bad why) old new = new ≡ old
 
 -- The reply that shows this answer, with the query's index at a prefix of the log. It is to no request of the cluster's,
 -- and has no number.

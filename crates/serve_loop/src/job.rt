@@ -17,6 +17,7 @@ use crate::finishing::lacked_memory;
 use crate::served::Served;
 use crate::serving::{Board, Service, Serving};
 use cat_model::{Draw, Memory};
+use http_routes::Routes;
 use http_wire::RequestReader;
 use serve_outside::{Clock, Gate, Job, Link};
 use stale_view::Viewer;
@@ -33,6 +34,7 @@ pub struct ServeJob<R, S: History, Cl, G, L, V> {
     pub board: Arc<Board<S>, Global>,
     pub clock: Cl,
     pub gate: Arc<G, Global>,
+    pub routes: Arc<Routes, Global>,
     /// The agent that is asked for it, the first one 1.
     pub agent: u32,
     /// The words from which those of its requests are drawn.
@@ -140,6 +142,7 @@ pub fn serve_connection<
         board,
         clock,
         gate,
+        routes,
         agent,
         draw,
         link,
@@ -153,6 +156,7 @@ pub fn serve_connection<
         board,
         clock,
         gate,
+        routes,
         agent,
         draw,
         first: Snapshot::of(&link),

@@ -8,6 +8,7 @@ use crate::cluster::SharedCluster;
 use crate::job::{Finished, ServeJob};
 use crate::served::Served;
 use crate::serving::Board;
+use http_routes::Routes;
 use serve_outside::{NoteOf, Task};
 use stale_view::Viewer;
 use std::alloc::Global;
@@ -47,6 +48,8 @@ pub struct Server<R, S: History, Cl, G, V> {
     pub board: Arc<Board<S>, Global>,
     pub clock: Cl,
     pub gate: Arc<G, Global>,
+    /// The table of paths, which all connections look up in.
+    pub routes: Arc<Routes, Global>,
     /// How many agents there are.
     pub agents: u32,
     /// The viewer from which all others are split.

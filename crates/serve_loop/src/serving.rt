@@ -17,7 +17,7 @@ ghost use Rattle.serve_loop.specs.Stages.{Comes, GoesOn, IsTaking, Owes, OwesRef
 ghost use Rattle.serve_loop.specs.Waiting.{Grows, IsAfterAsk};
 ghost use Rattle.serve_loop.specs.declared.cause.Cause.TheVariants as cause;
 ghost use Rattle.serve_loop.specs.declared.turning.NoReply.TheVariants as no_reply;
-ghost use Rattle.serve_loop.specs.Replies.{is_viewed as is_viewed_spec, refusing as spec_refusing};
+ghost use Rattle.serve_loop.specs.Replies.{TakesNoTurn, is_viewed as is_viewed_spec, refusing as spec_refusing};
 
 use crate::cause::Cause;
 use crate::cluster::{Ask, SharedCluster};
@@ -46,8 +46,8 @@ pub type Board<S> = CachePadded<HistoryLock<S>>;
 /// How many bytes are read at most in one call.
 const ROOM: usize = 4096;
 
-/// What serves a connection: the board of turns, a clock and a gate, the agent that is asked and the connection's draw,
-/// and the link, the pass and the viewer as they were at first.
+/// What serves a connection: the board of turns, a clock and a gate, the table of paths, the agent that is asked and the
+/// connection's draw, and the link, the pass and the viewer as they were at first.
 #[derive(Drop)]
 pub struct Service<R, S: History, Cl, G, L, V> {
     pub rt: R,
@@ -55,6 +55,7 @@ pub struct Service<R, S: History, Cl, G, L, V> {
     pub board: Arc<Board<S>, Global>,
     pub clock: Cl,
     pub gate: Arc<G, Global>,
+    pub routes: Arc<Routes, Global>,
     pub agent: u32,
     pub draw: Draw,
     pub first: Snapshot<L>,
@@ -184,6 +185,7 @@ fn reply_by<R: Wait, C: SharedCluster, Cl: Clock, G: Gate, L: Link>(
     requires agent { (0 < service.now.agent) × (service.now.agent ≤ C.agents) }
     requires taken { IsTakenAsked (Good request) }
     ensures ours { IsOurs (arc_value service.now.board) pass.new }
+    ensures unturned { TakesNoTurn (Good request) pass.old pass.new }
     ensures grown { Grows (known_by pass.old viewer.old) (known_by pass.new viewer.new) }
     ensures link { IsAfterAsk result (L.state link.old) (L.state link.new) }
     ensures reply { IfOk result (λ reply. IsReply C.shows C.agrees (connection L.state service.now) (Good request) n reply (known_by pass.new viewer.new)) }
@@ -192,7 +194,7 @@ fn reply_by<R: Wait, C: SharedCluster, Cl: Clock, G: Gate, L: Link>(
     if !is_viewed(&request) {
         return ask(service, pass, viewer, link, request, n);
     }
-    let seen = view(&service.rt, service.alloc, viewer, &request);
+    let seen = view(service.alloc, viewer, &request);
     drop(request);
     seen
 }
@@ -210,6 +212,7 @@ fn respond<R: Wait, C: SharedCluster, Cl: Clock, G: Gate, L: Link>(
     requires agent { (0 < service.now.agent) × (service.now.agent ≤ C.agents) }
     requires taken { IsTakenAsked asked }
     ensures ours { IsOurs (arc_value service.now.board) pass.new }
+    ensures unturned { TakesNoTurn asked pass.old pass.new }
     ensures grown { Grows (known_by pass.old viewer.old) (known_by pass.new viewer.new) }
     ensures link { IsAfterAsk result (L.state link.old) (L.state link.new) }
     ensures reply { IfOk result (λ reply. IsReply C.shows C.agrees (connection L.state service.now) asked n reply (known_by pass.new viewer.new)) }
@@ -239,7 +242,6 @@ fn routed(alloc: Global, routes: &Routes, message: &RawRequest) -> Result<Routed
 // The reply to the n-th request, with its filter.
 fn reply_to<R: Wait, C: SharedCluster, Cl: Clock, G: Gate, L: Link>(
     service: &Service<R, Served<C>, Cl, G, L, Viewer<C::Pair>>,
-    routes: &Routes,
     pass: &mut Pass<Served<C>>,
     viewer: &mut Viewer<C::Pair>,
     link: &mut L,
@@ -249,13 +251,14 @@ fn reply_to<R: Wait, C: SharedCluster, Cl: Clock, G: Gate, L: Link>(
     requires ours { IsOurs (arc_value service.now.board) pass.old }
     requires agent { (0 < service.now.agent) × (service.now.agent ≤ C.agents) }
     ensures ours { IsOurs (arc_value service.now.board) pass.new }
+    ensures unturned { OnOk result (TakesNoTurn (asked_by (raw message.now)) pass.old pass.new) }
     ensures grown { Grows (known_by pass.old viewer.old) (known_by pass.new viewer.new) }
     ensures link { IsAfterAsk result (L.state link.old) (L.state link.new) }
     ensures reply { IfOk result (λ r. IsReply C.shows C.agrees (connection L.state service.now) (asked_by (raw message.now)) n r.reply (known_by pass.new viewer.new)) }
     ensures filter { IfOk result (λ r. option_map expression_of r.filter ≡ filter_at (raw message.now).target) }
     ensures left { IfErr result (λ why. why ≡ no_reply.Left → IsUnanswered C.shows C.agrees (connection L.state service.now) (asked_by (raw message.now)) n (known_by pass.new viewer.new)) }
 {
-    match routed(service.alloc, routes, message) {
+    match routed(service.alloc, &*service.routes, message) {
         Ok(Routed { asked, filter }) => match respond(service, pass, viewer, link, asked, n) {
             Ok(reply) => Ok(Response { reply, filter }),
             Err(why) => Err(why),
@@ -323,7 +326,6 @@ impl<L: Link, C: SharedCluster> Serving<L, Served<C>, Viewer<C::Pair>> {
     fn answer<R: Wait, Cl: Clock, G: Gate>(
         &mut self,
         service: &Service<R, Served<C>, Cl, G, L, Viewer<C::Pair>>,
-        routes: &Routes,
         message: &RawRequest,
     ) -> Result<(), Cause>
         requires ours { IsOurs (arc_value service.now.board) self.old.pass }
@@ -337,7 +339,6 @@ impl<L: Link, C: SharedCluster> Serving<L, Served<C>, Viewer<C::Pair>> {
         };
         match reply_to(
             service,
-            routes,
             &mut self.pass,
             &mut self.viewer,
             &mut self.link,
@@ -358,7 +359,6 @@ impl<L: Link, C: SharedCluster> Serving<L, Served<C>, Viewer<C::Pair>> {
     fn handle<R: Wait, Cl: Clock, G: Gate>(
         &mut self,
         service: &Service<R, Served<C>, Cl, G, L, Viewer<C::Pair>>,
-        routes: &Routes,
         got: Got,
     ) -> Result<(), Cause>
         requires ours { IsOurs (arc_value service.now.board) self.old.pass }
@@ -372,7 +372,7 @@ impl<L: Link, C: SharedCluster> Serving<L, Served<C>, Viewer<C::Pair>> {
             Got::More => Ok(()),
             Got::Continue => self.go_on(service),
             Got::Message(message) => {
-                let answered = self.answer(service, routes, &message);
+                let answered = self.answer(service, &message);
                 drop(message);
                 answered
             }
@@ -385,7 +385,6 @@ impl<L: Link, C: SharedCluster> Serving<L, Served<C>, Viewer<C::Pair>> {
     fn take_some<R: Wait, Cl: Clock, G: Gate>(
         &mut self,
         service: &Service<R, Served<C>, Cl, G, L, Viewer<C::Pair>>,
-        routes: &Routes,
         piece: &[u8],
     ) -> Result<usize, Cause>
         requires some { 0 < length piece.now }
@@ -399,7 +398,7 @@ impl<L: Link, C: SharedCluster> Serving<L, Served<C>, Viewer<C::Pair>> {
             (λ why. EndsBy C.shows C.agrees (connection L.state service.now) why (L.state self.new.link) (known_by self.new.pass self.new.viewer) self.new.requests) }
     {
         let Fed { used, got } = self.reader.feed(piece);
-        match self.handle(service, routes, got) {
+        match self.handle(service, got) {
             Ok(()) => Ok(used),
             Err(why) => Err(why),
         }
@@ -409,7 +408,6 @@ impl<L: Link, C: SharedCluster> Serving<L, Served<C>, Viewer<C::Pair>> {
     fn take_piece<R: Wait, Cl: Clock, G: Gate>(
         &mut self,
         service: &Service<R, Served<C>, Cl, G, L, Viewer<C::Pair>>,
-        routes: &Routes,
         piece: &[u8],
     ) -> Result<(), Cause>
         requires ours { IsOurs (arc_value service.now.board) self.old.pass }
@@ -420,7 +418,7 @@ impl<L: Link, C: SharedCluster> Serving<L, Served<C>, Viewer<C::Pair>> {
     {
         let mut done = 0;
         while done < piece.len() {
-            match self.take_some(service, routes, &piece[done..]) {
+            match self.take_some(service, &piece[done..]) {
                 Ok(used) => done += used,
                 Err(why) => return Err(why),
             }
@@ -450,31 +448,6 @@ impl<L: Link, C: SharedCluster> Serving<L, Served<C>, Viewer<C::Pair>> {
         }
     }
 
-    // Serves the connection to its end by these routes, and says why it ended.
-    fn serve_by<R: Wait, Cl: Clock, G: Gate>(
-        &mut self,
-        service: &Service<R, Served<C>, Cl, G, L, Viewer<C::Pair>>,
-        routes: &Routes,
-    ) -> Cause
-        requires ours { IsOurs (arc_value service.now.board) self.old.pass }
-        requires agent { (0 < service.now.agent) × (service.now.agent ≤ C.agents) }
-        requires talks { Talks C.shows C.agrees (connection L.state service.now) (stage L.state self.old) [] }
-        ensures ours { IsOurs (arc_value service.now.board) self.new.pass }
-        ensures ends { EndsBy C.shows C.agrees (connection L.state service.now) result (L.state self.new.link) (known_by self.new.pass self.new.viewer) self.new.requests }
-    {
-        let mut buffer = [0; ROOM];
-        for _ in service.rt.forever() {
-            match self.read_some(service, &mut buffer) {
-                Ok(count) => match self.take_piece(service, routes, &buffer[..count]) {
-                    Ok(()) => {}
-                    Err(why) => return why,
-                },
-                Err(why) => return why,
-            }
-        }
-        unreachable!()
-    }
-
     /// Serves the connection to its end, and says why it ended.
     pub(crate) fn serve<R: Wait, Cl: Clock, G: Gate>(
         &mut self,
@@ -486,9 +459,16 @@ impl<L: Link, C: SharedCluster> Serving<L, Served<C>, Viewer<C::Pair>> {
         ensures ours { IsOurs (arc_value service.now.board) self.new.pass }
         ensures ends { EndsBy C.shows C.agrees (connection L.state service.now) result (L.state self.new.link) (known_by self.new.pass self.new.viewer) self.new.requests }
     {
-        match Routes::new(service.alloc) {
-            Ok(routes) => self.serve_by(service, &routes),
-            Err(Memory) => Cause::Memory,
+        let mut buffer = [0; ROOM];
+        for _ in service.rt.forever() {
+            match self.read_some(service, &mut buffer) {
+                Ok(count) => match self.take_piece(service, &buffer[..count]) {
+                    Ok(()) => {}
+                    Err(why) => return why,
+                },
+                Err(why) => return why,
+            }
         }
+        unreachable!()
     }
 }

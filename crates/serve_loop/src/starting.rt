@@ -21,6 +21,7 @@ use crate::served::Served;
 use crate::serving::Board;
 use crate::writing::send_refusing;
 use cat_model::{Draw, Memory, Refusal};
+use http_routes::{Routes, routes_cross};
 use http_wire::RequestReader;
 use serve_outside::{Clock, Gate, Job, Link, Listener, NoteOf, Spawner, Words, start};
 use stale_view::{Viewer, parts_cross};
@@ -40,6 +41,7 @@ fn parts<R, C: SharedCluster, Cl, G: Drop>(
         Arc<G, Global>,
         Pass<Served<C>>,
         Viewer<C::Pair>,
+        Arc<Routes, Global>,
     ),
     Memory,
 >
@@ -53,10 +55,11 @@ fn parts<R, C: SharedCluster, Cl, G: Drop>(
     let reader = RequestReader::new(server.alloc)?;
     let board = Arc::try_clone(&server.board)?;
     let gate = Arc::try_clone(&server.gate)?;
+    let routes = Arc::try_clone(&server.routes)?;
     let viewer = server.viewer.split()?;
     let lock = &**server.board;
     match lock.split(pass) {
-        Ok(own) => Ok((reader, board, gate, own, viewer)),
+        Ok(own) => Ok((reader, board, gate, own, viewer, routes)),
         Err(NoShare) => Err(Memory),
     }
 }
@@ -96,12 +99,13 @@ fn job_of<
     ensures refused { IfErr result (λ back. back ≡ link) }
 {
     match parts(server, pass) {
-        Ok((reader, board, gate, own, viewer)) => Ok(ServeJob {
+        Ok((reader, board, gate, own, viewer, routes)) => Ok(ServeJob {
             rt: server.rt,
             alloc: server.alloc,
             board,
             clock: server.clock,
             gate,
+            routes,
             agent: agent_at(server.agents, n),
             draw,
             link,
@@ -145,6 +149,7 @@ where
     ensures counted { (Sp.faults spawner.old ≤ Sp.faults spawner.new) × (Sp.faults spawner.new ≤ Sp.faults spawner.old + 1) }
 {
     parts_cross();
+    routes_cross();
     start(spawner, rt, alloc, job)
 }
 

@@ -12,6 +12,7 @@ use crate::run::{Server, give_back};
 use crate::served::{NOBODY, Served};
 use crate::serving::Board;
 use cat_model::Memory;
+use http_routes::routes_cross;
 use serve_outside::{Clock, Gate, Job, NoteOf, Spawner, Task, finish, start_beside};
 use stale_view::{Viewer, parts_cross};
 use std::alloc::Global;
@@ -85,6 +86,7 @@ pub fn keep_clocks<R: Wait + Drop, C: SharedCluster, Cl: Clock + Drop, G: Gate +
         board,
         clock,
         gate,
+        routes: _,
         agents: _,
         mut viewer,
     } = server;
@@ -124,6 +126,7 @@ fn shared<R: Copy, C: SharedCluster, Cl: Copy, G>(
 {
     let viewer = server.viewer.split()?;
     let board = Arc::try_clone(&server.board)?;
+    let routes = Arc::try_clone(&server.routes)?;
     let gate = Arc::try_clone(&server.gate)?;
     Ok(Server {
         rt: server.rt,
@@ -131,6 +134,7 @@ fn shared<R: Copy, C: SharedCluster, Cl: Copy, G>(
         board,
         clock: server.clock,
         gate,
+        routes,
         agents: server.agents,
         viewer,
     })
@@ -191,6 +195,7 @@ where
     match make_timekeeper(server, pass) {
         Ok((keeper, stop)) => {
             parts_cross();
+            routes_cross();
             let task = start_beside(spawner, &server.rt, keeper, &stop);
             Some(Keeping { stop, task })
         }

@@ -14,9 +14,11 @@ use open_requests::{Content, Reply};
 use stale_view::{PairName, Unseen, Viewed, Viewer};
 use std::alloc::Global;
 use std::marker::Brand;
-use std::sync::Wait;
 use std::sync::ledger::{Blank, Ledger};
 use std::thread::yield_now;
+
+/// How often a read looks for a reader that is free.
+const MOST_LOOKS: u32 = 1 << 20;
 
 /// Whether it is a stale read that waits for no index.
 pub(crate) fn is_viewed(request: &Request) -> bool
@@ -62,23 +64,19 @@ fn glance<J: PairName>(
 }
 
 // The same. It looks again while others read by all that viewers read by, which they do for no longer than an answer takes.
-fn look<R: Wait, J: PairName>(
-    rt: &R,
-    alloc: Global,
-    viewer: &mut Viewer<J>,
-    query: &Query,
-) -> Result<Viewed, Memory>
+// Where they do so through all looks, which nobody has seen, the read fails as for want of memory.
+fn look<J: PairName>(alloc: Global, viewer: &mut Viewer<J>, query: &Query) -> Result<Viewed, Memory>
     ensures grown { IsPrefix viewer.old viewer.new }
     ensures seen { IfOk result (λ v. (v.answer ≡ answer query.now (catalog_at viewer.new)) × (v.index ≡ index_of query.now viewer.new) × (v.prefix ≡ length viewer.new)) }
 {
-    for _ in rt.forever() {
+    for _ in 0..MOST_LOOKS {
         match glance(alloc, viewer, query) {
             Ok(seen) => return Ok(seen),
             Err(Unseen::Memory) => return Err(Memory),
             Err(Unseen::Busy) => yield_now(),
         }
     }
-    unreachable!()
+    Err(Memory)
 }
 
 // The reply that shows what was seen.
@@ -106,8 +104,7 @@ fn reply_showing(seen: Viewed, query: &Shared<Query>, raw: bool) -> Result<Reply
 }
 
 /// The reply to a stale read that waits for no index.
-pub(crate) fn view<R: Wait, J: PairName>(
-    rt: &R,
+pub(crate) fn view<J: PairName>(
     alloc: Global,
     viewer: &mut Viewer<J>,
     request: &Request,
@@ -120,7 +117,7 @@ pub(crate) fn view<R: Wait, J: PairName>(
     let Request::Read { query, raw, .. } = request else {
         unreachable!()
     };
-    match look(rt, alloc, viewer, query) {
+    match look(alloc, viewer, query) {
         Ok(seen) => reply_showing(seen, query, *raw),
         Err(Memory) => Err(NoReply::Memory),
     }

@@ -19,6 +19,7 @@ use cat_model::Memory;
 use cluster_interface::ClusterInterface;
 use crossbeam_utils::CachePadded;
 use datagram_outside::{DatagramPort, Datagrams};
+use http_routes::Routes;
 use serve_loop::{Board, Served, Server, SharedCluster, serve_all};
 use serve_outside::{Clock, Gate, Listener, Spawner, Words};
 use serving_cluster::{ClusterSize, ServingCluster, ViewedCluster, clusters_send};
@@ -73,6 +74,7 @@ fn server_over<R: Drop, C: SharedCluster, Cl: Clock + Drop, G: Drop>(
         gate,
     } = machine;
     let (board, pass) = board_over(alloc, cluster, clock.now_ms())?;
+    let routes = Arc::new(alloc, Routes::new(alloc)?)?;
     let gate = Arc::new(alloc, gate)?;
     let server = Server {
         rt,
@@ -80,6 +82,7 @@ fn server_over<R: Drop, C: SharedCluster, Cl: Clock + Drop, G: Drop>(
         board,
         clock,
         gate,
+        routes,
         agents,
         viewer,
     };

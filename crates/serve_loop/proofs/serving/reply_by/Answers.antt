@@ -1,4 +1,4 @@
-use Rattle.std.proofs.Common.{sym, ◌∙◌}
+use Rattle.std.proofs.Common.{refl, sym, ◌∙◌}
 use Rattle.cat_model.specs.declared.request.Asked.TheVariants.{Good}
 use Rattle.serve_loop.specs.Knowing.{known_by}
 use Rattle.serve_loop.specs.Services.{connection}
@@ -31,3 +31,9 @@ pub returns-clause-left : goal.returns-clause-left
 returns-clause-left g c =
     let k = connection g.L.Link.state c.args.service.now in
     never_left (IsUnanswered g.C.SharedCluster.shows g.C.SharedCluster.agrees k (Good c.args.request) c.args.n (known_by c.args.pass.now c.view-seen.new.viewer)) c.view-seen.result c.view-seen.ensures.left
+
+pub returns-clause-unturned : goal.returns-clause-unturned
+returns-clause-unturned g c = λ same. refl
+
+pub returns-then-not-is_viewed-clause-unturned : goal.returns-then-not-is_viewed-clause-unturned
+returns-then-not-is_viewed-clause-unturned g c = λ same. let no = sym c.is_viewed.ensures ∙ c.if-not-is_viewed.true in absurd (cc (same, no))

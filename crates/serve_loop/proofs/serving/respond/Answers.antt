@@ -1,7 +1,8 @@
-use Rattle.std.proofs.Common.{sym, subst}
+use Rattle.std.proofs.Common.{refl, sym, subst}
 use Rattle.std.specs.Prelude.{IfOk}
 use Rattle.cat_model.specs.declared.request.Asked.{Asked}
 use Rattle.serve_loop.specs.Knowing.{known_by}
+use Rattle.serve_loop.specs.Replies.{TakesNoTurn}
 use Rattle.serve_loop.specs.Services.{connection}
 use Rattle.serve_loop.specs.Serving.{IsReply, IsUnanswered}
 use Rattle.serve_loop.proofs.Exchanges.{refused_reply}
@@ -23,3 +24,9 @@ returns-in-Bad-clause-reply g c =
 pub returns-in-Bad-clause-left : goal.returns-in-Bad-clause-left
 returns-in-Bad-clause-left g c =
     never_left (IsUnanswered g.C.SharedCluster.shows g.C.SharedCluster.agrees (connection g.L.Link.state c.args.service.now) c.args.asked c.args.n (known_by c.args.pass.now c.args.viewer.now)) c.refused.result c.refused.ensures.left
+
+pub returns-in-Good-clause-unturned : goal.returns-in-Good-clause-unturned
+returns-in-Good-clause-unturned g c = subst (λ (a : Asked). TakesNoTurn a c.args.pass.now c.reply_by.new.pass) (sym c.in-Good.is) c.reply_by.ensures.unturned
+
+pub returns-in-Bad-clause-unturned : goal.returns-in-Bad-clause-unturned
+returns-in-Bad-clause-unturned g c = subst (λ (a : Asked). TakesNoTurn a c.args.pass.now c.args.pass.now) (sym c.in-Bad.is) refl

@@ -12,3 +12,6 @@ returns-in-Ok-clause-grown g c = prefix_on c.args.viewer.now c.loop.viewer c.gla
 
 pub returns-in-Err-Memory-clause-grown : goal.returns-in-Err-Memory-clause-grown
 returns-in-Err-Memory-clause-grown g c = prefix_on c.args.viewer.now c.loop.viewer c.glance.new.viewer c.loop.invariant c.glance.ensures.grown
+
+pub returns-clause-grown : goal.returns-clause-grown
+returns-clause-grown g c = c.loop.invariant

@@ -3,7 +3,7 @@ use Rattle.std.specs.Arc.{arc_value}
 use Rattle.serve_loop.specs.Boards.{IsOurs}
 use Rattle.serve_loop.specs.Services.{connection, stage}
 use Rattle.serve_loop.specs.Stages.{Talks}
-use Rattle.serve_loop.proofs.serving.Serving+L+Served+C+Viewer+C+Pair.serve_by.Given as goal
+use Rattle.serve_loop.proofs.serving.Serving+L+Served+C+Viewer+C+Pair.serve.Given as goal
 
 -- all that was read is taken
 abbrev pub invariant-loop : goal.invariant-loop
