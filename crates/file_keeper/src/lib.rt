@@ -12,3 +12,4 @@ mod window;
 
 pub use file_keeper::FileKeeper;
 pub use laws::{a_crash_leaves_old_or_new, journals_keep_limits};
+pub use rebuilt::{MOST_BYTES, MOST_ENTRIES, bytes_in_log};

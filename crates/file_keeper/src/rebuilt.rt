@@ -11,12 +11,14 @@ use std::alloc::Global;
 use std::marker::Model;
 use store_records::Record;
 
-const MOST_ENTRIES: usize = 262_144;
+/// A log has at most so many entries.
+pub const MOST_ENTRIES: usize = 262_144;
 
-const MOST_BYTES: u64 = 67_108_864;
+/// A log's commands have at most so many bytes, Noops' not counted.
+pub const MOST_BYTES: u64 = 67_108_864;
 
 /// How many bytes a command adds to those of a log, counted up to the greatest number of 64 bits.
-fn bytes_in_log(command: &Command) -> u64
+pub fn bytes_in_log(command: &Command) -> u64
     ensures { result ≡ min (cond (is_noop command.now) 0 (command_bytes command.now)) (2 ^ 64 - 1) }
 {
     match command {

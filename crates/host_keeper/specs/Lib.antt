@@ -1,2 +1,4 @@
+pub mod Fills
 pub mod Folders
 pub mod Stores
+pub mod Tallies
