@@ -2,12 +2,13 @@
 
 ghost use Rattle.std.specs.Prelude.{◌≡◌};
 
-use crate::{DnsDone, DnsJob, finish_names, start_names};
+use crate::{DnsDone, DnsJob, answer_names, finish_names, start_names};
 use cat_model::{Bytes, Command, Entry, List, Memory, NewService, Shared, Text};
-use datagram_outside::{MemPort, Packet};
+use cat_outside::{Failed, KeepFail};
+use datagram_outside::{DatagramPort, MemPort, Packet};
 use dns_server::DnsCause;
 use serve_outside::{MemSpawner, Spawner, ThreadSpawner};
-use stale_view::{Opened, PairName, stale_pair};
+use stale_view::{Opened, PairName, Publisher, stale_pair};
 use std::alloc::Global;
 use std::marker::Brand;
 use std::sync::Wait;
@@ -29,6 +30,17 @@ const NOPE: &[u8] =
 // RCODE 3, and no record.
 const NOPE_REPLY: &[u8] =
     b"\x56\x78\x85\x03\x00\x01\x00\x00\x00\x00\x00\x00\x04nope\x07service\x06consul\x00\x00\x01\x00\x01";
+
+// The same of web.service.consul, where there is no such service yet.
+const NO_WEB_REPLY: &[u8] =
+    b"\x12\x34\x85\x03\x00\x01\x00\x00\x00\x00\x00\x00\x03web\x07service\x06consul\x00\x00\x01\x00\x01";
+
+// The addresses of web.service.consul, asked with ID abcd, and the reply.
+const OTHER_WEB: &[u8] =
+    b"\xab\xcd\x01\x00\x00\x01\x00\x00\x00\x00\x00\x00\x03web\x07service\x06consul\x00\x00\x01\x00\x01";
+
+const OTHER_WEB_REPLY: &[u8] =
+    b"\xab\xcd\x85\x00\x00\x01\x00\x01\x00\x00\x00\x00\x03web\x07service\x06consul\x00\x00\x01\x00\x01\xc0\x0c\x00\x01\x00\x01\x00\x00\x00\x00\x00\x04\x0a\x00\x00\x01";
 
 // A header has a byte more.
 const SHORT: &[u8] = b"\x12\x34\x01\x00\x00\x01\x00\x00\x00\x00\x00";
@@ -132,6 +144,95 @@ fn has_all(left: &Left) -> bool {
         _ => false,
     };
     are_replies && *taken == 3 && *cause == DnsCause::Done
+}
+
+// A port that publishes its log before each packet but the first.
+#[derive(Drop)]
+struct PublishingPort<J: PairName, R: Wait + Drop> {
+    port: MemPort,
+    publisher: Publisher<J, R>,
+    log: Vec<Entry>,
+    has_begun: bool,
+}
+
+impl<J: PairName, R: Wait + Drop> DatagramPort for PublishingPort<J, R> {
+    type Peer = u64;
+
+    ghost state = { λ p. ⟦<MemPort as DatagramPort>⟧.state p.port };
+
+    ghost number = { λ peer. peer };
+
+    fn receive(&mut self, into: &mut [u8]) -> Result<(usize, u64), Failed> {
+        if self.has_begun {
+            // Where memory is wanting, the replies show that nothing was published.
+            let _ = self.publisher.publish(self.log.as_slice());
+        }
+        self.has_begun = true;
+        self.port.receive(into)
+    }
+
+    fn send(&mut self, to: &u64, packet: &[u8]) -> Result<(), KeepFail> {
+        self.port.send(to, packet)
+    }
+}
+
+// Answers the same question thrice, before a service is published and then behind it.
+fn answered_thrice<J: PairName, R: Wait + Copy + Drop>(
+    rt: R,
+    alloc: Global,
+    opened: Opened,
+) -> Result<MemPort, Fail>
+    requires named { opened.front.book ≡ J.book }
+{
+    let (publisher, viewer) = stale_pair::<J, R>(alloc, rt, opened, 1)?;
+    let packets = Vec::from_array(
+        alloc,
+        [
+            packet(alloc, 7, WEB)?,
+            packet(alloc, 8, WEB)?,
+            packet(alloc, 9, OTHER_WEB)?,
+        ],
+    )?;
+    let port = PublishingPort {
+        port: MemPort::new(alloc, packets, List::new(alloc)),
+        publisher,
+        log: log(alloc)?,
+        has_begun: false,
+    };
+    let job = DnsJob {
+        rt,
+        alloc,
+        port,
+        viewer,
+        packets: 3,
+    };
+    let DnsDone { port, ended: _ } = answer_names(job);
+    let PublishingPort { port, .. } = port;
+    Ok(port)
+}
+
+// The same with a history of its own.
+fn port_of_three<R: Wait + Copy + Drop>(rt: R, alloc: Global) -> Result<MemPort, Fail> {
+    answered_thrice::<Brand, R>(rt, alloc, Opened::new())
+}
+
+// Whether these replies went, in this order.
+fn went(port: &MemPort, replies: &[&[u8]; 3]) -> bool {
+    match port.went() {
+        [one, two, three] => one.bytes.as_slice() == replies[0]
+            && two.bytes.as_slice() == replies[1]
+            && three.bytes.as_slice() == replies[2],
+        _ => false,
+    }
+}
+
+#[test]
+fn each_reply_is_of_the_catalog_as_it_is_then(rt: HostRuntime) -> Result<(), Fail> {
+    let port = port_of_three(rt, rt.alloc())?;
+    let are_replies = went(&port, &[NO_WEB_REPLY, WEB_REPLY, OTHER_WEB_REPLY]);
+    drop(port);
+    assert!(rt; are_replies);
+    Ok(())
 }
 
 #[test]

@@ -1,2 +1,4 @@
+mod Holding
+mod Ids
 mod Rounds
 mod Sendings

@@ -4,18 +4,17 @@ ghost use Rattle.std.specs.Prelude.{◌≡◌, ◌+◌, ◌<◌, ◌≤◌, ◌�
 ghost use mathlib.Core.List.{IsPrefix};
 ghost use Rattle.cat_outside.specs.Causes.{Rose};
 ghost use Rattle.datagram_outside.specs.Ports.{Datagram};
-ghost use Rattle.dns_service.specs.Reading.{answers_at};
-ghost use Rattle.dns_service.specs.Replies.{dns_reply};
+ghost use Rattle.dns_server.specs.Cached.{AllHold};
 ghost use Rattle.dns_server.specs.Served as spec;
 ghost use Rattle.dns_server.specs.Served.{HasReason, Passed, Served, reply_by};
 
-use cat_model::{Bytes, Memory, Steps};
+use crate::CountedReader;
+use crate::cache::Cache;
+use crate::replying::reply;
+use cat_model::Memory;
 use cat_outside::KeepFail;
 use datagram_outside::DatagramPort;
-use dns_service::{CatalogReader, answer_packet};
 use std::alloc::Global;
-use std::marker::Brand;
-use std::sync::ledger::{Blank, Ledger};
 
 /// The most bytes that a packet has.
 const MOST: usize = 65_535;
@@ -41,43 +40,17 @@ pub struct DnsEnded<C> {
     pub catalog: C,
 }
 
-// The reply, where nobody reads how many queries were evaluated.
-fn reply_counted<C: CatalogReader, L: Ledger>(
-    alloc: Global,
-    catalog: &mut C,
-    packet: &[u8],
-    blank: Blank,
-) -> Result<Option<Bytes>, Memory>
-    requires name { blank.name ≡ L.name }
-    requires parts { blank.parts ≡ L.parts }
-    requires some { 0 < L.parts }
-    ensures reply { IfOk result (λ r. r ≡ dns_reply (answers_at (C.commands catalog.new)) packet.now) }
-    ensures grown { IsPrefix (C.commands catalog.old) (C.commands catalog.new) }
-{
-    let mut steps: Steps<L> = Steps::new(blank);
-    answer_packet(alloc, catalog, packet, &mut steps)
-}
-
-fn reply<C: CatalogReader>(
-    alloc: Global,
-    catalog: &mut C,
-    packet: &[u8],
-) -> Result<Option<Bytes>, Memory>
-    ensures reply { IfOk result (λ r. r ≡ dns_reply (answers_at (C.commands catalog.new)) packet.now) }
-    ensures grown { IsPrefix (C.commands catalog.old) (C.commands catalog.new) }
-{
-    reply_counted::<C, Brand>(alloc, catalog, packet, Blank::new(1))
-}
-
 // Sends the reply to a packet to whom it came from, if it has one.
 #[tactic(auto, using(crate::proofs::Sendings::sent_one, crate::proofs::Sendings::sent_none, crate::proofs::Sendings::no_reply, crate::proofs::Rounds::passed_none))]
-fn answer<P: DatagramPort, C: CatalogReader>(
-    alloc: Global,
+fn answer<P: DatagramPort, C: CountedReader>(
     port: &mut P,
     catalog: &mut C,
+    cache: &mut Cache,
     peer: &P::Peer,
     packet: &[u8],
 ) -> Result<(), KeepFail>
+    requires cache { AllHold (C.commands catalog.old) cache.old.places.items }
+    ensures cache { AllHold (C.commands catalog.new) cache.new.places.items }
     ensures ok { OnOk result (Passed (P.state port.old) (P.state port.new) [] (reply_by (C.commands catalog.new) (record { peer = P.number peer.now; packet = packet.now }))) }
     ensures err { OnErr result (Passed (P.state port.old) (P.state port.new) [] []) }
     ensures grown { IsPrefix (C.commands catalog.old) (C.commands catalog.new) }
@@ -85,7 +58,7 @@ fn answer<P: DatagramPort, C: CatalogReader>(
     ensures failed { IsErrOf result KeepFail.Failed → Rose (P.state port.old).faults (P.state port.new).faults }
     ensures memory { IsErrOf result KeepFail.Memory → (P.state port.new).faults ≡ (P.state port.old).faults }
 {
-    match reply(alloc, catalog, packet) {
+    match reply(catalog, cache, packet) {
         Ok(Some(reply)) => port.send(peer, reply.as_slice()),
         Ok(None) => Ok(()),
         Err(Memory) => Err(KeepFail::Memory),
@@ -102,14 +75,15 @@ fn cause_of(fail: KeepFail) -> DnsCause
 }
 
 // Takes so many packets into the room, and answers each. It says how many it took, and why it ended.
-fn serve<P: DatagramPort, C: CatalogReader>(
-    alloc: Global,
+fn serve<P: DatagramPort, C: CountedReader>(
     port: &mut P,
     catalog: &mut C,
+    cache: &mut Cache,
     room: &mut [u8],
     packets: u64,
 ) -> (u64, DnsCause)
-    requires { 65535 ≤ length room.old }
+    requires room { 65535 ≤ length room.old }
+    requires cache { AllHold (C.commands catalog.old) cache.old.places.items }
     ensures served { Served (P.state port.old) (P.state port.new) (C.commands catalog.old) (C.commands catalog.new) result.0 result.1 }
     ensures cause { HasReason (P.state port.old) (P.state port.new) packets result.0 result.1 }
 {
@@ -119,16 +93,37 @@ fn serve<P: DatagramPort, C: CatalogReader>(
             return (taken, DnsCause::Fault);
         };
         taken += 1;
-        if let Err(fail) = answer(alloc, port, catalog, &peer, &room[..size]) {
+        if let Err(fail) = answer(port, catalog, cache, &peer, &room[..size]) {
             return (taken, cause_of(fail));
         }
     }
     (taken, DnsCause::Done)
 }
 
+// The same with a room and a cache that are made for it.
+fn serve_anew<P: DatagramPort, C: CountedReader>(
+    alloc: Global,
+    port: &mut P,
+    catalog: &mut C,
+    packets: u64,
+) -> (u64, DnsCause)
+    ensures served { Served (P.state port.old) (P.state port.new) (C.commands catalog.old) (C.commands catalog.new) result.0 result.1 }
+    ensures cause { HasReason (P.state port.old) (P.state port.new) packets result.0 result.1 }
+{
+    let Ok(mut room) = vec![in alloc; 0u8; MOST] else {
+        return (0, DnsCause::Memory);
+    };
+    let Ok(mut cache) = Cache::new(alloc) else {
+        return (0, DnsCause::Memory);
+    };
+    serve(port, catalog, &mut cache, &mut room, packets)
+}
+
 /// Takes so many packets of the port, which it waits for, and sends the reply to each that has one to whom it came from.
 /// It ends before that at the first call that fails, and where memory is wanting.
-pub fn serve_datagrams<P: DatagramPort, C: CatalogReader>(
+///
+/// Replies are kept while the catalog stands, 4,096 at most, and of packets of at most 512 bytes.
+pub fn serve_datagrams<P: DatagramPort, C: CountedReader>(
     alloc: Global,
     port: &mut P,
     catalog: C,
@@ -138,14 +133,7 @@ pub fn serve_datagrams<P: DatagramPort, C: CatalogReader>(
     ensures cause { HasReason (P.state port.old) (P.state port.new) packets result.taken result.cause }
 {
     let mut catalog = catalog;
-    let Ok(mut room) = vec![in alloc; 0u8; MOST] else {
-        return DnsEnded {
-            taken: 0,
-            cause: DnsCause::Memory,
-            catalog,
-        };
-    };
-    let (taken, cause) = serve(alloc, port, &mut catalog, &mut room, packets);
+    let (taken, cause) = serve_anew(alloc, port, &mut catalog, packets);
     DnsEnded {
         taken,
         cause,

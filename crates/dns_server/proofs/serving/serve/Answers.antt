@@ -27,6 +27,7 @@ loop-taken-preserved g c = record {
       (reply_by (g.C.CatalogReader.commands c.answer.new.catalog) (record { peer = g.P.DatagramPort.number c.in-Ok.peer; packet = take c.in-Ok.size c.receive.new.into }))
       c.in-Ok.ensures.came c.in-Ok.ensures.went c.in_default-answer.ensures.ok)
       c.in_default-answer.ensures.grown;
+  cache = c.in_default-answer.ensures.cache;
   few = omega arith;
   faults = c.in_default-answer.ensures.sent ∙ (c.in-Ok.ensures.cause.ok ∙ c.loop-taken.invariant.faults);
 }
