@@ -9,3 +9,4 @@ pub mod Leaving
 pub mod Tasks
 pub mod Runs
 pub mod Complete
+mod Crossing
