@@ -1,18 +1,17 @@
 -- A host with one more step in its history.
-use Rattle.std.proofs.Common.{◌≡◌, ◌≢◌, ℕ, ◌⊎◌, inl, inr, true, false, Err, List, [], length, refl, sym, ap, subst, ◌∙◌}
-use Rattle.std.specs.List.{AllByRecursion}
+use Rattle.std.proofs.Common.{◌≡◌, ◌≢◌, ℕ, inl, inr, true, false, Err, List, [], length, sym, ap, subst, ◌∙◌}
 use Rattle.cat_model.specs.declared.command.Command.{Command}
 use Rattle.raft_model.specs.Node.{Node}
-use Rattle.raft_model.specs.Rules.{Input, Timeout, Beat, Receive, Propose}
+use Rattle.raft_model.specs.Rules.{Input, Propose}
 use Rattle.raft_model.specs.Step.{Forgets, LogFails, NodeStep, VoteFails, Works}
 use Rattle.raft_model.specs.declared.message.Sent.{Sent}
 use Rattle.raft_node.specs.Steps.{Proposes, Steps, FindsNoMemory as NodeFindsNoMemory}
 use Rattle.raft_node.specs.declared.fault.ProposeFault.{ProposeFault}
 use Rattle.raft_node.specs.declared.fault.ProposeFault.TheVariants.{Full, Halted, Memory, NotLeader}
-use Rattle.node_journals.specs.Journals.{Event, Given, IsJournal, IsStep, IsUnnumbered, Process, Step, ended}
+use Rattle.node_journals.specs.Journals.{Event, Given, IsStep, IsUnnumbered, Process, Step}
 use Rattle.node_link.proofs.Forgetting.{forgot}
 use Rattle.node_link.proofs.Lists.{ended_more, journal_more, made_more}
-use Rattle.node_link.specs.Hosts.{Hosted, IsHost, IsMade, IsNoted, told}
+use Rattle.node_link.specs.Hosts.{Hosted, IsHost, told}
 use Rattle.node_link.specs.Outboxes.{Unsent, posted_all}
 
 -- the host after a step
@@ -34,6 +33,10 @@ pub host_noted : (h : Hosted) (event : Event) (node : Node) (sent : List Sent) (
 host_noted h event node sent p box is step process outbox =
     subst (λ (q : Process). IsHost (record { process = q; node = node; outbox = box; applied = h.applied })) (sym process)
     (subst (λ (b : Unsent). IsHost (record { process = told h.process event node sent; node = node; outbox = b; applied = h.applied })) (sym outbox) (host_more h event node sent is step))
+
+-- what was applied is no part of the history
+pub host_at : (h : Hosted) (applied : ℕ) → IsHost h → IsHost (record h { applied = applied })
+host_at h applied is = record { journal = is.journal; behind = is.behind; made = is.made }
 
 -- a step, whatever the store did, where it has no number
 pub is_step : (old : Node) (input : Input) (new : Node) (sent : List Sent) → IsUnnumbered input → Steps old input new sent → IsStep old (Given input) new sent

@@ -1,11 +1,11 @@
 -- A journal with one more step, and what an outbox has then.
-use Rattle.std.proofs.Common.{◌≡◌, ℕ, zero, suc, ◌+◌, ◌-◌, ◌<◌, ◌^◌, Bool, List, [], ◌∷◌, ◌++◌, length, min, cond, get_or, refl, sym, ap, subst, ◌∙◌, arith}
+use Rattle.std.proofs.Common.{◌≡◌, ℕ, zero, suc, ◌+◌, ◌-◌, ◌<◌, ◌^◌, Bool, List, [], ◌∷◌, ◌++◌, length, min, cond, get_or, refl, arith}
 use Rattle.std.specs.Prelude.{Contains, nat_lt}
 use Rattle.std.specs.List.{AllByRecursion}
 use Rattle.raft_model.proofs.Tests.{at_bool}
 use Rattle.raft_model.specs.Node.{Node}
 use Rattle.raft_model.specs.declared.message.Sent.{Sent}
-use Rattle.node_journals.specs.Journals.{IsJournal, IsStep, Process, Step, ended}
+use Rattle.node_journals.specs.Journals.{IsJournal, IsStep, Step, ended}
 use Rattle.node_link.specs.Hosts.{IsMade}
 use Rattle.node_link.specs.Outboxes.{Unsent, posted, posted_all}
 

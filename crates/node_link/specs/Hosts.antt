@@ -8,11 +8,11 @@ use Rattle.raft_model.specs.declared.message.Sent.{Sent}
 use Rattle.raft_model.specs.Log.{entry_at}
 use Rattle.raft_model.specs.Node.{Node, Store}
 use Rattle.raft_model.specs.Rules.{Input, Timeout, Beat, Receive, Propose}
-use Rattle.raft_model.specs.Step.{Forgets, LogFails, NodeStep, Starts}
+use Rattle.raft_model.specs.Step.{Forgets, LogFails, NodeStep, RestartFails, RestartWorks, Starts}
 use Rattle.raft_node.specs.Steps.{MayPropose, Proposes}
 use Rattle.raft_node.specs.declared.fault.ProposeFault.{ProposeFault}
 use Rattle.raft_node.specs.declared.fault.ProposeFault.TheVariants.{Halted}
-use Rattle.node_journals.specs.Journals.{Event, Given, Step, Process, IsJournal, ended}
+use Rattle.node_journals.specs.Journals.{Event, Given, Restart, Step, Process, IsJournal, ended}
 use Rattle.node_link.specs.declared.happened.Happened.{Happened}
 use Rattle.node_link.specs.declared.happened.Happened.TheVariants as happened
 use Rattle.node_link.specs.declared.status.Status.{Status}
@@ -50,6 +50,7 @@ event_of happened.Timeout = Given Timeout
 event_of happened.Beat = Given Beat
 event_of (happened.Received from message) = Given (Receive from message.value)
 event_of (happened.Proposed command) = Given (Propose 0 command.value)
+event_of happened.Restarted = Restart
 
 -- The history tells of this step, and what it sent went into the outbox.
 pub record IsNoted (old : Hosted) (event : Event) (sent : List Sent) (new : Hosted) : Type 0 where
@@ -74,6 +75,13 @@ pub record Makes (By : Node → Input → Node → List Sent → Type 0) (old : 
 abbrev pub FindsNoMemory : Hosted → Input → Hosted → Type 0
 FindsNoMemory old input new =
     (new ≡ old) ⊎ (NodeStep Forgets old.node input new.node [] × IsNoted old (Given input) [] new)
+
+-- The node began again over its store, or halted where that failed. What waits is still to be sent, and nothing is applied.
+pub record BeginsAgain (old new : Hosted) : Type 0 where
+  pub step : RestartWorks old.node new.node ⊎ RestartFails old.node new.node
+  pub process : new.process ≡ told old.process Restart new.node []
+  pub outbox : new.outbox ≡ old.outbox
+  pub applied : new.applied ≡ 0
 
 -- What a proposal answers. It is told where it changed the node: where it was made, or the store failed.
 abbrev pub Answers : Hosted → Command → Hosted → Result Place ProposeFault → Type 0

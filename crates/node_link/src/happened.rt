@@ -2,7 +2,7 @@ use cat_model::{Command, Shared};
 use raft_model::Message;
 use std::snapshot::Snapshot;
 
-/// What a node was given in a step, as proofs see it.
+/// What happened in a step, as proofs see it.
 #[derive(Drop)]
 pub enum Happened {
     Timeout,
@@ -12,4 +12,6 @@ pub enum Happened {
         message: Snapshot<Message>,
     },
     Proposed(Snapshot<Shared<Command>>),
+    /// It began again over its store.
+    Restarted,
 }

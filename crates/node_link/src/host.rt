@@ -7,7 +7,7 @@ ghost use Rattle.raft_model.specs.Step.{NodeStep, Works};
 ghost use Rattle.raft_node.specs.Nodes.{KeepsLimits};
 ghost use Rattle.raft_node.specs.Receiving.{CarriesAllowed, IsOther};
 ghost use Rattle.raft_node.specs.Steps.{FailsToLoad, Steps, stored};
-ghost use Rattle.node_link.specs.Hosts.{Answers, Begins, FindsNoMemory, IsHost, Makes, handed, next_of, status_of};
+ghost use Rattle.node_link.specs.Hosts.{Answers, Begins, BeginsAgain, FindsNoMemory, IsHost, Makes, handed, next_of, status_of};
 
 use crate::happened::Happened;
 use crate::history::History;
@@ -97,7 +97,7 @@ impl<K: Keeper + Drop> Host<K> {
         ensures ok { OnOk result (Makes Steps self.old (Receive from message.now) self.new) }
         ensures memory { OnErr result (FindsNoMemory self.old (Receive from message.now) self.new) }
     {
-        let term = self.node.term();
+        let before = self.node.term();
         match self.node.receive(alloc, from, message) {
             Ok(sent) => {
                 self.history = self.history.received(from, message, &self.node, &sent);
@@ -105,7 +105,7 @@ impl<K: Keeper + Drop> Host<K> {
                 Ok(())
             }
             Err(Memory) => {
-                if self.node.term() != term {
+                if self.node.term() != before {
                     let none = List::new(alloc);
                     self.history = self.history.received(from, message, &self.node, &none);
                 }
@@ -149,6 +149,18 @@ impl<K: Keeper + Drop> Host<K> {
                 Err(fault)
             }
         }
+    }
+
+    /// Begins again with what the store holds. Where the store fails the node halts.
+    pub fn restart(&mut self, alloc: Global) -> Result<(), Memory>
+        ensures ok { OnOk result (BeginsAgain self.old self.new) }
+        ensures memory { OnErr result (self.new ≡ self.old) }
+    {
+        self.node.restart(alloc)?;
+        let none = List::new(alloc);
+        self.history = self.history.then(&Happened::Restarted, &self.node, &none);
+        self.applied = 0;
+        Ok(())
     }
 
     /// Takes all messages out that are to be sent, in order.

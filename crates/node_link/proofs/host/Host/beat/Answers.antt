@@ -1,4 +1,3 @@
-use Rattle.std.proofs.Common.{◌∙◌}
 use Rattle.raft_model.specs.Rules.{Beat}
 use Rattle.raft_model.specs.Step.{Works}
 use Rattle.node_journals.specs.Journals.{Given}

@@ -1,7 +1,6 @@
-use Rattle.std.proofs.Common.{Err, [], ap, refl, subst, sym, ◌∙◌}
+use Rattle.std.proofs.Common.{[], ap, refl, sym, ◌∙◌}
 use Rattle.raft_model.specs.Rules.{Propose}
 use Rattle.raft_model.specs.Step.{LogFails, Works}
-use Rattle.raft_node.specs.Steps.{Proposes}
 use Rattle.node_journals.specs.Journals.{Given}
 use Rattle.node_link.specs.Hosts.{Hosted, told}
 use Rattle.node_link.proofs.Hosting.{halted_in, host_noted}

@@ -1,9 +1,9 @@
-use Rattle.std.proofs.Common.{[], ap, arith, inl, refl, subst, sym, ◌∙◌, ◌≢◌}
+use Rattle.std.proofs.Common.{[], ap, arith, inl, refl, subst, ◌∙◌, ◌≢◌}
 use Rattle.raft_model.specs.Rules.{Timeout}
 use Rattle.raft_model.specs.Step.{Forgets}
 use Rattle.raft_node.specs.Steps.{Steps}
 use Rattle.node_journals.specs.Journals.{Given}
-use Rattle.node_link.specs.Hosts.{FindsNoMemory, Hosted, Makes, told}
+use Rattle.node_link.specs.Hosts.{Hosted, Makes, told}
 use Rattle.node_link.proofs.Hosting.{as_before, forgets, host_noted, host_same, is_step}
 use Rattle.node_link.proofs.host.Host.timeout.Goals as goal
 
