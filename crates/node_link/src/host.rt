@@ -189,6 +189,20 @@ impl<K: Keeper + Drop> Host<K> {
         Ok(Some(command))
     }
 
+    /// The number of this server, from 1.
+    pub fn id(&self) -> u32
+        ensures { result ≡ self.now.node.id }
+    {
+        self.node.id()
+    }
+
+    /// How many servers the cluster has.
+    pub fn servers(&self) -> u32
+        ensures { result ≡ self.now.node.servers }
+    {
+        self.node.servers()
+    }
+
     /// How the node stands.
     pub fn status(&self) -> Status
         ensures { result ≡ status_of self.now }
