@@ -1,0 +1,4 @@
+mod Forgetting
+mod Hosting
+mod Linked
+mod Lists

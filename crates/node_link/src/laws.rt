@@ -1,0 +1,27 @@
+//! What holds of hosts whose links deliver only what was sent, each the contract of a function with an empty body.
+
+ghost use Rattle.std.specs.Prelude.{List};
+ghost use Rattle.node_journals.specs.Agreement.{Agree, HaveOneLeader, HaveOneLog};
+ghost use Rattle.node_link.specs.Hosts.{Hosted};
+ghost use Rattle.node_link.specs.Links.{AreHosts, AreLinked, processes_of};
+
+/// Each host has always committed a front of one log.
+pub fn hosts_have_one_log()
+    ensures { (hosts : List Hosted) → AreHosts hosts → AreLinked hosts → HaveOneLog (processes_of hosts) }
+{
+    node_journals::journals_have_one_log();
+}
+
+/// What one host has committed another has, once it has committed as much.
+pub fn hosts_agree()
+    ensures { (hosts : List Hosted) → AreHosts hosts → AreLinked hosts → Agree (processes_of hosts) }
+{
+    node_journals::processes_agree();
+}
+
+/// A term has one leader among the hosts, over all times.
+pub fn a_term_has_one_host_that_leads()
+    ensures { (hosts : List Hosted) → AreHosts hosts → AreLinked hosts → HaveOneLeader (processes_of hosts) }
+{
+    node_journals::a_term_has_one_leader();
+}
