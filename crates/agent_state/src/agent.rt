@@ -66,7 +66,7 @@ impl Agent {
     }
 
     /// So many milliseconds are over: a check whose TTL is over turns critical, and after a sync whose time has come the
-    /// next one comes a minute later. After want of memory all is as before.
+    /// next one comes a minute later. After lack of memory all is as before.
     pub fn tick(&mut self, alloc: Global, ms: u64) -> Result<(), Memory>
         requires { self.old.clock + ms < 2 ^ 64 }
         ensures ok { OnOk result (self.new ≡ rules.ticked ms self.old) }

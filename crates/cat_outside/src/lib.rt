@@ -1,5 +1,11 @@
 //! The outside, as traits that count their faults: a source of bytes and a sink of bytes, in memory and over any
 //! std reader and writer.
+//!
+//! # What is proved
+//!
+//! Each trait's call fails only where its count of faults rose, and an object in memory fails exactly where it is
+//! told to; a durable store in memory holds what it was given. Carried by: the traits `Source`, `Sink`, `Keeper`,
+//! and the types in memory.
 #![tactic(auto)]
 
 mod copies;

@@ -37,7 +37,7 @@ impl Model for Store {
     ghost invariant = { λ s. Holds s.tables s.applied.items };
 }
 
-// Applies the command to the tables, and puts it last. Want of memory leaves the list as it was.
+// Applies the command to the tables, and puts it last. Lack of memory leaves the list as it was.
 fn advance(
     alloc: Global,
     tables: &mut Tables,
@@ -70,7 +70,7 @@ impl Store {
     }
 
     /// Applies the command at the next position. It gives the answer, the channels that the step fires and the keys that
-    /// it frees. After want of memory the store is as before.
+    /// it frees. After lack of memory the store is as before.
     pub fn apply(
         &mut self,
         alloc: Global,

@@ -204,7 +204,7 @@ impl CatalogTable {
     }
 
     /// Removes the service with its checks, or where `service` is empty the check, or where both are empty the node with
-    /// all its services and checks. Want of memory takes back all that was done since the last `keep`, and not this call
+    /// all its services and checks. Lack of memory takes back all that was done since the last `keep`, and not this call
     /// alone.
     pub fn deregister(
         &mut self,

@@ -3,6 +3,12 @@
 //! A registration changes rows of one node alone, and mostly few of them. So what it changed is told from the rows that
 //! went and came, and the node's other services are looked at only where its own row or a check of it alone did. The
 //! checks of one service are found by an index, as those of one status and the services of one name are.
+//!
+//! # What is proved
+//!
+//! Registering and deregistering is the machine's step; it tells exactly which tables differ, which service names'
+//! reads differ and which vanished, each once; a refusal comes exactly by the machine's rule. Carried by: clauses
+//! of `CatalogTable`.
 #![tactic(auto)]
 
 mod changed;

@@ -149,7 +149,7 @@ impl CatalogTable {
         Ok(changed)
     }
 
-    /// Registers the node, and the service and the checks that the command has. Where it is refused nothing changes. Want
+    /// Registers the node, and the service and the checks that the command has. Where it is refused nothing changes. Lack
     /// of memory takes back all that was done since the last `keep`, and not this call alone.
     #[tactic(auto, unfolding(cat_model::specs::Machine::act))]
     pub fn register(

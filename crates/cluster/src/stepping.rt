@@ -17,11 +17,10 @@ use std::alloc::Global;
 use std::sync::ledger::Ledger;
 
 impl<K: Keeper + Drop> Cluster<K> {
-    /// Makes an event that fits. What it gives waits to be taken. Of requests those are taken of which
-    /// `script_runs::is_taken` says so.
+    /// Makes an event that fits. What it gives waits to be taken.
     ///
-    /// After `Memory` nothing has changed, or the event was cut short and its server is behind. That makes up for it in
-    /// the next event that does something there.
+    /// After `Memory` nothing has changed, or the event was cut short and its server is behind: it catches up in the
+    /// next event that does something there.
     ///
     /// `steps` counts the queries of reads that are evaluated: at most one for each read that is answered, one for each
     /// that is looked for the first time and waits on, and one more where memory lacks.

@@ -22,6 +22,6 @@ Collects number (collected.Closed event) c c' = Takes (Closed number event) c c'
 Collects number (collected.NotYet wanted) c c' = (c' ≡ c) × HasNoOut number c.tray × Waits number wanted c.held
 Collects number collected.Gone c c' = (c' ≡ c) × HasNoOut number c.tray × IsNotHeld number c.held
 
--- The outs of syncs are let go of, for which no request waits. That has no mark.
+-- The outs of syncs are dropped, for which no request waits. That has no mark.
 abbrev pub DropsSyncs : Cluster → Cluster → Type 0
 DropsSyncs c c' = c' ≡ record c { tray = of_requests c.tray }

@@ -91,7 +91,7 @@ module _ (wt : Watching) where
   awaited_next c i asked (ForIndex deadline looked) n m e l d x = tt
   awaited_next c i asked (Ended event) n m e l d x = tt
 
-  -- the request of a number is let go of, and is not watched any more
+  -- the request of a number is dropped, and is not watched any more
   pub forget_stands : (new : Watching) (w : World) (servers : List Server) (r : Requests) (held : List Pending) (number : ℕ) → r.held ≡ without number held → ((n : ℕ) → n ≢ number → MayBeDue n wt → MayBeDue n new)
       → ((i n : ℕ) (on : List Chan) (until : ℕ) → n ≢ number → Sleeps i n on until wt → Sleeps i n on until new) → length new.watch.servers ≡ length wt.watch.servers → SameLines wt new → new.seen ≡ wt.seen → Stands w servers r → standing.Stands new w servers r
   forget_stands new w servers r held number is up down size lines seen s =

@@ -32,7 +32,7 @@ entered_then i (x ∷ commands) more c c₁ c' n m whole (one_more {c₁ = d} f 
     let last : suc (length commands + n) ≡ m = omega (arith, e) in
     subst (λ k. Proposals i (x ∷ commands ++ more) c k c' whole) last (enters f.world f.leads f.room f.acts f.runs rest)
 
--- one that is refused ends it, as does want of memory
+-- one that is refused ends it, as does lack of memory
 pub refused_one : (i : ℕ) (command : Command) (more : List Command) (c c' : Cluster) → IsRefused i command c c' → Proposals i (command ∷ more) c 0 c' true
 refused_one i command more c c' f = subst (λ (z : Cluster). Proposals i (command ∷ more) c 0 z true) (sym f.is) (refuses f.world f.leads f.acts f.why)
 

@@ -1,4 +1,4 @@
--- What is watched stays watched, whichever requests wake, sleep or are let go of.
+-- What is watched stays watched, whichever requests wake, sleep or are dropped.
 use Rattle.std.proofs.Common.{◌≡◌, ◌≢◌, ◌⊎◌, inl, inr, ℕ, ◌≤◌, Bool, true, false, List, [], ◌∷◌, length, refl, sym, ap, ◌∙◌, subst}
 use Rattle.std.specs.List.{AllByRecursion as Each}
 use Rattle.cat_model.specs.Channels.{chans}

@@ -42,7 +42,7 @@ is_stand_due s i asked (AtPlace index term) = nat_le index (length (applied_at s
 is_stand_due s i asked (InRound round deadline) = nat_lt round.term (node_of s.world i).term
 is_stand_due s i asked (ForIndex deadline looked) = is_look_due s i deadline looked asked
 
--- A halted server lets go of all that it holds.
+-- A halted server drops all that it holds.
 abbrev pub is_early : Servers → ℕ → Pending → Bool
 is_early s i h = h.server == i && ((node_of s.world i).halted || is_stand_due s i h.question.asked h.stand)
 

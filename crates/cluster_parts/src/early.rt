@@ -114,7 +114,7 @@ fn early_awake<K: Keeper>(
     numbers.iter().copied().find(|number| is_number_early(servers, requests, server, *number))
 }
 
-// The same of the request of a slot.
+// Whether the slot holds a request that is early at the server.
 fn is_slot_early<K: Keeper>(servers: &Servers<K>, server: u32, slot: &HeldSlot) -> bool
     requires { IsNumber server servers.now.world }
     ensures { result ≡ test_held (is_early servers.now server) (pending_of slot.now) }

@@ -81,7 +81,7 @@ fn late_awake<K: Keeper + Drop>(
     numbers.iter().copied().find(|number| is_number_late(servers, requests, server, *number))
 }
 
-// The same of the request of a slot.
+// Whether the slot holds a request that is late at the server.
 fn is_slot_late<K: Keeper + Drop>(servers: &Servers<K>, server: u32, slot: &HeldSlot) -> bool
     requires { IsNumber server servers.now.world }
     ensures { result ≡ test_held (is_late servers.now server) (pending_of slot.now) }

@@ -31,7 +31,7 @@ fn rest_read<K: Keeper + Drop>(
     requires here { held.now.server ≡ server }
     ensures { Stands watch.new servers.now.world servers.now.servers requests.now }
 {
-    // What stands of the parts is kept by what the requests are, which this call leaves alone.
+    // The contract names the requests, which this call leaves as they are.
     let _ = requests;
     if let Some((query, deadline)) = waits_for(held) {
         let Ok(chans) = servers.chans(alloc, server, query) else {

@@ -78,7 +78,7 @@ fn apply_next<K: Keeper>(
     ensures done { OnOk result (whole servers.new requests.now ≡ applies server (whole servers.old requests.now)) }
     ensures same { OnErr result (servers.new ≡ servers.old) }
 {
-    // What stands of the parts is kept by what the requests are, which this call leaves alone.
+    // The contract names the requests, which this call leaves as they are.
     let _ = requests;
     let fired = servers.apply(alloc, server)?;
     watch.fire(alloc, server, &fired);

@@ -1,4 +1,4 @@
--- Steps of a run whose stores work, as functions: what is due is made up for by so many works at most.
+-- Steps of a run whose stores work, as functions: what is due is caught up on by so many works at most.
 use Rattle.std.proofs.Common.{◌≡◌, ◌≢◌, ℕ, zero, suc, ◌+◌, ◌<◌, inl, inr, true, false, cond, ◌≤◌, List, [], ◌∷◌, ◌++◌, length, refl, sym, ◌∙◌, ap, subst, arith, Option, Some, None}
 use Rattle.cat_model.specs.declared.command.Command.{Command}
 use Rattle.cat_model.specs.declared.request.Asked.{Asked}

@@ -124,7 +124,7 @@ ActIsLegal n c i made c' (handles agent asked draw z is goes h) = HandleIsLegal 
 ActIsLegal n c i made c' (tends ms whole z is t) = Unit {0}
 ActIsLegal n c i made c' (syncs a whole z is goes y) = AgentIsLegal c made
 
--- the acts of an event, and what is made up for between them
+-- the acts of an event, and what is caught up on between them
 abbrev pub DoesLegally : (i : ℕ) (made : Event) (n : ℕ) (c c' : Cluster) (whole : Bool) → Does i made n c c' whole → Type 0
 DoesLegally i made n c c' whole (over e) = Unit {0}
 DoesLegally i made n c c' whole (act c₁ c₂ a r m more) = ActIsLegal n c i made c₁ a × AllLegal i c₁ c₂ m.0 × DoesLegally i made (suc n) c₂ c' whole more

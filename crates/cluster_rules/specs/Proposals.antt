@@ -28,7 +28,7 @@ use Rattle.cluster_rules.specs.Due.{answered, put_out}
 use Rattle.cluster_rules.specs.Requests.{is_ready, moved}
 
 -- Server i proposes commands of no request, in order, up to the first that its log has no room for or at which its
--- durable store fails; so many were proposed. Where it is not whole, it was cut short for want of memory. Nothing of
+-- durable store fails; so many were proposed. Where it is not whole, it was cut short for lack of memory. Nothing of
 -- it is applied meanwhile.
 pub data Proposals (i : ℕ) : List Command → Cluster → ℕ → Cluster → Bool → Type 0 where
   none_left : {c : Cluster} → Proposals i [] c 0 c true

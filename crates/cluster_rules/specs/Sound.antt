@@ -1,4 +1,4 @@
--- What stays true of a cluster, whatever is lost, repeated, restarted or cut short for want of memory.
+-- What stays true of a cluster, whatever is lost, repeated, restarted or cut short for lack of memory.
 use Rattle.std.specs.Prelude.{◌≡◌, ◌≢◌, ℕ, suc, ◌+◌, ◌<◌, ◌≤◌, ◌==◌, nat_le, nat_lt, ◌&&◌, ◌⊎◌, Bool, true, false, List, [], ◌∷◌, ◌++◌, length, take, if◌then◌else◌, Option, Some, None}
 use Rattle.std.specs.List.{AllByRecursion as Each}
 use Rattle.cat_model.specs.declared.query.Query.{Query}

@@ -1,5 +1,5 @@
--- One event of a cluster. It is marked; its server makes up for what is due; then come its acts, each followed by
--- making up; then its outs join the tray. It may be cut short for want of memory wherever something is left to do.
+-- One event of a cluster. It is marked; its server catches up on what is due; then come its acts, each followed by
+-- making up; then its outs join the tray. It may be cut short for lack of memory wherever something is left to do.
 use Rattle.std.specs.Prelude.{◌≡◌, ◌≢◌, ℕ, suc, ◌==◌, ◌<◌, ◌⊎◌, Bool, true, false, List, [], ◌∷◌, ◌++◌, length, map, if◌then◌else◌, Option, Some, None}
 use Rattle.cat_model.specs.declared.request.Asked.{Asked}
 use Rattle.cat_model.specs.declared.request.Asked.TheVariants.{Good}
@@ -136,9 +136,9 @@ marked other c = noted other c
 abbrev pub shelved : Cluster → Cluster
 shelved c = record c { tray = c.tray ++ c.fresh; fresh = [] }
 
--- A step. Where it is not whole, it was cut short for want of memory. An event that changed nothing is no step.
+-- A step. Where it is not whole, it was cut short for lack of memory. An event that changed nothing is no step.
 pub data ClusterStep (c : Cluster) (made : Event) (c' : Cluster) (whole : Bool) : Type 0 where
   done : (i : ℕ) (c₁ c₂ : Cluster) → IsMadeUp i (marked made c) c₁ → Does i made 0 c₁ c₂ whole → c' ≡ shelved c₂ → ClusterStep c made c' whole
   passed : (c₁ : Cluster) → whole ≡ true → Passes (marked made c) made c₁ → c' ≡ shelved c₁ → ClusterStep c made c' whole
-  -- cut while it made up for what was due before: a request takes no number
+  -- cut while it caught up on what was due before: a request takes no number
   cut_early : (i : ℕ) (w : Work) (c₁ : Cluster) → whole ≡ false → goes_to c made ≡ Some i → IsDue i (noted made c) w → Works i (did i w (noted made c)) c₁ → c' ≡ shelved c₁ → ClusterStep c made c' whole

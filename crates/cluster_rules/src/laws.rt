@@ -1,5 +1,5 @@
 //! Laws of the definitions, each the contract of a function with an empty body. They hold whatever is lost, repeated,
-//! reordered, restarted or cut short for want of memory, and whichever store calls fail.
+//! reordered, restarted or cut short for lack of memory, and whichever store calls fail.
 
 ghost use Rattle.std.specs.Prelude.{Bool, List, None, length, take, min, false, true, ℕ, ◌+◌, ◌-◌, ◌^◌, ◌≡◌, ◌≢◌, ◌<◌, ◌≤◌, ◌⊎◌, ◌++◌, ◌∷◌};
 ghost use Rattle.std.specs.List.{AllByRecursion as Each};

@@ -31,7 +31,7 @@ fn idle(alloc: Global, servers: usize) -> Result<Vec<Replica>, Memory>
 impl<K: Keeper + Drop> Servers<K> {
     /// Servers 1, 2, .. begin with what these stores hold, and have applied nothing. Where a store cannot be read, or
     /// there is no memory, all are handed back in their order: those before it were read, those behind it were not
-    /// tried. Want of memory for the servers themselves comes before any is read.
+    /// tried. Lack of memory for the servers themselves comes before any is read.
     pub fn new(alloc: Global, keepers: List<K>) -> Result<Servers<K>, (List<K>, KeepFail)>
         requires few { length keepers < 2 ^ 32 }
         requires limits { All (λ k. ForSome (K.held k) KeepsLimits) keepers }

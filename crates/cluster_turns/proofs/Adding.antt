@@ -156,7 +156,7 @@ answered_adds q kind known contact log c = answers_more q.number (mark.Answered 
 answered_after : (q : Question) (kind : Kind) (known : Bool) (contact : ℕ) (log : Log) (a b : Cluster) → Leaves a b → Adds 0 a (answered q kind known contact log b)
 answered_after q kind known contact log a b x = adds_on 0 0 0 a b (answered q kind known contact log b) (omega arith) (leaves_adds 0 a b x) (answered_adds q kind known contact log b)
 
--- A request that is let go of, and one that begins to be held.
+-- A request that is dropped, and one that begins to be held.
 goes_down : (n u v r s : ℕ) → v ≤ u → s ≡ r → v + r ≤ n + u + s
 goes_down n u v r s x y = omega (arith, x, y)
 

@@ -1,4 +1,4 @@
--- A request's number is put into its mark after the server has made up for what was due: it is as if it had been there
+-- A request's number is put into its mark after the server has caught up on what was due: it is as if it had been there
 -- before, since no work looks at marks or numbers.
 use Rattle.std.proofs.Common.{◌≡◌, ◌≢◌, inl, inr, ℕ, suc, Bool, true, false, None, Some, refl, sym, ap, subst}
 use Rattle.cat_model.specs.declared.request.Asked.{Asked}

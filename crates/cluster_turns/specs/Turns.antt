@@ -132,7 +132,7 @@ TendsInPart i c c' = (c' ≡ c) ⊎ Tends i c c' false
 abbrev pub Loses : ℕ → Cluster → Cluster → Type 0
 Loses k c c' = (w : world.World) × WorldStep c.world (world.Drops k) w × (c' ≡ record c { world = w })
 
--- what the code's cut is once something was made up for or not
+-- what the code's cut is once something was caught up on or not
 abbrev pub cut_after : Bool → Cut
 cut_after true = Within
 cut_after false = Before
@@ -141,7 +141,7 @@ cut_after false = Before
 abbrev pub IsServed : ℕ → ℕ → Asked → Draw → Cluster → Cluster → Type 0
 IsServed i agent asked draw c c' = (c₁ : Cluster) × (c₂ : Cluster) × IsMadeUp i c c₁ × HandlesNewest i agent asked draw c₁ c₂ × IsMadeUp i c₂ c'
 
--- and where it is cut short: without its number while it is made up for, or with it behind the act
+-- and where it is cut short: without its number while it is caught up on, or with it behind the act
 abbrev pub IsServedCut : ℕ → ℕ → Asked → Draw → Cut → Cluster → Cluster → Type 0
 IsServedCut i agent asked draw Before c c' = c' ≡ c
 IsServedCut i agent asked draw Within c c' =

@@ -16,7 +16,7 @@ use cat_model::{Asked, Draw, Memory, Refusal, Shared, Steps};
 use std::alloc::Global;
 use std::sync::ledger::Ledger;
 
-// What a request that was noted makes its server do. It takes its number once all is made up for.
+// What a request that was noted makes its server do. It takes its number once it has caught up.
 #[tactic(none)]
 fn serve<P: Parts, L: Ledger>(
     parts: &mut P,

@@ -1,4 +1,4 @@
-/// Want of memory, and whether something was done before.
+/// Lack of memory, and whether something was done before.
 #[derive(Clone, Copy, Debug, PartialEq, Eq)]
 pub enum Cut {
     /// Nothing was done.

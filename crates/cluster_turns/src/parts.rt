@@ -34,7 +34,7 @@ pub trait Parts {
     /// The cluster.
     ghost state: { Self → Cluster };
 
-    /// The requests that it takes so far.
+    /// The requests that it takes.
     ghost takes: { SpecAsked → Type 0 };
 
     /// Does one work that is due at a server, and says whether there was one. It lacks memory only where there is one.

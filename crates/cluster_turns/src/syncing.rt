@@ -50,7 +50,7 @@ fn note<P: Parts>(parts: &mut P, event: &AgentEvent)
     }
 }
 
-// What an agent's event that was noted makes its server do. The agent does its own part once all is made up for.
+// What an agent's event that was noted makes its server do. The agent does its own part once it has caught up.
 #[tactic(none)]
 fn carry_out<P: Parts, L: Ledger>(
     parts: &mut P,

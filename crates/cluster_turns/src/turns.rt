@@ -55,7 +55,7 @@ pub fn make_up<P: Parts, L: Ledger>(
     }
 }
 
-/// What a cut is once something was made up for, or not.
+/// What a cut is once something was caught up on, or not.
 pub fn cut_after(was: bool) -> Cut
     ensures { result ≡ cut_after was }
 {

@@ -213,7 +213,7 @@ pub fn put_command<O: Out>(out: &mut O, command: &Command) -> Result<(), O::Faul
     put_fields(out, command)
 }
 
-/// Puts the spelling of the command last. After want of memory `out` is as before.
+/// Puts the spelling of the command last. After lack of memory `out` is as before.
 pub fn encode(alloc: Global, command: &Command, out: &mut Bytes) -> Result<(), Memory>
     ensures ok { OnOk result (out.new ≡ out.old ++ spelling command.now) }
     ensures err { OnErr result (out.new ≡ out.old) }

@@ -1,4 +1,9 @@
 //! Datagrams from outside, as traits that tell what their calls did. They are there in memory, and over the machine.
+//!
+//! # What is proved
+//!
+//! A port tells each packet that it gave with its peer, each that it sent with the peer that it went to, and counts
+//! its faults; ports come back. Carried by: clauses of `DatagramPort` and `Datagrams`, and their memory forms.
 #![tactic(auto)]
 
 mod mem_port;

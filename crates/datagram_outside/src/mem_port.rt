@@ -140,7 +140,7 @@ impl DatagramPort for MemPort {
     fn send(&mut self, to: &u64, packet: &[u8]) -> Result<(), KeepFail>
         ensures sends { Sends (told self.old) to.now packet.now result (told self.new) }
 
-        // The listed calls fail, and no other but for want of memory, which has no number.
+        // The listed calls fail, and no other but for lack of memory, which has no number.
         ensures fails { IsErrOf result KeepFail.Failed ↔ IsTrue (is_listed_of self.old.failing (counted self.old.calls)) }
         ensures calls { IsErrOf result KeepFail.Memory → self.new.calls ≡ self.old.calls }
         ensures rest { (self.new.script ≡ self.old.script) × (self.new.failing ≡ self.old.failing) }

@@ -95,7 +95,7 @@ one_faulty old mid new first now last taken d s p more = record {
   replies = inr (lacks_last old mid new first now last taken d s more);
 }
 
--- a packet without its reply, for want of memory
+-- a packet without its reply, for lack of memory
 pub one_wanting : (old mid new : PortState) (first now last : List Command) (taken : ℕ) (d : Datagram)
     → Served old mid first now taken c.Done → Passed mid new (d ∷ []) [] → IsPrefix now last → Served old new first last (taken + 1) c.Memory
 one_wanting old mid new first now last taken d s p more = record {
@@ -117,7 +117,7 @@ none_came old mid new first last taken s w same = record {
   replies = inl s.replies;
 }
 
--- nothing was taken, for want of memory
+-- nothing was taken, for lack of memory
 pub none_taken : (port : PortState) (first : List Command) → Served port port first first 0 c.Memory
 none_taken port first = record {
   packets = [];

@@ -103,7 +103,7 @@ fn of_question<C: CatalogReader, L: Ledger>(
 ///
 /// # Errors
 ///
-/// Want of memory, here or in the reader.
+/// Lack of memory, here or in the reader.
 #[tactic(auto, unfolding(crate::specs::Replies::dns_reply))]
 pub fn answer_packet<C: CatalogReader, L: Ledger>(
     alloc: Global,

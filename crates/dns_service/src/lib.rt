@@ -8,6 +8,11 @@
 //! - `XXXXXXXX.addr`: the IPv4 address of eight hexadecimal digits.
 //!
 //! Types A and SRV are answered. EDNS, other types and classes, and compressed names in a question are not.
+//!
+//! # What is proved
+//!
+//! The reply to a packet is that of the definitions over the catalog that the reader has then read, with at most
+//! one query a packet. Carried by: `answer_packet`.
 #![tactic(auto)]
 
 mod answering;

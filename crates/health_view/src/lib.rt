@@ -1,4 +1,9 @@
 //! Instances of services with their nodes and checks, and the filters on them by status and by tags.
+//!
+//! # What is proved
+//!
+//! Instances are services joined with their nodes and checks as the definition says; the filters keep exactly what
+//! they name. Carried by: `join`, `only_passing`, `not_critical`, `with_tags`.
 #![tactic(auto)]
 
 mod filters;

@@ -1,4 +1,4 @@
--- A request that was refused for a fault, other than want of memory, asks for that refusal.
+-- A request that was refused for a fault, other than lack of memory, asks for that refusal.
 use Rattle.std.proofs.Common.{◌≡◌, Result, refl, ap}
 use Rattle.cat_model.specs.declared.request.Asked.TheVariants.{Bad}
 use Rattle.cat_model.specs.declared.request.Request.{Request}

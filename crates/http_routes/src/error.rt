@@ -119,7 +119,7 @@ impl RouteError {
     ghost use Rattle.std.specs.Prelude.{◌≡◌, ◌≢◌, IfOk, OnOk};
     ghost use Rattle.http_routes.specs.Errors.{refusal_of};
 
-    /// The refusal that a client gets, where it was no want of memory.
+    /// The refusal that a client gets, where it was no lack of memory.
     pub fn refusal(self, alloc: Global) -> Result<Refusal, Memory>
         ensures is { IfOk result (λ refusal. refusal ≡ refusal_of self) }
         ensures told { OnOk result (self ≢ RouteError.Memory) }

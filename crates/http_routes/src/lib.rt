@@ -1,4 +1,10 @@
 //! Requests as HTTP brings them: the routes of Consul's HTTP API version 1, with the parameters of their paths and queries.
+//!
+//! # What is proved
+//!
+//! A request is what the table of routes says of its method, target and body, or the first of its faults in the
+//! order of `docs/API.md`; its filter is just that of its target, on the six routes that read one, and what reads
+//! as none is refused by name. Carried by: `route`.
 #![tactic(auto)]
 
 mod agent;

@@ -32,7 +32,7 @@ fn entry_for(pattern: &str, route: Route) -> Entry
     }
 }
 
-/// One more route, which nothing in the router is in the way of.
+/// Adds a route that conflicts with none in the router.
 fn add(router: &mut Router<Entry>, pattern: &str, entry: Entry) -> Result<(), AllocError>
     requires { is_new pattern.now router.old ≡ true }
     ensures { OnOk result (router.new ≡ with_route pattern.now entry router.old) }
@@ -44,7 +44,7 @@ fn add(router: &mut Router<Entry>, pattern: &str, entry: Entry) -> Result<(), Al
     }
 }
 
-/// These rows too, which nothing in the router is in the way of.
+/// Adds these rows, of which none conflicts with another or with a route in the router.
 fn add_rows(router: &mut Router<Entry>, rows: &[(&str, Route)]) -> Result<(), AllocError>
     requires { are_new (rows_of rows.now) router.old ≡ true }
     ensures { OnOk result (router.new ≡ with_rows (rows_of rows.now) router.old) }

@@ -56,7 +56,7 @@ impl RequestReader {
         })
     }
 
-    /// The next thing that a piece gives; the next call takes the rest of it. After a refusal or want of memory the
+    /// The next thing that a piece gives; the next call takes the rest of it. After a refusal or lack of memory the
     /// reader answers the same for ever.
     pub fn feed(&mut self, piece: &[u8]) -> Fed
         ensures feeds { Feeds self.old piece.now result self.new }

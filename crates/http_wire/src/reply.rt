@@ -40,7 +40,7 @@ fn put_reply(alloc: Global, out: &mut Vec<u8>, reply: &Reply, close: bool) -> Re
 }
 
 /// Puts the reply last (RFC 9112, sections 2 to 6). With `close` it says that the connection ends behind it
-/// (section 9.6). After want of memory `out` is as before.
+/// (section 9.6). After lack of memory `out` is as before.
 pub fn write_reply(alloc: Global, reply: &Reply, close: bool, out: &mut Bytes) -> Result<(), Memory>
     requires { IsStatusCode reply.now.status }
     ensures ok { OnOk result (out.new ≡ out.old ++ reply_bytes reply.now close) }
@@ -63,7 +63,7 @@ pub fn write_head(alloc: Global, reply: &Reply, close: bool, out: &mut Bytes) ->
     out.extend(written.as_slice())
 }
 
-/// Puts `100 Continue` last (RFC 9110, section 15.2.1). After want of memory `out` is as before.
+/// Puts `100 Continue` last (RFC 9110, section 15.2.1). After lack of memory `out` is as before.
 pub fn write_continue(out: &mut Bytes) -> Result<(), Memory>
     ensures ok { OnOk result (out.new ≡ out.old ++ continue_bytes) }
     ensures err { OnErr result (out.new ≡ out.old) }

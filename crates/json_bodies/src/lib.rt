@@ -1,4 +1,11 @@
 //! The JSON bodies of requests, read: those of Consul's HTTP API version 1.
+//!
+//! # What is proved
+//!
+//! What a body of JSON asks for is exactly the definitions' value, or the first of its faults in the order of the
+//! tables; a name is compared without ASCII case and null is absent; a duration is read exactly where the text is
+//! one. Carried by: `duration`, `read_register`, `read_deregister`, `read_session`, `read_transaction`,
+//! `read_query`, `read_agent_service`, `read_agent_check`, `read_check_update`.
 #![tactic(auto)]
 
 mod agent_check;

@@ -56,7 +56,7 @@ impl KvTable {
         self.rows.get(&ByKey(key))
     }
 
-    /// Puts the row in the place of the one of its key. After want of memory it comes back.
+    /// Puts the row in the place of the one of its key. After lack of memory it comes back.
     pub fn set(&mut self, row: KvRow) -> Result<(), (KvRow, Memory)>
         ensures ok { OnOk result (SetsRow row self.old self.new) }
         ensures back { IfErr result (λ e. e.0 ≡ row) }

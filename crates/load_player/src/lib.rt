@@ -1,4 +1,11 @@
 //! Plays a load made from a number, and writes one line that sums it up.
+//!
+//! # What is proved
+//!
+//! No line of a load is refused; its lines lead a cluster from its start to its end, of which all holds that holds
+//! of a script's run; what is written is the line with the load's requests, how many reads found a row, and the
+//! length of the agreed log, or a first part of it where the sink failed or memory was short. Carried by:
+//! `play_load`, `load_of`.
 #![tactic(auto)]
 
 mod load;

@@ -17,7 +17,7 @@ use script_player::{Found, Report, play_finding, write_all};
 use std::alloc::Global;
 
 /// Plays the load's script on servers of the type `S`, writes the line that sums it up, and reports the run. After a
-/// failed write, or for want of memory, a first part of the line is written.
+/// failed write, or for lack of memory, a first part of the line is written.
 pub fn play_load<S: ClusterInterface<K = MemKeeper>, Si: Sink>(
     alloc: Global,
     load: &Load,

@@ -1,6 +1,13 @@
 //! Raft nodes in processes of their own: laws over the journals of single nodes, each the contract of a function with
 //! an empty body. Where each message that a journal has was sent before, the journals are those of one run of a world,
 //! and the processes have one agreed log and one leader a term.
+//!
+//! # What is proved
+//!
+//! The journals of single nodes, each in a process of its own, are those of one run of Raft's world where each
+//! message that one was given had been sent to it before; so each has always committed a front of one log, and a
+//! term has one leader, whatever links lose, repeat or reorder. An election with losses meets what is asked.
+//! Carried by: the crate's functions.
 #![tactic(auto)]
 
 ghost use Rattle.std.specs.Prelude.{List};

@@ -1,5 +1,11 @@
 //! The frames that the servers of a cluster send one another over streams of bytes, and those that clients exchange
 //! with a server: how they are written, and how they are read from a stream cut anywhere.
+//!
+//! # What is proved
+//!
+//! What is written is a frame's spelling; a reader of a stream cut anywhere gives just the frames that stand in it,
+//! and where it stops, the bytes begin no list of frames. No server uses them yet. Carried by: `write_frame`,
+//! `write_message`, `FrameReader::feed`, the law `stuck_begins_no_frames`.
 #![tactic(auto)]
 
 mod allowing;

@@ -169,7 +169,7 @@ fn put_framed(alloc: Global, body: &Bytes, out: &mut Bytes) -> Result<(), Memory
     out.extend(bytes.as_slice())
 }
 
-/// Puts the frame last. After want of memory `out` is as before.
+/// Puts the frame last. After lack of memory `out` is as before.
 pub fn write_frame(alloc: Global, frame: &Frame, out: &mut Bytes) -> Result<(), Memory>
     requires { length (body_bytes frame.now) ≤ most_body }
     ensures ok { OnOk result (out.new ≡ out.old ++ frame_bytes frame.now) }
@@ -179,7 +179,7 @@ pub fn write_frame(alloc: Global, frame: &Frame, out: &mut Bytes) -> Result<(), 
     put_framed(alloc, &body, out)
 }
 
-/// Puts the frame of a server's message last. After want of memory `out` is as before.
+/// Puts the frame of a server's message last. After lack of memory `out` is as before.
 pub fn write_message(
     alloc: Global,
     sender: u32,

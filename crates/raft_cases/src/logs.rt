@@ -6,7 +6,7 @@ use cat_model::{Command, Entry, Shared};
 use std::alloc::{AllocError, Global};
 use std::fmt::Write;
 
-/// The next word as the entries of a log, each a Reap. `None` also stands for want of memory.
+/// The next word as the entries of a log, each a Reap. `None` also stands for lack of memory.
 pub fn read(alloc: Global, words: &mut Words) -> Option<Vec<Entry>> {
     let word = words.next()?;
     if word == "-" {

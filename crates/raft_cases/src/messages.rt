@@ -13,7 +13,7 @@ use raft_model::Message;
 use std::alloc::{AllocError, Global};
 use std::fmt::Write;
 
-/// The message that the words say. `None` also stands for want of memory.
+/// The message that the words say. `None` also stands for lack of memory.
 pub fn read(alloc: Global, words: &mut Words) -> Option<Message>
     ensures { IfSome result CarriesAllowed }
 {

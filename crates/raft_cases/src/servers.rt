@@ -21,7 +21,7 @@ pub struct Played {
     round: Option<Round>,
 }
 
-/// The server `I of N` with an empty store. `None` also stands for want of memory.
+/// The server `I of N` with an empty store. `None` also stands for lack of memory.
 pub fn begin(alloc: Global, words: &mut Words) -> Option<Played> {
     let id = server(words)?;
     words.next()?;

@@ -1,4 +1,4 @@
-//! The small values of a case. `None` stands for a word that is missing or says none, and for want of memory.
+//! The small values of a case. `None` stands for a word that is missing or says none, and for lack of memory.
 
 use std::alloc::Global;
 use std::str::{FromStr, SplitWhitespace};

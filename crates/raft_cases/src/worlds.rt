@@ -19,7 +19,7 @@ use raft_world::bag::Packet;
 use std::alloc::{AllocError, Global};
 use std::fmt::Write;
 
-/// Two or three servers whose stores hold nothing yet. `None` also stands for want of memory.
+/// Two or three servers whose stores hold nothing yet. `None` also stands for lack of memory.
 pub fn begin(alloc: Global, count: u32) -> Option<World<SureKeeper>> {
     if count < 2 || count > 3 {
         return None;

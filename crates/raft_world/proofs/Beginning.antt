@@ -69,7 +69,7 @@ pub handed_back : (servers : ℕ) (all : List Store) (ns : List Node) (why : Kee
 handed_back servers all ns why t rest back (front, s, split, start, f) is =
     subst (λ b. AreGivenBack why all b) (sym is) (subst (λ a. AreGivenBack why a (map (λ (n : Node). n.store) ns ++ t ∷ rest)) (sym split) (back_of servers 1 front ns why s t rest start f))
 
--- all untouched, for want of memory
+-- all untouched, for lack of memory
 pub untouched : (ss : List Store) → AreGivenBack Memory ss ss
 untouched [] = refl
 untouched (s ∷ ss) = inl (refl, refl)

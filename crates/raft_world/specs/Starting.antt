@@ -8,7 +8,7 @@ use Rattle.raft_model.specs.World.{StartAll}
 use Rattle.raft_node.specs.Steps.{FailsToLoad}
 
 -- The stores of servers that could not begin: those before one were read, that one was not, and those behind it were
--- not tried. Want of memory for the world itself comes before any is read.
+-- not tried. Lack of memory for the world itself comes before any is read.
 abbrev pub AreGivenBack : KeepFail → List Store → List Store → Type 0
 AreGivenBack why [] [] = why ≡ Memory
 AreGivenBack why [] (t ∷ ts) = ⊥

@@ -92,7 +92,7 @@ fn given_back<K: Keeper + Drop>(
 
 impl<K: Keeper + Drop> World<K> {
     /// Servers 1, 2, .. begin with what these stores hold. Where a store cannot be read, or there is no memory, all are
-    /// handed back in their order: those before it were read, those behind it were not tried. Want of memory for the
+    /// handed back in their order: those before it were read, those behind it were not tried. Lack of memory for the
     /// world itself comes before any is read.
     pub fn new(alloc: Global, keepers: List<K>) -> Result<World<K>, (List<K>, KeepFail)>
         requires few { length keepers < 2 ^ 32 }

@@ -45,7 +45,7 @@ fn numbers_of(alloc: Global, keys: &[u128]) -> Result<List<u64>, Memory>
     Ok(numbers)
 }
 
-/// Takes the timers out whose time is over, and gives their numbers. Some may have gone also after want of memory.
+/// Takes the timers out whose time is over, and gives their numbers. Some may have gone also after lack of memory.
 pub fn take_due(alloc: Global, timers: &mut TimerWheel, clock: u64) -> Result<List<u64>, Memory>
     requires { AreNumbers timers.old }
     ensures due { IfOk result (λ l. AreDue timers.old clock l) }

@@ -93,7 +93,7 @@ impl SleepingReads {
         Ok(hit)
     }
 
-    /// Those whose deadline has come sleep no more, and are given. Some may have gone also after want of memory.
+    /// Those whose deadline has come sleep no more, and are given. Some may have gone also after lack of memory.
     pub fn take_over(&mut self, alloc: Global, clock: u64) -> Result<List<u64>, Memory>
         ensures leave { IfOk result (λ l. Leave (λ _ deadline. clock < deadline) l self.old self.new) }
         ensures due { IfOk result (λ l. AreDue self.old.timers clock l) }

@@ -39,7 +39,7 @@ fn freed_until(freed: &[Freed], clock: u64, key: &str) -> u128
     end
 }
 
-// The delays of these keys, freed at this clock, begin. Want of memory may come behind some of them. Together with these
+// The delays of these keys, freed at this clock, begin. Lack of memory may come behind some of them. Together with these
 // keys the delays end as before.
 #[tactic(auto, using(crate::proofs::Delaying::begins_next, crate::proofs::Delaying::begun_all, crate::proofs::Delaying::begun_some))]
 fn begin_all(begun: &mut LockDelay, freed: &[Freed], clock: u64) -> Result<(), Memory>

@@ -1,4 +1,13 @@
 //! What one server has applied since it last started, with its clock at each position, over the tables of its store.
+//!
+//! # What is proved
+//!
+//! What one server has applied: each command is the catalog machine's step with its answer, and a read gives the
+//! answer and the index at just what is applied, in one counted step; so do executions, sessions' rows and the rows
+//! of one node. When a key's lock delay is over, and which key of a command is the first that waits for it, are the
+//! rules' answers over what is applied and the clocks at each position. Its time in office is the rules'. Running
+//! out of memory changes nothing. The tables of a store stand for its list of commands in the sense of
+//! `catalog_query`. Carried by: clauses of `Replica`, `laws::tables_stand`.
 #![tactic(auto)]
 
 mod copies;

@@ -121,7 +121,7 @@ impl Replica {
 
     /// Applies the command at the next position, at this time of the server's clock. The catalog's answer is then the
     /// last reply. It gives the channels that the step fires: a query that hangs on none of them reads as before. After
-    /// want of memory all is as before.
+    /// lack of memory all is as before.
     #[tactic(auto, using(crate::proofs::Replying::last_is))]
     pub fn apply(
         &mut self,

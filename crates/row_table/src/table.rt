@@ -53,7 +53,7 @@ impl<R: Row> RowTable<R> {
         find(&self.tree, probe)
     }
 
-    /// Puts the row in the place of the one of its key. After want of memory it comes back.
+    /// Puts the row in the place of the one of its key. After lack of memory it comes back.
     pub fn set(&mut self, row: R) -> Result<(), (R, Memory)>
         ensures ok { OnOk result (self.new.now ≡ put R.cmp R.key row self.old.now) }
         ensures before { self.new.before ≡ self.old.before }

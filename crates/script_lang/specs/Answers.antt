@@ -1,4 +1,4 @@
--- Answers of the reading of a line: one step after another, and want of memory.
+-- Answers of the reading of a line: one step after another, and lack of memory.
 use Rattle.std.specs.Prelude.{◌≡◌, ◌⊎◌, Result, Ok, Err}
 use Rattle.script_lang.specs.declared.bad_line.BadLine.{BadLine}
 use Rattle.script_lang.specs.declared.bad_line.BadLine.TheVariants.{Memory}
@@ -13,7 +13,7 @@ abbrev pub ◌>>=◌ : {A B : Type 0} → Result A BadLine → (A → Result B B
 Ok a >>= f = f a
 Err why >>= f = Err why
 
--- the answer, or want of memory
+-- the answer, or lack of memory
 abbrev pub UnlessMemory : {A : Type 0} → Result A BadLine → Result A BadLine → Type 0
 UnlessMemory result answer = (result ≡ answer) ⊎ (result ≡ Err Memory)
 

@@ -1,7 +1,7 @@
 use cat_model::Memory;
 use std::fmt;
 
-/// Why a line is refused, the first reason that holds, or want of memory.
+/// Why a line is refused, the first reason that holds, or lack of memory.
 #[derive(Clone, Copy, Debug, PartialEq, Eq)]
 pub enum BadLine {
     /// The first line that says something doesn't open a cluster.

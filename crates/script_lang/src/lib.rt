@@ -1,4 +1,10 @@
 //! The lines of a script, and the lines that a script's run prints.
+//!
+//! # What is proved
+//!
+//! What a line of a script of several servers says is exactly the format's definition, or the first of its reasons
+//! for a refusal, and the filter of its request; what is printed of a reply, a closing, a refused line and the end
+//! is the definitions' text. Carried by: `read_line`, `print_out`, `print_refused`, `print_end`.
 #![tactic(auto)]
 
 mod bad_line;

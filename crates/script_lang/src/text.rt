@@ -101,7 +101,7 @@ fn out_text(alloc: Global, out: &Out) -> Result<Vec<u8>, Memory>
     }
 }
 
-/// Puts the line of an out last. After want of memory the bytes are as before.
+/// Puts the line of an out last. After lack of memory the bytes are as before.
 pub fn print_out(alloc: Global, out: &Out, into: &mut Bytes) -> Result<(), Memory>
     ensures ok { OnOk result (into.new ≡ into.old ++ spec.out_text out.now) }
     ensures err { OnErr result (into.new ≡ into.old) }
@@ -119,7 +119,7 @@ fn refused_text(alloc: Global, line: u64, reason: BadLine) -> Result<Vec<u8>, Me
     Ok(format!(in alloc; "line {line}: {reason}\n")?.into_bytes())
 }
 
-/// Puts the line last that says which line is refused, and why. After want of memory the bytes are as before.
+/// Puts the line last that says which line is refused, and why. After lack of memory the bytes are as before.
 pub fn print_refused(
     alloc: Global,
     line: u64,
@@ -157,7 +157,7 @@ fn end_text(alloc: Global, log: u64, unanswered: &[u64]) -> Result<Vec<u8>, Memo
 }
 
 /// Puts the last line of a whole run last: the length of the agreed log, and the numbers of the requests that have no
-/// reply. After want of memory the bytes are as before.
+/// reply. After lack of memory the bytes are as before.
 pub fn print_end(
     alloc: Global,
     log: u64,

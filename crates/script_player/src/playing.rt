@@ -25,7 +25,7 @@ use std::alloc::Global;
 
 /// Plays the script on servers of the type `S` that are started as its first line says, writes what its lines give and
 /// then a last line, and reports the run. There is no report where a line is refused: then the last line says which one,
-/// and why. After a failed write, or for want of memory, a first part of the text is written.
+/// and why. After a failed write, or for lack of memory, a first part of the text is written.
 pub fn play_script<S: ClusterInterface<K = MemKeeper>, Si: Sink>(
     alloc: Global,
     sink: &mut Si,

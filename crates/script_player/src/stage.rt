@@ -198,7 +198,7 @@ fn settle<S: ClusterInterface, T: Taker>(
     }
 }
 
-// Hands on all outs that wait, each with its request's filter, which is let go of then.
+// Hands on all outs that wait, each with its request's filter, which is dropped then.
 fn take_outs<S: ClusterInterface, T: Taker>(
     alloc: Global,
     taker: &mut T,

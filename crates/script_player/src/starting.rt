@@ -9,7 +9,7 @@ use cluster_interface::{ClusterInterface, empty_stores};
 use std::alloc::Global;
 
 // The servers and agents that an opening asks for, over empty stores in memory. Such stores are read without fail, but
-// for want of memory.
+// for lack of memory.
 pub fn start<S: ClusterInterface<K = MemKeeper>>(
     alloc: Global,
     opening: Opening,

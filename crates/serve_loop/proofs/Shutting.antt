@@ -100,7 +100,7 @@ module _ (shows : ℕ → Ask → Reply → List Mark → Type 0) (agrees : Type
     ends_at cause.Left x = (left_shut x.0, x.1)
     ends_at cause.Memory x = cut_shut x
 
-    -- or for want of memory
+    -- or for lack of memory
     ends_or : (why why' : Cause) → (why' ≡ why) ⊎ (why' ≡ cause.Memory) → EndsBy shows agrees c why link v n → EndsBy shows agrees c why' shut_link w n
     ends_or why why' (inl e) x = subst (λ (z : Cause). EndsBy shows agrees c z shut_link w n) (sym e) (ends_at why x)
     ends_or why why' (inr e) x = subst (λ (z : Cause). EndsBy shows agrees c z shut_link w n) (sym e) (cut_shut (cut_of why x))

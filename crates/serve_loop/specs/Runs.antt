@@ -42,7 +42,7 @@ pub record TurnedAway (old new : List LinkState) (faults faults' count : ℕ) : 
   pub count_is : length links ≡ count
   pub few : min (faults + count) (2 ^ 64 - 1) ≤ faults'
 
--- one link more may be turned away, for want of memory
+-- one link more may be turned away, for lack of memory
 abbrev pub lacking : Result Unit Stop → ℕ
 lacking (Err stops.Memory) = 1
 lacking other = 0
@@ -85,7 +85,7 @@ module _ {R S Cl G L : Type 0} {H : Ghosts S Mark} where
     pub agent : job.agent ≡ agent_of agents (state job.link).number
     pub drawn : IsDrawn draws (state job.link).number job.draw
 
--- What stopped a run: whatever stopped the accepting, or else a connection's want of memory.
+-- What stopped a run: whatever stopped the accepting, or else a connection's lack of memory.
 abbrev pub outcome_of : Result Unit Stop → Bool → Result Unit Stop
 outcome_of (Ok u) true = Err stops.Memory
 outcome_of (Ok u) false = Ok u
@@ -101,7 +101,7 @@ turned_of [] = 0
 turned_of ((link, None) ∷ backs) = turned_of backs + 1
 turned_of ((link, Some why) ∷ backs) = turned_of backs
 
--- it was served, and ended for want of memory
+-- it was served, and ended for lack of memory
 abbrev pub was_short : Option Cause → Bool
 was_short None = false
 was_short (Some why) = is_short why
@@ -132,7 +132,7 @@ module _ (shows : ℕ → Ask → Reply → List Mark → Type 0) (agrees : Type
     pub ends : EndsBy shows agrees (record { agent = agent_of agents link.number; draw = draw; first = first; begun = begun }) why link known requests
     pub shut : link.shut ≡ true
 
-  -- one link more was served and handed back; `short` tells whether it ended for want of memory
+  -- one link more was served and handed back; `short` tells whether it ended for lack of memory
   pub record ServesOne (old new : List LinkState) (short : Bool) : Type 0 where
     pub link : LinkState
     pub why : Cause
@@ -141,7 +141,7 @@ module _ (shows : ℕ → Ask → Reply → List Mark → Type 0) (agrees : Type
     pub short_is : short ≡ is_short why
 
   -- Some of the tasks ended, whose links were served and handed back. `short` tells whether one of them, or one before,
-  -- ended for want of memory.
+  -- ended for lack of memory.
   pub record Joins (old new : List LinkState) (tasks tasks' : ℕ) (short short' : Bool) : Type 0 where
     pub links : List (LinkState × Cause)
     pub are : new ≡ old ++ map (λ l. l.0) links
@@ -160,7 +160,7 @@ module _ (shows : ℕ → Ask → Reply → List Mark → Type 0) (agrees : Type
   HaveRead list ((link, Some why) ∷ links) each = (is_short why ≡ false → IsPrefix each.0.known.read list) × HaveRead list links each.1
 
   -- So many links were given since: each was handed back, or has one of so many tasks. At least as many faults of the
-  -- spawner were counted as links were turned away, and `short` tells whether one of the others ended for want of memory.
+  -- spawner were counted as links were turned away, and `short` tells whether one of the others ended for lack of memory.
   pub record Handed (old new : List LinkState) (faults faults' given tasks : ℕ) (short : Bool) : Type 0 where
     pub links : List Back
     pub are : new ≡ old ++ map (λ b. b.0) links
@@ -170,8 +170,8 @@ module _ (shows : ℕ → Ask → Reply → List Mark → Type 0) (agrees : Type
     pub short_is : short ≡ list_any (λ b. was_short b.1) links
 
   -- Each link that came was handed back, in whatever order: turned away, or served to its end. `lacked` counts one more
-  -- that was turned away for want of memory than the spawner's faults tell. Where all is well there is none, and none of
-  -- the others ended for want of memory.
+  -- that was turned away for lack of memory than the spawner's faults tell. Where all is well there is none, and none of
+  -- the others ended for lack of memory.
   pub record HandsBack (old new : List LinkState) (faults faults' given : ℕ) (result : Result Unit Stop) : Type 0 where
     pub lacked : ℕ
     pub short : Bool

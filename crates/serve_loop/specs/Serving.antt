@@ -95,7 +95,7 @@ asked_by raw = route_of raw.method raw.target raw.body
 abbrev pub draw_of : Draw → ℕ → Draw
 draw_of d n = record { hi = d.hi; lo = (d.lo + n) % 2 ^ 64 }
 
--- the connection ended for want of memory
+-- the connection ended for lack of memory
 abbrev pub is_short : Cause → Bool
 is_short cause.Memory = true
 is_short other = false

@@ -12,7 +12,7 @@ use Rattle.serve_loop.specs.Collects.{Collects}
 abbrev pub MayAsk : ℕ → Ask → Type 0
 MayAsk agents a = Fits agents a × IsTakenAsked a.asked
 
--- How many milliseconds a turn makes up for, whose last one made up for all up to `last`: a day at most, and none where
+-- How many milliseconds a turn catches up on, whose last one caught up on all up to `last`: a day at most, and none where
 -- the outside clock has fallen.
 abbrev pub passed : ℕ → ℕ → ℕ
 passed last now = min (now - last) 86400000

@@ -95,7 +95,7 @@ pub trait SharedCluster: Drop {
         ensures got { Collects shows number result (marks self.old) (marks self.new) }
         ensures idle { idle self.old → idle self.new };
 
-    /// Shows all viewers the agreed log that the marks tell, and this one reads it. After want of memory they see what they
+    /// Shows all viewers the agreed log that the marks tell, and this one reads it. After lack of memory they see what they
     /// saw, and a later call goes on. Nothing else happens.
     fn show(&mut self, viewer: &mut Viewer<Self::Pair>) -> Result<(), Memory>
         ensures same { self.new ≡ self.old }

@@ -73,8 +73,8 @@ fn no_jobs<T>(alloc: Global) -> Jobs<T>
 /// Accepts so many connections, or all that come where no number is told, and serves each by a job of its own. Jobs that
 /// have ended are joined while others are accepted, and all are waited for behind the last. Then it takes a last turn for good.
 /// Beside them a timekeeper lets the clocks go on, where it can be started.
-/// Gives the cluster as it leaves it, and says what stopped it, if anything did: a connection that ended for want of
-/// memory counts as want of memory.
+/// Gives the cluster as it leaves it, and says what stopped it, if anything did: a connection that ended for lack of
+/// memory counts as lack of memory.
 pub fn serve_all<
     R: Threads + Wait + Copy + Send + Drop + 'static,
     C: SharedCluster + Send + 'static,

@@ -42,7 +42,7 @@ fn finish_task<
     finish(&server.rt, task)
 }
 
-// Whether the connection ended for want of memory.
+// Whether the connection ended for lack of memory.
 pub(crate) fn lacked_memory(cause: Cause) -> bool
     ensures { result ≡ is_short cause }
 {
@@ -53,7 +53,7 @@ pub(crate) fn lacked_memory(cause: Cause) -> bool
     }
 }
 
-// Waits for a task, and takes its pass and its link back. Says whether the connection ended for want of memory.
+// Waits for a task, and takes its pass and its link back. Says whether the connection ended for lack of memory.
 fn finish_one<
     R: Threads + Wait + Copy + Send + Drop + 'static,
     C: SharedCluster + Send + 'static,
@@ -181,7 +181,7 @@ where
 }
 
 /// Waits for all tasks, and takes their passes and links back. The words are those from which the connections had their
-/// draws. Says whether a connection ended for want of memory, or one had before.
+/// draws. Says whether a connection ended for lack of memory, or one had before.
 pub(crate) fn finish_tasks<
     R: Threads + Wait + Copy + Send + Drop + 'static,
     C: SharedCluster + Send + 'static,

@@ -20,7 +20,7 @@ use turn_lock::{History, Pass};
 pub enum Stop {
     /// The listener failed. It has counted the fault.
     Listener,
-    /// There was no memory for one more connection, or no share of the pass, or a connection ended for want of memory.
+    /// There was no memory for one more connection, or no share of the pass, or a connection ended for lack of memory.
     Memory,
 }
 
@@ -36,7 +36,7 @@ pub(crate) struct Jobs<T> {
     pub tasks: Vec<T>,
     /// The place of the one that is looked at next.
     pub at: usize,
-    /// Whether a connection whose job was joined ended for want of memory.
+    /// Whether a connection whose job was joined ended for lack of memory.
     pub short: bool,
 }
 

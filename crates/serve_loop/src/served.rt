@@ -17,7 +17,7 @@ use turn_lock::History;
 /// The most messages that a turn settles.
 const MOST: u32 = 4096;
 
-/// The most milliseconds that a turn makes up for: a day.
+/// The most milliseconds that a turn catches up on: a day.
 const MOST_MS: u64 = 86_400_000;
 
 /// The number by which whoever asks nothing waits. No request has it.
@@ -57,7 +57,7 @@ fn wake_other<G: Gate>(gate: &G, number: u64, own: u64) {
 }
 
 impl<C: SharedCluster> Served<C> {
-    // Lets the clocks go on to this time. What is more than a day is made up for later, and a time before the last one
+    // Lets the clocks go on to this time. What is more than a day is caught up on later, and a time before the last one
     // changes nothing.
     fn advance(&mut self, alloc: Global, now: u64) -> Result<(), Memory>
         ensures quiet { AddsQuiet (C.marks self.old.cluster) (C.marks self.new.cluster) }
@@ -203,7 +203,7 @@ impl<C: SharedCluster> Served<C> {
         }
     }
 
-    // A turn of whose marks nothing more is said.
+    // A turn, of whose marks the contract says no more than that they go on.
     fn try_turn<G: Gate>(
         &mut self,
         alloc: Global,

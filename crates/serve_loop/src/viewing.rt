@@ -64,7 +64,7 @@ fn glance<J: PairName>(
 }
 
 // The same. It looks again while others read by all that viewers read by, which they do for no longer than an answer takes.
-// Where they do so through all looks, which nobody has seen, the read fails as for want of memory.
+// Where they do so through all looks, which nobody has seen, the read fails as for lack of memory.
 fn look<J: PairName>(alloc: Global, viewer: &mut Viewer<J>, query: &Query) -> Result<Viewed, Memory>
     ensures grown { IsPrefix viewer.old viewer.new }
     ensures seen { IfOk result (λ v. (v.answer ≡ answer query.now (catalog_at viewer.new)) × (v.index ≡ index_of query.now viewer.new) × (v.prefix ≡ length viewer.new)) }

@@ -1,5 +1,14 @@
 //! The outside of a server, as traits that tell what their calls did: connections and what gives them, jobs beside the
 //! caller, drawn words, durable stores of servers, a clock, and bells that end a wait. Each is there in memory, and over the machine.
+//!
+//! # What is proved
+//!
+//! Each call of a connection adds to what was read or written just the bytes that it says, and to its counts just
+//! what it says; each connection has the number that its listener then reached, and is not shut; what was handed
+//! back is told in order; a job's result keeps what the job promised, and a job is handed back only where the count
+//! of faults rose; the draws of drawn words are those of the seeded generator, in order; a durable store is made
+//! empty, with no call that is to fail, and is not made only where the count of faults rose or memory lacked.
+//! Carried by: the traits `Link`, `Listener`, `Spawner`, `Words`, `Keepers`; `start`, `finish`.
 #![tactic(auto)]
 
 mod awaited;

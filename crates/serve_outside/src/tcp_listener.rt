@@ -13,7 +13,7 @@ use std::{io, thread};
 /// How many milliseconds it waits before it tries again where the system has no descriptor or no buffer for a connection.
 const PAUSE_MS: u64 = 50;
 
-// What Linux calls the want of descriptors, in the process and in the system, of buffers and of memory, and the faults
+// What Linux calls the lack of descriptors, in the process and in the system, of buffers and of memory, and the faults
 // of a connection that broke before it was taken (accept(2)).
 const PASSING: [i32; 13] = [4, 12, 23, 24, 64, 71, 92, 95, 100, 101, 103, 105, 113];
 

@@ -41,7 +41,7 @@ Serve size draws c closed closed' faults faults' given result =
 -- So many connections were served at the port as asked, by a cluster of this size, of which all that must holds if its
 -- stores were empty or such as an earlier run of as many servers left, and this is reported of it. Then too all lists over
 -- which stale reads and questions of names were answered begin the log that it has agreed, but those of connections that
--- ended for want of memory.
+-- ended for lack of memory.
 pub record ServedBy (size : Size) (options : Options) (draws : Option (List Draw)) (closed closed' : List LinkState) (faults faults' given : ℕ) (port : Option ℕ) (ports ports' : List PortState) (held held' : Option (List ℕ)) (report : Report) : Type 0 where
   pub reached : Cluster
   pub serves : Serves size reached

@@ -5,7 +5,7 @@ ghost use Rattle.server.specs.declared.stop.Stop.TheVariants as stop;
 ghost use Rattle.server.specs.Complete.{IsComplete, IsFaultless, IsServers, Run};
 
 /// Completeness: whatever serve is called for, where no count of faults of what makes its stores, of its spawner, its
-/// listener and its sink rises, it ends for want of memory, or it is done. Then every connection that was asked for came
+/// listener and its sink rises, it ends for lack of memory, or it is done. Then every connection that was asked for came
 /// back, and over each of those whose own reads and writes did not fail every whole message has its one reply, in order,
 /// up to the end of the bytes, a refusal, or a message that asked to close.
 pub fn nothing_is_left_out()

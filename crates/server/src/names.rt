@@ -164,7 +164,7 @@ where
     }
 }
 
-// Whether packets were not answered for want of memory.
+// Whether packets were not answered for lack of memory.
 fn lacked_memory(cause: DnsCause) -> bool
     ensures { result ≡ false → cause ≢ dns_cause.Memory }
 {

@@ -49,7 +49,7 @@ fn readers(options: &Options<'_>) -> u32
     }
 }
 
-// Writes the last line, and reports what the cluster was led to. A count of events that fits no number is told as want of
+// Writes the last line, and reports what the cluster was led to. A count of events that fits no number is told as lack of
 // memory.
 fn report<J: ClusterSize, S: ClusterInterface, Si: Sink>(
     alloc: Global,

@@ -198,7 +198,7 @@ impl<J: ClusterSize, S: ClusterInterface> ServingCluster<J, S> {
         self.go_on(alloc, ms)
     }
 
-    // Delivers the messages between servers, and lets go of the outs of syncs.
+    // Delivers the messages between servers, and drops the outs of syncs.
     pub(crate) fn settle(&mut self, alloc: Global, most: u32) -> Result<u32, Memory>
         ensures quiet { AddsQuiet (reverse self.old.past) (reverse self.new.past) }
         ensures unticked { TicksNone (reverse self.old.past) (reverse self.new.past) }

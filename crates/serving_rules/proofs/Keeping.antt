@@ -164,7 +164,7 @@ passes_keep c made c' (leaderless a why own is goes e) = by_equal c _ c' e (of_o
 shelved_keeps : (a b c : Cluster) → c ≡ record b { tray = b.tray ++ b.fresh; fresh = [] } → Keeps a b → Keeps a c
 shelved_keeps a b c e k = by_equal a _ c e (record { agents = k.agents; asked = k.asked; more = k.more; past = k.past; quiet = k.quiet })
 
--- What a step does beside its event's mark; one that was cut while it made up for earlier work has the plain mark.
+-- What a step does beside its event's mark; one that was cut while it caught up on earlier work has the plain mark.
 pub step_keeps : (c c' : Cluster) (made : Event) (whole : Bool) → ClusterStep c made c' whole → Keeps (marked made c) c' ⊎ (Keeps (noted made c) c' × (whole ≡ false))
 step_keeps c c' made whole (done i c₁ c₂ m d e) = inl (shelved_keeps (marked made c) c₂ c' e (keeps_on (marked made c) c₁ c₂ (works_keep i (marked made c) c₁ m.0) (does_keep i made 0 c₁ c₂ whole d)))
 step_keeps c c' made whole (passed c₁ w p e) = inl (shelved_keeps (marked made c) c₁ c' e (passes_keep (marked made c) made c₁ p))

@@ -42,7 +42,7 @@ pub fn takings_serve()
     ensures { (size : Size) (number : ℕ) (c : Cluster) (out : Out) (before after : List Out) → Serves size c → number_of out ≡ Some number → c.tray ≡ before ++ out ∷ after → Serves size (record c { tray = before ++ after; past = mark.Taken number ∷ c.past }) }
 {}
 
-/// So does letting go of the outs of syncs.
+/// So does dropping the outs of syncs.
 pub fn handings_serve()
     ensures { (size : Size) (c : Cluster) → Serves size c → Serves size (record c { tray = of_requests c.tray }) }
 {}

@@ -118,7 +118,7 @@ fn file_each(
     Ok(())
 }
 
-/// Files the session where it stands. After want of memory it may be filed at some of these places.
+/// Files the session where it stands. After lack of memory it may be filed at some of these places.
 pub(crate) fn file(
     alloc: Global,
     places: &mut RowTable<Standing>,

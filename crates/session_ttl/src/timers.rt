@@ -232,7 +232,7 @@ impl SessionTimers {
     }
 
     /// Sets the timers that are due anew, each at the clock at which the time of its session is over; those of sessions
-    /// that are gone are let go of. Where there are no timers it makes them, those of all sessions, if there is memory.
+    /// that are gone are dropped. Where there are no timers it makes them, those of all sessions, if there is memory.
     pub fn look(&mut self, office: &Office, clocks: &[u64], sessions: &SessionTable, now: u64)
         requires { AreTimed self.old clocks.now office.now sessions.now.now }
         ensures { AreTimed self.new clocks.now office.now sessions.now.now }

@@ -198,7 +198,7 @@ fn prepare<J: PairName>(writer: &mut SideWriter<J>, front: &Front) -> Result<boo
 
 impl<J: PairName, R: Wait + Drop> Publisher<J, R> {
     /// Takes what stands in the log behind as many commands as were taken, and shows viewers all that was taken: the whole
-    /// log, if it begins with what was taken before. It may wait for those that are reading. After want of memory they see
+    /// log, if it begins with what was taken before. It may wait for those that are reading. After lack of memory they see
     /// what they saw, and the next call goes on.
     pub fn publish(&mut self, log: &[Entry]) -> Result<(), Memory>
         ensures taken { IsPrefix self.old.taken (commands_of log.now) → IsPrefix self.new.taken (commands_of log.now) }

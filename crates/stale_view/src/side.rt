@@ -48,7 +48,7 @@ impl Absorb<Op> for Side {
 
     ghost applied = { after_op };
 
-    // What a store does not take is answered as want of memory, as servers answer it: no log is so long, and no request
+    // What a store does not take is answered as lack of memory, as servers answer it: no log is so long, and no request
     // enters such a command.
     fn absorb_first(&mut self, operation: &Op, _other: &Side) -> Result<(), AllocError> {
         match operation {

@@ -166,7 +166,7 @@ impl<J: PairName> Viewer<J> {
         }
     }
 
-    /// Has read what the publisher shows. That is never less than it had read before, and want of memory never comes; but
+    /// Has read what the publisher shows. That is never less than it had read before, and lack of memory never comes; but
     /// no viewer can know that.
     pub fn learn<R: Wait + Drop>(&mut self, publisher: &Publisher<J, R>) -> Result<(), Memory>
         ensures grown { IsPrefix self.old self.new }

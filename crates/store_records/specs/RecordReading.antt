@@ -97,7 +97,7 @@ pub record IsWrong (bytes : List ℕ) : Type 0 where
   pub none : (r : Record) (size : ℕ) → Begins r size bytes → ⊥
   pub not_cut : IsCut bytes → ⊥
 
--- the answer, or want of memory
+-- the answer, or lack of memory
 abbrev pub UnlessMemory : Result (Record × ℕ) RecordFault → Result (Record × ℕ) RecordFault → Type 0
 UnlessMemory result answer = (result ≡ answer) ⊎ (result ≡ Err answers.Memory)
 

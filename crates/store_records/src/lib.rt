@@ -1,5 +1,11 @@
 //! Calls of a server's durable store as records of bytes and back. A record is the length of its payload and the
 //! payload, so that a journal, one record behind the other, tells whole records from the one in which it breaks off.
+//!
+//! # What is proved
+//!
+//! A record is written as its one spelling, and read where its spelling begins the input; each front of a spelling
+//! is `Cut`, and `Bad` comes only where no record begins the input and it is cut off in none: each exactly, unless
+//! memory runs out. Carried by: `write_record`, `read_record`, `laws::*`.
 #![tactic(auto)]
 
 mod fault;

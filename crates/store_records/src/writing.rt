@@ -106,7 +106,7 @@ fn payload_of(alloc: Global, item: &Record) -> Result<Bytes, Memory>
     }
 }
 
-/// Puts the spelling of the record last. After want of memory `out` is as before.
+/// Puts the spelling of the record last. After lack of memory `out` is as before.
 pub fn write_record(alloc: Global, item: &Record, out: &mut Bytes) -> Result<(), Memory>
     requires { length (payload item.now) ≤ 100000000 }
     ensures ok { OnOk result (out.new ≡ out.old ++ record_bytes item.now) }

@@ -5,7 +5,7 @@ use crossbeam_utils::CachePadded;
 use crossbeam_utils::sync::{EventCount, Key};
 use std::alloc::{AllocError, Global};
 
-// How many rooms there are. It divides 2^64, so that the rooms go on in turn where the tickets begin again at 0.
+// The number of wait queues. It divides 2^64, so that the rooms go on in turn where the tickets begin again at 0.
 const ROOMS: usize = 1_024;
 
 /// The rooms of a lock. A ticket's room is told by the rest that it leaves.
@@ -26,7 +26,7 @@ impl WaitingRooms {
     }
 
     /// Enters the room of a ticket. Whoever enters then looks once more whether the ticket is called, and sleeps in the
-    /// room by `wait` of the key, or lets go of the key.
+    /// room by `wait` of the key, or drops the key.
     pub(crate) fn enter(&self, ticket: u64) -> Key<'_> {
         self.room_of(ticket).prepare_wait()
     }

@@ -168,7 +168,7 @@ pub(crate) fn cas<R: KvRows>(
     Ok(true)
 }
 
-// The lock index of a key that is acquired once more. That is at most `u64::MAX` times, and then never again for want of
+// The lock index of a key that is acquired once more. That is at most `u64::MAX` times, and then never again for lack of
 // memory.
 fn once_more(lock_index: u64) -> Result<u64, Memory>
     ensures { IfOk result (λ more. more ≡ lock_index + 1) }

@@ -13,7 +13,7 @@ use kv_table::KvTable;
 use std::alloc::Global;
 
 // The lock index of the row once the session holds it, or none where another one does. A row is acquired at most
-// `u64::MAX` times, and then never again for want of memory.
+// `u64::MAX` times, and then never again for lack of memory.
 fn acquired(row: Option<&KvRow>, session: u128) -> Result<Option<u64>, Memory>
     ensures { IfOk result (λ o. o ≡ acquired session (option_copied row.entry)) }
 {
