@@ -1,3 +1,15 @@
 pub mod Rested
 pub mod Twins
 pub mod Clusters
+pub mod Steady
+pub mod Knowing
+pub mod Bags
+pub mod Ahead
+pub mod Serving
+pub mod Beginning
+pub mod Left
+pub mod Finding
+pub mod Voting
+pub mod Canvass
+pub mod Taking
+pub mod Elected
