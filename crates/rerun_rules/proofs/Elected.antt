@@ -13,11 +13,11 @@ use Rattle.raft_model.specs.World.{Acts as NodeActs, AreEmpty, Bag, Begins, Drop
 use Rattle.raft_model.proofs.Moving.{reads_told}
 use Rattle.raft_model.proofs.Tests.{at_bool, eq_tells}
 use Rattle.cluster_rules.specs.Cluster.{Cluster, no_node, node_of, runs_leading}
-use Rattle.cluster_rules.specs.Reached.{AreSure, IsBegun, Makes, Move, Reached, at_start, by_advancing, by_event, by_handing, by_settling, by_taking}
+use Rattle.cluster_rules.specs.Reached.{IsBegun, Makes, Move, Reached, at_start, by_advancing, by_event, by_handing, by_settling, by_taking}
 use Rattle.cluster_rules.specs.Step.{ClusterStep, received}
 use Rattle.cluster_rules.proofs.Tools.{both, is_node, is_place, item_other, item_same, length_set_server, there_or_none}
-use Rattle.serving_rules.specs.Serving.{AreServing, Serves, Size}
-use Rattle.rerun_rules.specs.Leading.{OnlyDelivered}
+use Rattle.serving_rules.specs.Serving.{AreServing}
+use Rattle.rerun_rules.specs.Leading.{Election, OnlyDelivered}
 use Rattle.rerun_rules.proofs.Ahead.{IsAhead, IsWell, call_fails, vote_saved}
 use Rattle.rerun_rules.proofs.Bags.{each_numbered, without_then}
 use Rattle.rerun_rules.proofs.Beginning.{empty_foremost, runs_on, start_ahead}
@@ -25,7 +25,7 @@ use Rattle.rerun_rules.proofs.Canvass.{Canvass, IsAsk, IsBallot, IsGrant, ask_ca
 use Rattle.rerun_rules.proofs.Rested.{start_length}
 use Rattle.rerun_rules.proofs.Serving.{may_serve, run_ahead, same_ahead, step_since}
 use Rattle.rerun_rules.proofs.Taking.{TakesTo, step_loses, step_takes}
-use Rattle.rerun_rules.proofs.Voting.{Asks, Counts, Grants, IsOpen, IsShort, done_asks, done_counts, done_grants, standing_short}
+use Rattle.rerun_rules.proofs.Voting.{Asks, Counts, Grants, IsOpen, IsShort, done_alone, done_asks, done_counts, done_grants, standing_short}
 
 -- With a reliable store and with memory a step works.
 step_works : (o : Outcome) (old : Node) (input : Input) (new : Node) (sent : List Sent) → NodeStep o old input new sent → IsWell old → o ≢ Forgets → (new ≡ record (done old input).node { store = new.store }) × (sent ≡ (done old input).sent)
@@ -145,6 +145,12 @@ module _ (ss : List Store) (w w' : World) (begins : Begins ss w) (none : AreEmpt
   old_is : a.old ≡ begun 1 (length ss) (node_of w 1).store nothing_kept
   old_is = sym (was w 1 Timeout w' ahead a r) ∙ fresh_node 0 (omega (arith, all))
 
+  alone : length ss ≡ 1 → w'.bag.packets ≡ []
+  alone one = ap (λ (b : Bag). b.packets) (bag_then w 1 Timeout w' ahead a r ∙ ap (λ (s : List Sent). posted_all 1 s w.bag) silence ∙ begins.bag)
+    where
+      silence : (done a.old Timeout).sent ≡ []
+      silence = ap (λ (n : Node). (done n Timeout).sent) (old_is ∙ ap (λ z. begun 1 z (node_of w 1).store nothing_kept) one) ∙ done_alone (node_of w 1).store
+
   stood : Elects w' w'.bag.packets
   stood = elim (subst (λ n. ((done n Timeout).node.role ≡ Leader) ⊎ Asks (length ss) (node_of w 1).store (done n Timeout)) (sym old_is) (done_asks (length ss) (node_of w 1).store some)) [
     | inl l ↦ inl (ap (λ (n : Node). n.role) (now w 1 Timeout w' ahead a r) ∙ l)
@@ -159,13 +165,23 @@ module _ (ss : List Store) (w w' : World) (begins : Begins ss w) (none : AreEmpt
       unvoted zero l m = absurd (omega arith)
       unvoted (suc j) l m = subst IsOpen (sym (others w 1 Timeout w' ahead a r (suc j) (λ z. omega arith) ∙ fresh_node j (omega (arith, all)))) (record { log = refl; vote = inl refl })
 
-event_stood : (ss : List Store) (start : Cluster) (w w' : World) → IsBegun ss start → AreEmpty ss → w ≡ start.world → IsAhead w → TakesTo w (event.Timeout 1) w' → Elects w' w'.bag.packets
-event_stood ss start w w' b none same ahead t = at_bool (λ x. (1 == t.server) ≡ x → cond x (Some Timeout) None ≡ Some t.input → Elects w' w'.bag.packets) (1 == t.server)
+-- what a timeout of server 1 is
+pub from_timeout : (R : Type 0) (w w' : World) → ((a : NodeActs w 1 Timeout w') → a.outcome ≢ Forgets → R) → TakesTo w (event.Timeout 1) w' → R
+from_timeout R w w' f t = at_bool (λ x. (1 == t.server) ≡ x → cond x (Some Timeout) None ≡ Some t.input → R) (1 == t.server)
     (λ _ q g. let input : Timeout ≡ t.input = cc g in
-    subst (λ z. (a : NodeActs w t.server z w') → a.outcome ≢ Forgets → Elects w' w'.bag.packets) input
-    (subst (λ z. (a : NodeActs w z Timeout w') → a.outcome ≢ Forgets → Elects w' w'.bag.packets) (eq_tells 1 t.server q)
-    (λ a r. stood ss w w' (subst (λ (z : World). Begins ss z) (sym (same ∙ ap (λ (z : Cluster). z.world) b.is)) b.begins) none b.some.0 b.some.1 ahead a r)) t.acts t.remembers)
+    subst (λ z. (a : NodeActs w t.server z w') → a.outcome ≢ Forgets → R) input
+    (subst (λ z. (a : NodeActs w z Timeout w') → a.outcome ≢ Forgets → R) (eq_tells 1 t.server q) f) t.acts t.remembers)
     (λ _ _ g. cc g) refl t.given
+
+begins_same : (ss : List Store) (start : Cluster) (w : World) → IsBegun ss start → w ≡ start.world → Begins ss w
+begins_same ss start w b same = subst (λ (z : World). Begins ss z) (sym (same ∙ ap (λ (z : Cluster). z.world) b.is)) b.begins
+
+event_stood : (ss : List Store) (start : Cluster) (w w' : World) → IsBegun ss start → AreEmpty ss → w ≡ start.world → IsAhead w → TakesTo w (event.Timeout 1) w' → Elects w' w'.bag.packets
+event_stood ss start w w' b none same ahead t = from_timeout (Elects w' w'.bag.packets) w w' (λ a r. stood ss w w' (begins_same ss start w b same) none b.some.0 b.some.1 ahead a r) t
+
+-- a single server has nobody to send anything to
+pub event_alone : (ss : List Store) (start : Cluster) (w w' : World) → IsBegun ss start → AreEmpty ss → length ss ≡ 1 → w ≡ start.world → IsAhead w → TakesTo w (event.Timeout 1) w' → w'.bag.packets ≡ []
+event_alone ss start w w' b none one same ahead t = from_timeout (w'.bag.packets ≡ []) w w' (λ a r. alone ss w w' (begins_same ss start w b same) none b.some.0 b.some.1 ahead a r one) t
 
 -- A message is lost.
 lost : (w : World) (k : ℕ) (w' : World) → WorldStep w (Drops k) w' → Elects w (without k w.bag.packets) → Elects w' w'.bag.packets
@@ -176,7 +192,7 @@ dropped : (j : ℕ) (ms : List Move) → OnlyDelivered (Makes (event.Drop j) ∷
 dropped j (Makes (event.Deliver k) ∷ before) x = (before, ap (λ z. Makes (event.Deliver z) ∷ before) (sym x.0), x.1)
 dropped j other x = absurd x
 
-nothing_done : (start : Cluster) (whole : Bool) (moves : List Move) (c : Cluster) → Reached start whole moves c → moves ≡ [] → c.world ≡ start.world
+pub nothing_done : (start : Cluster) (whole : Bool) (moves : List Move) (c : Cluster) → Reached start whole moves c → moves ≡ [] → c.world ≡ start.world
 nothing_done start whole moves c at_start e = refl
 nothing_done start whole moves c (by_event made all r fits step) e = cc e
 nothing_done start whole moves c (by_taking number out before after r is there) e = cc e
@@ -225,15 +241,16 @@ elects ss start b none a whole moves c (by_settling {whole = w} {moves = ms} {c 
     let x = elects ss start b none a w ms c₀ r t s.1 in record { settled = λ o. x.settled o; between = λ k before e o. cc e }
 elects ss start b none a whole moves c (by_advancing ms made r ends) t s = absurd s.0
 
-pub is_elected : (size : Size) (c : Cluster) (s : Serves size c) → AreEmpty size.stores → AreSure size.stores → s.whole ≡ true → OnlyDelivered s.moves → c.world.bag.packets ≡ [] → runs_leading c.world 1 ≡ true
-is_elected size c s none sure t o nothing =
-    let start = start_ahead size.stores s.start s.begins sure (empty_foremost size.stores none) in
-    let ahead = run_ahead s.start s.whole s.moves c s.reached s.serving start in
-    runs_on c.world ahead (elim ((elects size.stores s.start s.begins none start s.whole s.moves c s.reached t s.serving).settled o) [
+pub is_elected : (e : Election) → runs_leading e.cluster.world 1 ≡ true
+is_elected e =
+    let s = e.serves in
+    let start = start_ahead e.size.stores s.start s.begins e.sure (empty_foremost e.size.stores e.are_empty) in
+    let ahead = run_ahead s.start s.whole s.moves e.cluster s.reached s.serving start in
+    runs_on e.cluster.world ahead (elim ((elects e.size.stores s.start s.begins e.are_empty start s.whole s.moves e.cluster s.reached e.whole s.serving).settled e.delivered) [
       | inl l ↦ l
-      | inr x ↦ absurd (none_left (length c.world.nodes) (node_of c.world) c.world.bag.last (some x.first.role) (subst (CanvassOf c.world) nothing x))
+      | inr x ↦ absurd (none_left (length e.cluster.world.nodes) (node_of e.cluster.world) e.cluster.world.bag.last (some x.first.role) (subst (CanvassOf e.cluster.world) e.settled x))
     ])
   where
     -- a candidate is there
-    some : (node_of c.world 1).role ≡ Candidate → 0 < length c.world.nodes
-    some e = elim (there_or_none c.world 1) [ inl n ↦ absurd (let k = ap (λ (z : Node). z.role) n in cc (k, e)) | inr at ↦ (is_place c.world 1 (node_of c.world 1) at).1 ]
+    some : (node_of e.cluster.world 1).role ≡ Candidate → 0 < length e.cluster.world.nodes
+    some q = elim (there_or_none e.cluster.world 1) [ inl n ↦ absurd (let k = ap (λ (z : Node). z.role) n in cc (k, q)) | inr at ↦ (is_place e.cluster.world 1 (node_of e.cluster.world 1) at).1 ]

@@ -13,3 +13,4 @@ pub mod Voting
 pub mod Canvass
 pub mod Taking
 pub mod Elected
+pub mod Alone

@@ -169,3 +169,7 @@ done_asks servers store l =
     let m : Node = standing servers store in
     at_bool (λ b. (servers == 1) ≡ b → ((cond b (leads m) (ask_all m)).node.role ≡ Leader) ⊎ Asks servers store (cond b (leads m) (ask_all m))) (servers == 1)
     (λ _ _. inl (leads_role m)) (λ _ e. inr (record { some = let k = eq_tells_not servers 1 e in omega arith; node = refl; sent = refl })) refl
+
+pub done_alone : (store : Store) → (done (begun 1 1 store nothing_kept) Timeout).sent ≡ []
+unfolding done does timed_out candidate leads
+done_alone store = refl

@@ -5,10 +5,11 @@ use Rattle.cat_model.specs.declared.request.Event.TheVariants as event
 use Rattle.cat_model.specs.declared.reply.Role.TheVariants.{Follower}
 use Rattle.raft_model.specs.Node.{Kept, Node, Store}
 use Rattle.raft_model.specs.Rules.{term_of}
-use Rattle.raft_model.specs.World.{IsServer, Packet, World}
+use Rattle.raft_model.specs.World.{AreEmpty, IsServer, Packet, World}
 use Rattle.cluster_rules.specs.Cluster.{Cluster, node_of}
-use Rattle.cluster_rules.specs.Reached.{Move, Makes, Settles, Reached, at_start, by_event, by_taking, by_handing, by_settling, by_advancing}
+use Rattle.cluster_rules.specs.Reached.{AreSure, Move, Makes, Settles, Reached, at_start, by_event, by_taking, by_handing, by_settling, by_advancing}
 use Rattle.cluster_rules.specs.Requests.{Goes, way_of}
+use Rattle.serving_rules.specs.Serving.{Serves, Size}
 
 -- each of these stores tells what it holds, with a term that is not above this one
 abbrev pub HoldUpTo : ℕ → List Store → Type 0
@@ -50,3 +51,14 @@ OnlyDelivered (Makes (event.Timeout s) ∷ []) = s ≡ 1
 OnlyDelivered (Makes (event.Drop j) ∷ Makes (event.Deliver k) ∷ moves) = (j ≡ k) × OnlyDelivered moves
 OnlyDelivered (Settles pairs whole ∷ moves) = OnlyDelivered moves
 OnlyDelivered other = ⊥
+
+-- A run over empty stores that came to rest: all that is asked of one in which server 1 is elected.
+pub record Election : Type 0 where
+  pub size : Size
+  pub cluster : Cluster
+  pub serves : Serves size cluster
+  pub are_empty : AreEmpty size.stores
+  pub sure : AreSure size.stores
+  pub whole : serves.whole ≡ true
+  pub delivered : OnlyDelivered serves.moves
+  pub settled : cluster.world.bag.packets ≡ []

@@ -1,11 +1,11 @@
 //! Who leads in a cluster that serves over durable stores that fail no call: server 1, and nobody else.
 
-ghost use Rattle.std.specs.Prelude.{[], ◌≡◌, ◌≢◌, ◌⊎◌, ℕ, List, None, true};
+ghost use Rattle.std.specs.Prelude.{◌≡◌, ◌≢◌, ◌⊎◌, ℕ, List, None, true};
 ghost use Rattle.cluster_rules.specs.Cluster.{Cluster, node_of, runs_leading};
 ghost use Rattle.cluster_rules.specs.Reached.{AreSure, MayBegin};
 ghost use Rattle.raft_model.specs.Node.{Store};
 ghost use Rattle.raft_model.specs.World.{AreEmpty, HoldAll};
-ghost use Rattle.rerun_rules.specs.Leading.{FindsLeader, IsForemost, OnlyDelivered, OnlyFirstLeads, WasAt};
+ghost use Rattle.rerun_rules.specs.Leading.{FindsLeader, Election, IsForemost, OnlyFirstLeads, WasAt};
 ghost use Rattle.serving_rules.specs.Serving.{Serves, Size};
 
 /// Empty stores hold no term that is above server 1's.
@@ -41,8 +41,8 @@ pub fn requests_find_the_leader()
 {}
 
 /// Over empty stores server 1 leads once nothing is on its way any more, where every event was whole and nothing was
-/// done behind its timeout but deliveries, each followed by that message's loss.
+/// done behind its timeout but deliveries, each followed by that message's loss. There are such runs.
 pub fn the_first_server_is_elected()
-    ensures { (size : Size) (c : Cluster) (s : Serves size c) → AreEmpty size.stores → AreSure size.stores →
-        s.whole ≡ true → OnlyDelivered s.moves → c.world.bag.packets ≡ [] → runs_leading c.world 1 ≡ true }
+    ensures elected { (e : Election) → runs_leading e.cluster.world 1 ≡ true }
+    ensures possible { Election }
 {}

@@ -13,7 +13,7 @@
 //! same term, and requests find it from each server that has heard of it. Empty stores are such, and so are those
 //! that such a cluster leaves. Over empty stores server 1 is elected: it leads once nothing is on its way any more,
 //! where every event was whole and nothing was done behind its timeout but deliveries, each followed by that
-//! message's loss. Carried by: `leading::*`.
+//! message's loss; and there are such runs. Carried by: `leading::*`.
 #![tactic(auto)]
 
 pub mod laws;
