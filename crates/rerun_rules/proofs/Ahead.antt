@@ -15,6 +15,12 @@ use Rattle.raft_model.proofs.Tests.{at_bool, eq_tells}
 use Rattle.cluster_rules.specs.Cluster.{no_node, node_of}
 use Rattle.cluster_rules.proofs.Running.{done_up}
 use Rattle.cluster_rules.proofs.Tools.{at_item, each_append, eq_tells_not, is_node, is_place, item_other, item_same, length_set_server}
+use Rattle.raft_model.specs.Log.{Log}
+use Rattle.raft_model.proofs.Going.{longer_length}
+use Rattle.raft_model.proofs.Logs.{front_take}
+use Rattle.std.proofs.Common.{take}
+use Rattle.std.proofs.Math.Seq.{take-append_seam, take-length}
+use Rattle.rerun_rules.proofs.Growing.{Grown, Minds, done_grown}
 use Rattle.rerun_rules.proofs.Knowing.{AreLeaders, IsLeaders, IsLed, Knows, done_honest, done_knows}
 use Rattle.rerun_rules.proofs.Steady.{AreUpTo, Hears, done_rests, done_stands, up_more}
 
@@ -151,11 +157,17 @@ Bears n Timeout = Unit {0}
 Bears n (Receive from message) = term_of message ≤ n.term
 Bears n other = Unit {0}
 
--- Its term never falls, and a leader leads on in its term.
+-- a log that has one entry more, or none
+pub front_of : (old new : Log) → Grown old new → take (length old) new ≡ old
+front_of old new (inl e) = ap (take (length old)) e ∙ take-length old
+front_of old new (inr (x, e)) = ap (take (length old)) e ∙ take-append_seam old (x ∷ [])
+
+-- Its term never falls, its log only grows, and a leader leads on in its term.
 pub record Leads (old new : Node) (sent : List Sent) : Type 0 where
   pub up : old.term ≤ new.term
   pub tells : AreUpTo new.term sent
   pub firsts : AreFirsts new 1 sent
+  pub grows : take (length old.log) new.log ≡ old.log
   pub on : old.role ≡ Leader → (new.role ≡ Leader) × (new.term ≡ old.term)
 
 record Does (old : Node) (input : Input) : Type 0 where
@@ -176,27 +188,40 @@ does_it old (Receive from m) b = does_own old (Receive from m) b
 does_it old (Propose number command) b = does_own old (Propose number command) tt
 does_it old Probe b = does_own old Probe tt
 
-step_leads : (o : Outcome) (old : Node) (input : Input) (new : Node) (sent : List Sent) → NodeStep o old input new sent → IsWell old → Bears old input → Leads old new sent
-step_leads Works old input new sent (between, v, g, e, s) w b =
+step_leads : (o : Outcome) (old : Node) (input : Input) (new : Node) (sent : List Sent) → NodeStep o old input new sent → IsWell old → Bears old input → Minds old input → Leads old new sent
+step_leads Works old input new sent (between, v, g, e, s) w b mind =
     let d = does_it old input b in
     record {
       up = let k = ap (λ (n : Node). n.term) e in let u = d.up in omega arith;
       tells = subst (λ t. AreUpTo t sent) (sym (ap (λ (n : Node). n.term) e)) (subst (AreUpTo (done old input).node.term) (sym s) d.sent);
       firsts = subst (AreFirsts new 1) (sym s) (own_ones (done old input).node new (done old input).sent (ap (λ (n : Node). n.term) e) (ap (λ (n : Node). n.role) e) (done_honest old input));
+      grows = ap (take (length old.log)) (ap (λ (n : Node). n.log) e) ∙ front_of old.log (done old input).node.log (done_grown old input mind);
       on = λ r. let l = d.on r in (ap (λ (n : Node). n.role) e ∙ l.0, ap (λ (n : Node). n.term) e ∙ l.1);
     }
-step_leads VoteFails old input new sent (v, x, e, s) w b = absurd (call_fails _ old.store new.store x w.store)
-step_leads LogFails old input new sent (between, v, g, x, e, s) w b = absurd (call_fails _ between new.store x (vote_saved old (done old input).node old.store between v w.store))
-step_leads Forgets old input new sent (v, c, g, e, s) w b =
+step_leads VoteFails old input new sent (v, x, e, s) w b mind = absurd (call_fails _ old.store new.store x w.store)
+step_leads LogFails old input new sent (between, v, g, x, e, s) w b mind = absurd (call_fails _ between new.store x (vote_saved old (done old input).node old.store between v w.store))
+step_leads Forgets old input new sent (v, c, g, e, s) w b mind =
     let d = does_it old input b in
     record {
       up = let k = ap (λ (n : Node). n.term) e in let u = d.up in omega arith;
       tells = subst (AreUpTo new.term) (sym s) tt;
       firsts = subst (AreFirsts new 1) (sym s) tt;
+      grows = ap (take (length old.log)) (ap (λ (n : Node). n.log) e) ∙ take-length old.log;
       on = λ r. absurd (neither (d.on r));
     }
   where
     -- a leader's step does not change both what it votes and its log
+    neither : ((done old input).node.role ≡ Leader) × ((done old input).node.term ≡ old.term) × (((done old input).node.vote ≡ old.vote) ⊎ ((done old input).node.log ≡ old.log)) → ⊥
+    neither (r, t, inl k) = v (t, k)
+    neither (r, t, inr k) = g k
+
+-- A leader's step works.
+pub leader_works : (o : Outcome) (old : Node) (input : Input) (new : Node) (sent : List Sent) → NodeStep o old input new sent → IsWell old → Bears old input → old.role ≡ Leader → new ≡ record (done old input).node { store = new.store }
+leader_works Works old input new sent (between, v, g, e, s) w b r = e
+leader_works VoteFails old input new sent (v, x, e, s) w b r = absurd (call_fails _ old.store new.store x w.store)
+leader_works LogFails old input new sent (between, v, g, x, e, s) w b r = absurd (call_fails _ between new.store x (vote_saved old (done old input).node old.store between v w.store))
+leader_works Forgets old input new sent (v, c, g, e, s) w b r = absurd (neither ((does_it old input b).on r))
+  where
     neither : ((done old input).node.role ≡ Leader) × ((done old input).node.term ≡ old.term) × (((done old input).node.vote ≡ old.vote) ⊎ ((done old input).node.log ≡ old.log)) → ⊥
     neither (r, t, inl k) = v (t, k)
     neither (r, t, inr k) = g k
@@ -246,10 +271,11 @@ pub record IsAhead (w : World) : Type 0 where
   pub appends : AreAllFirsts (node_of w 1) w.bag.packets
   pub led : (i : ℕ) → 0 < i → i ≤ length w.nodes → i ≢ 1 → HoldsFirst (node_of w 1) (node_of w i)
 
--- It stays ahead, and a leader leads on in its term. Who holds it for leader does so still.
+-- It stays ahead, its log only grows, and a leader leads on in its term. Who holds it for leader does so still.
 pub record StaysAhead (w w' : World) : Type 0 where
   pub ahead : IsAhead w'
   pub count : length w'.nodes ≡ length w.nodes
+  pub grows : take (length (node_of w 1).log) (node_of w' 1).log ≡ (node_of w 1).log
   pub on : (node_of w 1).role ≡ Leader → ((node_of w' 1).role ≡ Leader) × ((node_of w' 1).term ≡ (node_of w 1).term)
   pub holds : (i : ℕ) → 0 < i → i ≤ length w.nodes → i ≢ 1 → (node_of w i).leader ≡ Some 1 → (node_of w' i).leader ≡ Some 1
 
@@ -257,6 +283,7 @@ pub ahead_on : (a b c : World) → StaysAhead a b → StaysAhead b c → StaysAh
 ahead_on a b c x y = record {
   ahead = y.ahead;
   count = y.count ∙ x.count;
+  grows = front_take (length (node_of a 1).log) (node_of b 1).log (node_of c 1).log y.grows (longer_length (node_of a 1).log (node_of b 1).log x.grows) ∙ x.grows;
   on = λ r. let k = x.on r in let l = y.on k.0 in (l.0, l.1 ∙ k.1);
   holds = λ i p l d e. y.holds i p (let k = x.count in omega arith) d (x.holds i p l d e);
 }
@@ -280,6 +307,17 @@ may_bear w i Beat old e m = tt
 may_bear w i (Receive from message) old e m = let k = ap (λ (n : Node). n.term) e in let l = m.0 in omega arith
 may_bear w i (Propose number command) old e m = tt
 may_bear w i Probe old e m = tt
+
+may_mind : (w : World) (i : ℕ) (input : Input) (old : Node) → node_of w 1 ≡ old → May w i input → Minds old input
+may_mind w i Timeout old e m = tt
+may_mind w i Beat old e m = tt
+may_mind w i (Receive from (Append term prev prev_term entries commit round)) old e m = (ap (λ (n : Node). n.role) (sym e) ∙ m.1.2, let k = ap (λ (n : Node). n.term) e in let l = m.0 in omega arith)
+may_mind w i (Receive from (AskVote term last_index last_term)) old e m = tt
+may_mind w i (Receive from (Vote term granted)) old e m = tt
+may_mind w i (Receive from (Yes term matched round)) old e m = tt
+may_mind w i (Receive from (No term last)) old e m = tt
+may_mind w i (Propose number command) old e m = tt
+may_mind w i Probe old e m = tt
 
 -- What a follower then holds for leader.
 holds_then : (w : World) (i : ℕ) (input : Input) (old new : Node) (sent : List Sent) → May w i input → Follows (node_of w 1).term old input new sent → HoldsFirst (node_of w 1) old → HoldsFirst (node_of w 1) new
@@ -365,6 +403,7 @@ acts_ahead w i input w' a may s = at_bool (λ b. (i == 1) ≡ b → StaysAhead w
             (subst (λ (n : Node). HoldsFirst (node_of w 1) n) (sym (others j (λ q. d (q ∙ e)))) (s.led j p (omega (arith, l, count)) d));
       };
       count = count;
+      grows = subst (λ (n : Node). take (length n.log) (node_of w' 1).log ≡ n.log) (sym old) (subst (λ (n : Node). take (length a.old.log) n.log ≡ a.old.log) (sym new) x.grows);
       on = on;
       holds = λ j p l d q. ap (λ (n : Node). n.leader) (others j (λ z. d (z ∙ e))) ∙ q;
     }
@@ -376,7 +415,7 @@ acts_ahead w i input w' a may s = at_bool (λ b. (i == 1) ≡ b → StaysAhead w
         new = ap (node_of w') (sym e) ∙ now
 
         x : Leads a.old a.new a.sent
-        x = step_leads a.outcome a.old input a.new a.sent a.step old_well (may_bear w i input a.old old may)
+        x = step_leads a.outcome a.old input a.new a.sent a.step old_well (may_bear w i input a.old old may) (may_mind w i input a.old old may)
 
         on : (node_of w 1).role ≡ Leader → ((node_of w' 1).role ≡ Leader) × ((node_of w' 1).term ≡ (node_of w 1).term)
         on r = let o = x.on (ap (λ (n : Node). n.role) (sym old) ∙ r) in (ap (λ (n : Node). n.role) new ∙ o.0, ap (λ (n : Node). n.term) new ∙ (o.1 ∙ ap (λ (n : Node). n.term) (sym old)))
@@ -398,6 +437,7 @@ acts_ahead w i input w' a may s = at_bool (λ b. (i == 1) ≡ b → StaysAhead w
             (at_item (HoldsFirst (node_of w 1)) no_node w.nodes i a.new j (λ _. holds_then w i input a.old a.new a.sent may x held) (s.led j p (omega (arith, l, count)) n)));
       };
       count = count;
+      grows = subst (λ (n : Node). take (length (node_of w 1).log) n.log ≡ (node_of w 1).log) (sym same) (take-length (node_of w 1).log);
       on = on;
       holds = λ j p l n q. at_bool (λ b. (j == i) ≡ b → (node_of w' j).leader ≡ Some 1) (j == i)
           (λ _ z. let e = eq_tells j i z in ap (λ (n : Node). n.leader) (ap (node_of w') e ∙ now)

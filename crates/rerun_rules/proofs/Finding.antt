@@ -18,7 +18,7 @@ use Rattle.rerun_rules.proofs.Beginning.{runs_on, start_ahead}
 use Rattle.rerun_rules.proofs.Serving.{run_since, was_ahead}
 
 -- the way from a running server that is asked
-way_if : (w : World) (a : ℕ) (stale : Bool) → (node_of w a).halted ≡ false → way_of w a stale ≡ cond (stale || runs_leading w a) (Goes a) (to_leader w a (node_of w a).leader)
+pub way_if : (w : World) (a : ℕ) (stale : Bool) → (node_of w a).halted ≡ false → way_of w a stale ≡ cond (stale || runs_leading w a) (Goes a) (to_leader w a (node_of w a).leader)
 way_if w a stale up = ap (λ b. cond b (Answers (refusal.Halted a)) (cond (stale || runs_leading w a) (Goes a) (to_leader w a (node_of w a).leader))) up
 
 to_first : (w : World) (a : ℕ) (o : Option ℕ) → o ≡ Some 1 → runs_leading w 1 ≡ true → to_leader w a o ≡ Goes 1

@@ -3,6 +3,7 @@ pub mod Twins
 pub mod Clusters
 pub mod Steady
 pub mod Knowing
+pub mod Growing
 pub mod Bags
 pub mod Ahead
 pub mod Serving
@@ -14,3 +15,5 @@ pub mod Canvass
 pub mod Taking
 pub mod Elected
 pub mod Alone
+pub mod Keeping
+pub mod Answering

@@ -22,6 +22,7 @@ use Rattle.cluster_rules.specs.Step.{Acts, ClusterStep, Does, Passes, act, arms,
 use Rattle.serving_rules.specs.Serving.{AreServing, IsServing}
 use Rattle.rerun_rules.specs.Leading.{WasAt}
 use Rattle.rerun_rules.proofs.Ahead.{IsAhead, IsFirsts, May, StaysAhead, acts_ahead, ahead_on}
+use Rattle.std.proofs.Math.Seq.{take-length}
 use Rattle.rerun_rules.proofs.Bags.{each_numbered, each_without}
 
 -- No server but 1 stands for election, none restarts, and no store is armed.
@@ -125,7 +126,7 @@ module _ (b : World) where
 
   acts_since : (n : ℕ) (c : Cluster) (i : ℕ) (made : Event) (c' : Cluster) → Acts n c i made c' → MayCome made → Since b c → Since b c'
   acts_since n c i made c' (takes input w' z is a e) m f = subst (Since b) (sym e) (seated_since c.world i (moved i w' c) (moved_since c i input w' a (may_take c.world i made input m is f.ahead) f))
-  acts_since n c i made c' (ticks ms w' z is (old, at, w) e) m f = subst (Since b) (sym e) (subst (StaysAhead b) (sym w) (record { ahead = record { well = f.ahead.well; follow = f.ahead.follow; told = f.ahead.told; appends = f.ahead.appends; led = f.ahead.led }; count = f.count; on = f.on; holds = f.holds }))
+  acts_since n c i made c' (ticks ms w' z is (old, at, w) e) m f = subst (Since b) (sym e) (subst (StaysAhead b) (sym w) (record { ahead = record { well = f.ahead.well; follow = f.ahead.follow; told = f.ahead.told; appends = f.ahead.appends; led = f.ahead.led }; count = f.count; grows = f.grows; on = f.on; holds = f.holds }))
   acts_since n c i made c' (arms nth w' z is st e) m f = absurd (subst MayCome is m)
   acts_since n c i made c' (restarts w' z is st e) m f = absurd (subst MayCome is m)
   acts_since n c i made c' (handles agent asked draw z is goes h) m f = handles_since c i _ c' h f
@@ -153,6 +154,7 @@ module _ (b : World) where
           led = f.ahead.led;
         };
         count = f.count;
+        grows = f.grows;
         on = f.on;
         holds = f.holds;
       }))
@@ -166,7 +168,7 @@ module _ (b : World) where
   step_since c c' made whole (cut_early i w c₁ short for d more e) m f = subst (Since b) (sym e) (works_since i (noted made c) c₁ (work w d more) f)
 
 pub same_ahead : (w : World) → IsAhead w → StaysAhead w w
-same_ahead w a = record { ahead = a; count = refl; on = λ r. (r, refl); holds = λ i p l d e. e }
+same_ahead w a = record { ahead = a; count = refl; grows = take-length (node_of w 1).log; on = λ r. (r, refl); holds = λ i p l d e. e }
 
 -- a whole run
 pub run_ahead : (start : Cluster) (whole : Bool) (moves : List Move) (c : Cluster) → Reached start whole moves c → AreServing moves → IsAhead start.world → IsAhead c.world

@@ -1,7 +1,13 @@
 -- Who leads in a cluster that serves: server 1, and nobody else.
 use Rattle.std.specs.Prelude.{◌≡◌, ◌≢◌, ℕ, ◌≤◌, ◌⊎◌, Bool, true, false, List, [], ◌∷◌, Some}
 use Rattle.std.specs.List.{AllByRecursion as Each}
+use Rattle.cat_model.specs.declared.request.Asked.TheVariants.{Bad}
+use Rattle.cat_model.specs.declared.request.Draw.{Draw}
 use Rattle.cat_model.specs.declared.request.Event.TheVariants as event
+use Rattle.cat_model.specs.declared.reply.Mark.{Mark}
+use Rattle.cat_model.specs.declared.reply.Mark.TheVariants as mark
+use Rattle.cat_model.specs.declared.reply.Refusal.{Refusal}
+use Rattle.cat_model.specs.declared.reply.Refusal.TheVariants as refusal
 use Rattle.cat_model.specs.declared.reply.Role.TheVariants.{Follower}
 use Rattle.raft_model.specs.Node.{Kept, Node, Store}
 use Rattle.raft_model.specs.Rules.{term_of}
@@ -9,6 +15,7 @@ use Rattle.raft_model.specs.World.{AreEmpty, IsServer, Packet, World}
 use Rattle.cluster_rules.specs.Cluster.{Cluster, node_of}
 use Rattle.cluster_rules.specs.Reached.{AreSure, Move, Makes, Settles, Reached, at_start, by_event, by_taking, by_handing, by_settling, by_advancing}
 use Rattle.cluster_rules.specs.Requests.{Goes, way_of}
+use Rattle.cluster_rules.specs.Sound.{IsAmong}
 use Rattle.serving_rules.specs.Serving.{Serves, Size}
 
 -- each of these stores tells what it holds, with a term that is not above this one
@@ -43,6 +50,16 @@ WasAt {c = c} earlier (by_advancing ms made before ends) = (earlier ≡ c) ⊎ W
 -- A request that asks this server finds the leader, server 1; one that may be stale stays where it asked.
 abbrev pub FindsLeader : World → ℕ → Type 0
 FindsLeader w asked = (way_of w asked false ≡ Goes 1) × (way_of w asked true ≡ Goes asked)
+
+-- it tells that a server failed, or that it lost its leadership
+abbrev pub TellsLoss : Refusal → Type 0
+TellsLoss (refusal.Halted server) = Unit {0}
+TellsLoss (refusal.Lost old found) = Unit {0}
+TellsLoss other = ⊥
+
+-- The request of this number came as one that is none, with just this refusal.
+abbrev pub CameBad : ℕ → Refusal → List Mark → Type 0
+CameBad number why past = (agent : ℕ) × (draw : Draw) × IsAmong (mark.Asked number agent (Bad why) draw) past
 
 -- First of all server 1 stood for election, and since then messages were delivered, each lost right behind its
 -- delivery, and nothing else was done. The last move stands first.

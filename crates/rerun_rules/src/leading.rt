@@ -1,11 +1,15 @@
 //! Who leads in a cluster that serves over durable stores that fail no call: server 1, and nobody else.
 
-ghost use Rattle.std.specs.Prelude.{◌≡◌, ◌≢◌, ◌⊎◌, ℕ, List, None, true};
+ghost use Rattle.std.specs.Prelude.{◌≡◌, ◌≢◌, ◌⊎◌, ℕ, Bool, List, None, true};
+ghost use Rattle.cat_model.specs.declared.reply.Kind.TheVariants.{Refused};
+ghost use Rattle.cat_model.specs.declared.reply.Mark.TheVariants.{Answered};
+ghost use Rattle.cat_model.specs.declared.reply.Refusal.{Refusal};
 ghost use Rattle.cluster_rules.specs.Cluster.{Cluster, node_of, runs_leading};
 ghost use Rattle.cluster_rules.specs.Reached.{AreSure, MayBegin};
+ghost use Rattle.cluster_rules.specs.Sound.{IsAmong};
 ghost use Rattle.raft_model.specs.Node.{Store};
 ghost use Rattle.raft_model.specs.World.{AreEmpty, HoldAll};
-ghost use Rattle.rerun_rules.specs.Leading.{FindsLeader, Election, IsForemost, OnlyFirstLeads, WasAt};
+ghost use Rattle.rerun_rules.specs.Leading.{CameBad, Election, FindsLeader, IsForemost, OnlyFirstLeads, TellsLoss, WasAt};
 ghost use Rattle.serving_rules.specs.Serving.{Serves, Size};
 
 /// Empty stores hold no term that is above server 1's.
@@ -38,6 +42,14 @@ pub fn requests_find_the_leader()
     ensures { (size : Size) (c earlier : Cluster) (s : Serves size c) → AreSure size.stores → IsForemost size.stores →
         WasAt earlier s.reached → runs_leading earlier.world 1 ≡ true →
         (asked : ℕ) → (asked ≡ 1) ⊎ ((node_of earlier.world asked).leader ≢ None) → FindsLeader c.world asked }
+{}
+
+/// No request is refused because a server halted or lost its leadership, unless it came as none, with just that
+/// refusal.
+pub fn nothing_is_lost()
+    ensures { (size : Size) (c : Cluster) → AreSure size.stores → IsForemost size.stores → Serves size c →
+        (number : ℕ) (why : Refusal) (known : Bool) (contact : ℕ) →
+        IsAmong (Answered number (Refused why) known contact) c.past → TellsLoss why → CameBad number why c.past }
 {}
 
 /// Over empty stores server 1 leads once nothing is on its way any more, where every event was whole and nothing was

@@ -10,10 +10,11 @@
 //!
 //! In a cluster that serves over durable stores that fail no call, none of which holds a higher term than server 1's,
 //! nobody halts and nobody but server 1 ever stands for election or leads; once it leads it leads for ever, in the
-//! same term, and requests find it from each server that has heard of it. Empty stores are such, and so are those
-//! that such a cluster leaves. Over empty stores server 1 is elected: it leads once nothing is on its way any more,
-//! where every event was whole and nothing was done behind its timeout but deliveries, each followed by that
-//! message's loss; and there are such runs. Carried by: `leading::*`.
+//! same term, and requests find it from each server that has heard of it. No request is refused because a server
+//! halted or lost its leadership. Empty stores are such, and so are those that such a cluster leaves. Over empty
+//! stores server 1 is elected: it leads once nothing is on its way any more, where every event was whole and nothing
+//! was done behind its timeout but deliveries, each followed by that message's loss; and there are such runs. Carried
+//! by: `leading::*`.
 #![tactic(auto)]
 
 pub mod laws;
