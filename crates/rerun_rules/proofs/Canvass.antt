@@ -45,7 +45,7 @@ some_worth (Append term prev prev_term entries commit round) = omega arith
 some_worth (Yes term matched round) = omega arith
 some_worth (No term last) = omega arith
 
-few : (ps : List Packet) → length ps ≤ worth ps
+pub few : (ps : List Packet) → length ps ≤ worth ps
 few [] = omega arith
 few (p ∷ ps) = let k = few ps in let l = some_worth p.message in omega arith
 
@@ -53,7 +53,7 @@ small_ballot : (servers : ℕ) (p : Packet) → IsBallot servers p → message_b
 small_ballot servers p (inl a) = ap message_bytes a.3
 small_ballot servers p (inr g) = ap message_bytes g.3
 
-few_bytes : (servers : ℕ) (ps : List Packet) → Each (IsBallot servers) ps → packets_bytes ps ≡ 64 * length ps
+pub few_bytes : (servers : ℕ) (ps : List Packet) → Each (IsBallot servers) ps → packets_bytes ps ≡ 64 * length ps
 few_bytes servers [] a = refl
 few_bytes servers (p ∷ ps) a = let k = few_bytes servers ps a.1 in let l = small_ballot servers p a.0 in omega arith
 
@@ -93,6 +93,7 @@ pub record Canvass (servers : ℕ) (nodes : ℕ → Node) (last : ℕ) (ps : Lis
   pub ballots : Each (IsBallot servers) ps
   pub pending : (j : ℕ) → 1 < j → j ≤ servers → ((p : Packet) × IsAmong p ps × ((p.to ≡ j) ⊎ (p.from ≡ j))) ⊎ (members (nodes 1).votes j ≡ true)
   pub small : worth ps + last ≤ most
+  pub servers_few : servers ≤ 7
 
 -- where nothing is on its way it has all votes
 pub none_left : (servers : ℕ) (nodes : ℕ → Node) (last : ℕ) → 0 < servers → Canvass servers nodes last [] → ⊥
@@ -120,6 +121,7 @@ ask_came servers last nodes nodes' k ps p v c e ask grant from open_ others = re
     | inr x ↦ inr (ap (λ (z : Node). members z.votes j) same ∙ x)
   ];
   small = let a = worth_append (without k ps) (v ∷ []) in let b = worth_without k ps p e in let s = c.small in let d = ap worth_of ask.3 in let f = ap worth_of grant.3 in omega arith;
+  servers_few = c.servers_few;
 }
   where
     same : nodes' 1 ≡ nodes 1
@@ -144,6 +146,7 @@ grant_came servers last nodes nodes' k ps p c e grant short votes others = recor
     | inr x ↦ inr (ap (λ vs. members vs j) votes ∙ voter_before (nodes 1).votes p.from j x)
   ];
   small = let b = worth_without k ps p e in let s = c.small in omega arith;
+  servers_few = c.servers_few;
 }
   where
     voter : (j : ℕ) → 1 < j → (p.to ≡ j) ⊎ (p.from ≡ j) → p.from ≡ j
@@ -219,4 +222,5 @@ canvass_begins servers nodes l short unvoted bag e =
       ballots = x.ballots;
       pending = λ j k m. let p = x.sent (record { to = j; message = AskVote 1 0 0 }) (sent_to j servers k m) in inl (p.0, p.1, inl p.2);
       small = let n = length_sent servers in let t = x.total in omega arith;
+      servers_few = l;
     }

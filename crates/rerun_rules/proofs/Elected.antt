@@ -4,27 +4,30 @@ use Rattle.std.specs.Prelude.{◌==◌}
 use Rattle.cat_model.specs.declared.request.Event.{Event}
 use Rattle.cat_model.specs.declared.request.Event.TheVariants as event
 use Rattle.cat_model.specs.declared.reply.Role.TheVariants.{Candidate, Leader}
-use Rattle.raft_model.specs.declared.message.Message.TheVariants.{AskVote, Vote}
+use Rattle.raft_model.specs.declared.message.Message.{Message}
+use Rattle.raft_model.specs.declared.message.Message.TheVariants.{Append, AskVote, No, Vote, Yes}
 use Rattle.raft_model.specs.declared.message.Sent.{Sent}
 use Rattle.raft_model.specs.Node.{Kept, Node, Store, begun, to_others}
-use Rattle.raft_model.specs.Rules.{Input, Receive, Timeout, done, with_voter}
+use Rattle.raft_model.specs.Rules.{Input, Receive, Timeout, done, term_of, with_voter}
 use Rattle.raft_model.specs.Step.{Forgets, LogFails, NodeStep, Outcome, VoteFails, Works}
 use Rattle.raft_model.specs.World.{Acts as NodeActs, AreEmpty, Bag, Begins, Drops, Packet, StartAll, World, WorldStep, nothing_kept, numbered, posted_all, without}
 use Rattle.raft_model.proofs.Moving.{reads_told}
 use Rattle.raft_model.proofs.Tests.{at_bool, eq_tells}
 use Rattle.cluster_rules.specs.Cluster.{Cluster, no_node, node_of, runs_leading}
 use Rattle.cluster_rules.specs.Reached.{IsBegun, Makes, Move, Reached, at_start, by_advancing, by_event, by_handing, by_settling, by_taking}
+use Rattle.cluster_rules.specs.Sound.{IsAmong}
 use Rattle.cluster_rules.specs.Step.{ClusterStep, received}
 use Rattle.cluster_rules.proofs.Tools.{both, is_node, is_place, item_other, item_same, length_set_server, there_or_none}
-use Rattle.serving_rules.specs.Serving.{AreServing}
+use Rattle.serving_rules.specs.Serving.{AreServing, Serves}
 use Rattle.rerun_rules.specs.Leading.{Election, OnlyDelivered}
-use Rattle.rerun_rules.proofs.Ahead.{IsAhead, IsWell, call_fails, vote_saved}
-use Rattle.rerun_rules.proofs.Bags.{each_numbered, without_then}
+use Rattle.rerun_rules.proofs.Ahead.{IsAhead, IsFirsts, IsWell, StaysAhead, acts_ahead, call_fails, vote_saved}
+use Rattle.rerun_rules.proofs.Bags.{among_left, among_without, each_numbered, without_then}
 use Rattle.rerun_rules.proofs.Beginning.{empty_foremost, runs_on, start_ahead}
-use Rattle.rerun_rules.proofs.Canvass.{Canvass, IsAsk, IsBallot, IsGrant, ask_came, canvass_begins, grant_came, none_left, packet_of, posted_is}
+use Rattle.rerun_rules.proofs.Canvass.{Canvass, IsAsk, IsBallot, IsGrant, ask_came, canvass_begins, few, few_bytes, grant_came, none_left, packet_of, posted_is}
 use Rattle.rerun_rules.proofs.Rested.{start_length}
-use Rattle.rerun_rules.proofs.Serving.{may_serve, run_ahead, same_ahead, step_since}
+use Rattle.rerun_rules.proofs.Serving.{run_ahead}
 use Rattle.rerun_rules.proofs.Taking.{TakesTo, step_loses, step_takes}
+use Rattle.rerun_rules.proofs.Winning.{HasRoom, IsAppend, Wins, all_behind, all_posted_in, done_led, numbered_then}
 use Rattle.rerun_rules.proofs.Voting.{Asks, Counts, Grants, IsOpen, IsShort, done_alone, done_asks, done_counts, done_grants, standing_short}
 
 -- With a reliable store and with memory a step works.
@@ -38,9 +41,13 @@ step_works Forgets old input new sent (v, c, g, e, s) w r = absurd (r refl)
 abbrev CanvassOf : World → List Packet → Type 0
 CanvassOf w ps = Canvass (length w.nodes) (node_of w) w.bag.last ps
 
+-- each other server holds server 1 for leader, or will, since an Append to it is still to come
+abbrev IsHeard : World → List Packet → Type 0
+IsHeard w ps = (j : ℕ) → 1 < j → j ≤ length w.nodes → ((p : Packet) × IsAmong p ps × (p.to ≡ j) × IsAppend p.message) ⊎ ((node_of w j).leader ≡ Some 1)
+
 -- server 1 leads, or it canvasses
 abbrev Elects : World → List Packet → Type 0
-Elects w ps = ((node_of w 1).role ≡ Leader) ⊎ CanvassOf w ps
+Elects w ps = (((node_of w 1).role ≡ Leader) × IsHeard w ps) ⊎ CanvassOf w ps
 
 -- what a step of one server makes of the world
 module _ (w : World) (i : ℕ) (input : Input) (w' : World) (ahead : IsAhead w) (a : NodeActs w i input w') (r : a.outcome ≢ Forgets) where
@@ -92,11 +99,11 @@ module _ (w : World) (k : ℕ) (p : Packet) (w' : World) (ahead : IsAhead w) (c 
 
   grant_delivered : IsGrant (length w.nodes) p → Elects w' (without k w'.bag.packets)
   grant_delivered grant = elim counts [
-    | inl l ↦ inl (ap (λ (n : Node). n.role) now_first ∙ l)
+    | inl l ↦ inl (ap (λ (n : Node). n.role) now_first ∙ l.role, heard l)
     | inr q ↦ inr (subst (λ n. Canvass n (node_of w') w'.bag.last (without k w'.bag.packets)) (sym (count w p.to _ w' ahead a r))
         (subst (λ (b : Bag). Canvass (length w.nodes) (node_of w') b.last (without k b.packets)) (sym (bag_then w p.to _ w' ahead a r ∙ ap (λ (s : List Sent). posted_all p.to s w.bag) q.sent))
         (grant_came (length w.nodes) w.bag.last (node_of w) (node_of w') k w.bag.packets p c e grant
-        (subst (IsShort (length w.nodes)) (sym now_first) (record { role = q.short.role; term = q.short.term; servers_are = q.short.servers_are; itself = q.short.itself; short = q.short.short }))
+        (subst (IsShort (length w.nodes)) (sym now_first) (record { role = q.short.role; term = q.short.term; id = q.short.id; servers_are = q.short.servers_are; log = q.short.log; itself = q.short.itself; short = q.short.short }))
         (ap (λ (n : Node). n.votes) now_first ∙ q.votes ∙ ap (λ (n : Node). with_voter n.votes p.from) (sym was_first))
         (λ j d. others w p.to _ w' ahead a r j (λ z. d (z ∙ grant.2))))))
   ]
@@ -107,14 +114,70 @@ module _ (w : World) (k : ℕ) (p : Packet) (w' : World) (ahead : IsAhead w) (c 
       now_first : node_of w' 1 ≡ record (done a.old (Receive p.from p.message)).node { store = a.new.store }
       now_first = ap (node_of w') (sym grant.2) ∙ now w p.to _ w' ahead a r
 
-      counts : ((done a.old (Receive p.from p.message)).node.role ≡ Leader) ⊎ Counts (length w.nodes) p.from a.old (done a.old (Receive p.from p.message))
-      counts = subst (λ m. ((done a.old (Receive p.from m)).node.role ≡ Leader) ⊎ Counts (length w.nodes) p.from a.old (done a.old (Receive p.from m))) (sym grant.3)
+      counts : Wins (length w.nodes) (done a.old (Receive p.from p.message)) ⊎ Counts (length w.nodes) p.from a.old (done a.old (Receive p.from p.message))
+      counts = subst (λ m. Wins (length w.nodes) (done a.old (Receive p.from m)) ⊎ Counts (length w.nodes) p.from a.old (done a.old (Receive p.from m))) (sym grant.3)
           (done_counts (length w.nodes) p.from a.old (well w p.to _ w' ahead a r).runs (subst (IsShort (length w.nodes)) was_first c.first))
+
+      -- the bag has room for the calls of a new leader
+      room : Wins (length w.nodes) (done a.old (Receive p.from p.message)) → HasRoom w.bag (length (done a.old (Receive p.from p.message)).sent)
+      room l =
+          let n = few w.bag.packets in let b = few_bytes (length w.nodes) w.bag.packets c.ballots in let s = c.small in let f = l.few in let g = c.servers_few in
+          record { count = omega arith; bytes = omega arith; numbers = omega arith }
+
+      heard : Wins (length w.nodes) (done a.old (Receive p.from p.message)) → IsHeard w' (without k w'.bag.packets)
+      heard l j x y =
+          let call = l.calls j x (omega (arith, count w p.to _ w' ahead a r)) in
+          let q = all_posted_in p.to (done a.old (Receive p.from p.message)).sent w.bag l.small (room l) call.0 call.1 in
+          let behind = all_behind p.to (done a.old (Receive p.from p.message)).sent w.bag in
+          let there : numbered k w'.bag.packets ≡ Some p = ap (λ (z : Bag). numbered k z.packets) (bag_then w p.to _ w' ahead a r) ∙ ap (numbered k) behind.are ∙ numbered_then k w.bag.packets behind.more p e in
+          let among : IsAmong q.0 w'.bag.packets = subst (λ (z : Bag). IsAmong q.0 z.packets) (sym (bag_then w p.to _ w' ahead a r)) q.1 in
+          inl (elim (among_without k w'.bag.packets p q.0 there among) [
+            | inl same ↦ absurd (subst IsAppend (sym q.3 ∙ ap (λ (z : Packet). z.message) same ∙ grant.3) call.3)
+            | inr m ↦ (q.0, m, q.2 ∙ call.2, subst IsAppend (sym q.3) call.3)
+          ])
 
   delivered : Elects w' (without k w'.bag.packets)
   delivered = elim (each_numbered (IsBallot (length w.nodes)) k w.bag.packets p e c.ballots) [ inl ask ↦ inr (ask_delivered ask) | inr grant ↦ grant_delivered grant ]
 
-event_delivered : (w : World) (k : ℕ) (w' : World) → IsAhead w → CanvassOf w w.bag.packets → TakesTo w (event.Deliver k) w' → Elects w' (without k w'.bag.packets)
+-- A delivery while server 1 leads.
+append_led : (w : World) (j from : ℕ) (m : Message) (w' : World) → IsAhead w → (a : NodeActs w j (Receive from m) w') → a.outcome ≢ Forgets → j ≢ 1 → IsFirsts (node_of w 1) from m → IsAppend m → (node_of w' j).leader ≡ Some 1
+append_led w j from (Append term prev prev_term entries commit round) w' ahead a r d f is =
+    let p = place w j _ w' ahead a r in
+    let q = ahead.follow j p.0 p.1 d in
+    let same = was w j _ w' ahead a r in
+    ap (λ (n : Node). n.leader) (now w j _ w' ahead a r)
+    ∙ done_led a.old from term prev prev_term entries commit round (well w j _ w' ahead a r).runs (ap (λ (n : Node). n.role) (sym same) ∙ q.0) (let k = ap (λ (n : Node). n.term) same in let l = q.1 in let t = f.1 in omega arith)
+    ∙ ap (λ z. Some z) f.0
+append_led w j from (AskVote term last_index last_term) w' ahead a r d f is = absurd is
+append_led w j from (Vote term granted) w' ahead a r d f is = absurd is
+append_led w j from (Yes term matched round) w' ahead a r d f is = absurd is
+append_led w j from (No term last) w' ahead a r d f is = absurd is
+
+leading_delivered : (w : World) (k : ℕ) (p : Packet) (w' : World) → IsAhead w → (node_of w 1).role ≡ Leader → IsHeard w w.bag.packets → numbered k w.bag.packets ≡ Some p → (a : NodeActs w p.to (Receive p.from p.message) w') → a.outcome ≢ Forgets → Elects w' (without k w'.bag.packets)
+leading_delivered w k p w' ahead lead heard e a r = inl ((x.on lead).0, λ j u v. one j u (omega (arith, x.count)) (heard j u (omega (arith, x.count))))
+  where
+    firsts : IsFirsts (node_of w 1) p.from p.message
+    firsts = each_numbered (λ (z : Packet). IsFirsts (node_of w 1) z.from z.message) k w.bag.packets p e ahead.appends
+
+    x : StaysAhead w w'
+    x = acts_ahead w p.to (Receive p.from p.message) w' a (each_numbered (λ (z : Packet). term_of z.message ≤ (node_of w 1).term) k w.bag.packets p e ahead.told, firsts) ahead
+
+    one : (j : ℕ) → 1 < j → j ≤ length w.nodes → ((q : Packet) × IsAmong q w.bag.packets × (q.to ≡ j) × IsAppend q.message) ⊎ ((node_of w j).leader ≡ Some 1) → ((q : Packet) × IsAmong q (without k w'.bag.packets) × (q.to ≡ j) × IsAppend q.message) ⊎ ((node_of w' j).leader ≡ Some 1)
+    one j u v (inr l) = inr (x.holds j (omega arith) v (λ z. omega arith) l)
+    one j u v (inl q) = elim (among_without k w.bag.packets p q.0 e q.1) [
+      | inl same ↦ inr (ap (λ z. (node_of w' z).leader) (sym q.2 ∙ ap (λ (z : Packet). z.to) same)
+          ∙ append_led w p.to p.from p.message w' ahead a r (λ z. let t = ap (λ (z : Packet). z.to) same in let s = q.2 in omega arith) firsts (subst (λ (z : Packet). IsAppend z.message) same q.3))
+      | inr m ↦
+          let behind = all_behind p.to (done a.old (Receive p.from p.message)).sent w.bag in
+          let are : without k w'.bag.packets ≡ without k w.bag.packets ++ behind.more = ap (λ (z : Bag). without k z.packets) (bag_then w p.to _ w' ahead a r) ∙ ap (without k) behind.are ∙ without_then k w.bag.packets behind.more p e in
+          inl (q.0, subst (IsAmong q.0) (sym are) (among_left q.0 (without k w.bag.packets) behind.more m), q.2, q.3)
+    ]
+
+any_delivered : (w : World) (k : ℕ) (p : Packet) (w' : World) → IsAhead w → Elects w w.bag.packets → numbered k w.bag.packets ≡ Some p → (a : NodeActs w p.to (Receive p.from p.message) w') → a.outcome ≢ Forgets → Elects w' (without k w'.bag.packets)
+any_delivered w k p w' ahead (inl l) e a r = leading_delivered w k p w' ahead l.0 l.1 e a r
+any_delivered w k p w' ahead (inr c) e a r = delivered w k p w' ahead c e a r
+
+event_delivered : (w : World) (k : ℕ) (w' : World) → IsAhead w → Elects w w.bag.packets → TakesTo w (event.Deliver k) w' → Elects w' (without k w'.bag.packets)
 event_delivered w k w' ahead c t = by (numbered k w.bag.packets) refl t.given
   where
     by : (o : Option Packet) → numbered k w.bag.packets ≡ o → received t.server o ≡ Some t.input → Elects w' (without k w'.bag.packets)
@@ -123,7 +186,7 @@ event_delivered w k w' ahead c t = by (numbered k w.bag.packets) refl t.given
         (λ _ q g. let same : Receive p.from p.message ≡ t.input = cc g in
         subst (λ z. (a : NodeActs w t.server z w') → a.outcome ≢ Forgets → Elects w' (without k w'.bag.packets)) same
         (subst (λ z. (a : NodeActs w z (Receive p.from p.message) w') → a.outcome ≢ Forgets → Elects w' (without k w'.bag.packets)) (eq_tells p.to t.server q)
-        (λ a r. delivered w k p w' ahead c n a r)) t.acts t.remembers)
+        (λ a r. any_delivered w k p w' ahead c n a r)) t.acts t.remembers)
         (λ _ _ g. cc g) refl g
 
 -- Server 1 stands for election at the beginning.
@@ -152,8 +215,8 @@ module _ (ss : List Store) (w w' : World) (begins : Begins ss w) (none : AreEmpt
       silence = ap (λ (n : Node). (done n Timeout).sent) (old_is ∙ ap (λ z. begun 1 z (node_of w 1).store nothing_kept) one) ∙ done_alone (node_of w 1).store
 
   stood : Elects w' w'.bag.packets
-  stood = elim (subst (λ n. ((done n Timeout).node.role ≡ Leader) ⊎ Asks (length ss) (node_of w 1).store (done n Timeout)) (sym old_is) (done_asks (length ss) (node_of w 1).store some)) [
-    | inl l ↦ inl (ap (λ (n : Node). n.role) (now w 1 Timeout w' ahead a r) ∙ l)
+  stood = elim (subst (λ n. ((length ss ≡ 1) × ((done n Timeout).node.role ≡ Leader)) ⊎ Asks (length ss) (node_of w 1).store (done n Timeout)) (sym old_is) (done_asks (length ss) (node_of w 1).store some)) [
+    | inl l ↦ inl (ap (λ (n : Node). n.role) (now w 1 Timeout w' ahead a r) ∙ l.1, λ j u v. absurd (let one = l.0 in let n = count w 1 Timeout w' ahead a r in omega (arith, all)))
     | inr q ↦ inr (subst (λ n. Canvass n (node_of w') w'.bag.last w'.bag.packets) (sym (count w 1 Timeout w' ahead a r ∙ all))
         (canvass_begins (length ss) (node_of w') few
         (subst (IsShort (length ss)) (sym (now w 1 Timeout w' ahead a r ∙ ap (λ (n : Node). record n { store = a.new.store }) q.node)) (standing_short (length ss) a.new.store q.some))
@@ -205,13 +268,8 @@ record Runs (moves : List Move) (w : World) : Type 0 where
   pub settled : OnlyDelivered moves → Elects w w.bag.packets
   pub between : (k : ℕ) (before : List Move) → moves ≡ Makes (event.Deliver k) ∷ before → OnlyDelivered before → Elects w (without k w.bag.packets)
 
--- who leads, leads on
-leads_then : (c c' : Cluster) (made : Event) (whole : Bool) (before : List Move) → ClusterStep c made c' whole → AreServing (Makes made ∷ before) → IsAhead c.world → (node_of c.world 1).role ≡ Leader → (node_of c'.world 1).role ≡ Leader
-leads_then c c' made whole before step s ahead l = ((step_since c.world c c' made whole step (may_serve made before s.0) (same_ahead c.world ahead)).on l).0
-
-then_delivered : (c c' : Cluster) (k : ℕ) (whole : Bool) (before : List Move) → ClusterStep c (event.Deliver k) c' whole → whole ≡ true → AreServing (Makes (event.Deliver k) ∷ before) → IsAhead c.world → Elects c.world c.world.bag.packets → Elects c'.world (without k c'.world.bag.packets)
-then_delivered c c' k whole before step t s ahead (inl l) = inl (leads_then c c' (event.Deliver k) whole before step s ahead l)
-then_delivered c c' k whole before step t s ahead (inr x) = event_delivered c.world k c'.world ahead x (step_takes c c' (event.Deliver k) whole tt t step)
+then_delivered : (c c' : Cluster) (k : ℕ) (whole : Bool) → ClusterStep c (event.Deliver k) c' whole → whole ≡ true → IsAhead c.world → Elects c.world c.world.bag.packets → Elects c'.world (without k c'.world.bag.packets)
+then_delivered c c' k whole step t ahead x = event_delivered c.world k c'.world ahead x (step_takes c c' (event.Deliver k) whole tt t step)
 
 then_event : (ss : List Store) (start c c' : Cluster) (made : Event) (whole whole' : Bool) (before : List Move) → IsBegun ss start → AreEmpty ss → Reached start whole before c → ClusterStep c made c' whole' → whole' ≡ true → AreServing (Makes made ∷ before) → IsAhead c.world → Runs before c.world →
     OnlyDelivered (Makes made ∷ before) → Elects c'.world c'.world.bag.packets
@@ -233,7 +291,7 @@ elects ss start b none a whole moves c (by_event {whole = w} {moves = ms} {c = c
       between = λ k before e o.
           let made_is : made ≡ event.Deliver k = cc e in
           let rest_is : ms ≡ before = cc e in
-          then_delivered c₀ c k all ms (subst (λ m. ClusterStep c₀ m c all) made_is step) q.1 (tt, s.1) ahead (x.settled (subst OnlyDelivered (sym rest_is) o));
+          then_delivered c₀ c k all (subst (λ m. ClusterStep c₀ m c all) made_is step) q.1 ahead (x.settled (subst OnlyDelivered (sym rest_is) o));
     }
 elects ss start b none a whole moves c (by_taking number out before after r is there) t s = record { settled = λ o. absurd o; between = λ k before e o. cc e }
 elects ss start b none a whole moves c (by_handing {whole = w} {moves = ms} {c = c₀} out before after r is there) t s = elects ss start b none a w ms c₀ r t s
@@ -241,16 +299,35 @@ elects ss start b none a whole moves c (by_settling {whole = w} {moves = ms} {c 
     let x = elects ss start b none a w ms c₀ r t s.1 in record { settled = λ o. x.settled o; between = λ k before e o. cc e }
 elects ss start b none a whole moves c (by_advancing ms made r ends) t s = absurd s.0
 
-pub is_elected : (e : Election) → runs_leading e.cluster.world 1 ≡ true
-is_elected e =
-    let s = e.serves in
-    let start = start_ahead e.size.stores s.start s.begins e.sure (empty_foremost e.size.stores e.are_empty) in
-    let ahead = run_ahead s.start s.whole s.moves e.cluster s.reached s.serving start in
-    runs_on e.cluster.world ahead (elim ((elects e.size.stores s.start s.begins e.are_empty start s.whole s.moves e.cluster s.reached e.whole s.serving).settled e.delivered) [
-      | inl l ↦ l
-      | inr x ↦ absurd (none_left (length e.cluster.world.nodes) (node_of e.cluster.world) e.cluster.world.bag.last (some x.first.role) (subst (CanvassOf e.cluster.world) e.settled x))
-    ])
+-- An election at rest: server 1 leads, and each other server holds it for leader.
+pub record AtRest (w : World) : Type 0 where
+  pub ahead : IsAhead w
+  pub role : (node_of w 1).role ≡ Leader
+  pub held : (j : ℕ) → 1 < j → j ≤ length w.nodes → (node_of w j).leader ≡ Some 1
+
+pub at_rest : (e : Election) → AtRest e.cluster.world
+at_rest e = by ((elects e.size.stores s.start s.begins e.are_empty start s.whole s.moves e.cluster s.reached e.whole s.serving).settled e.delivered)
   where
+    s : Serves e.size e.cluster
+    s = e.serves
+
+    start : IsAhead s.start.world
+    start = start_ahead e.size.stores s.start s.begins e.sure (empty_foremost e.size.stores e.are_empty)
+
     -- a candidate is there
     some : (node_of e.cluster.world 1).role ≡ Candidate → 0 < length e.cluster.world.nodes
     some q = elim (there_or_none e.cluster.world 1) [ inl n ↦ absurd (let k = ap (λ (z : Node). z.role) n in cc (k, q)) | inr at ↦ (is_place e.cluster.world 1 (node_of e.cluster.world 1) at).1 ]
+
+    by : Elects e.cluster.world e.cluster.world.bag.packets → AtRest e.cluster.world
+    by (inl l) = record {
+      ahead = run_ahead s.start s.whole s.moves e.cluster s.reached s.serving start;
+      role = l.0;
+      held = λ j u v. elim (subst (λ (ps : List Packet). IsHeard e.cluster.world ps) e.settled l.1 j u v) [ inl x ↦ absurd x.1 | inr k ↦ k ];
+    }
+    by (inr x) = absurd (none_left (length e.cluster.world.nodes) (node_of e.cluster.world) e.cluster.world.bag.last (some x.first.role) (subst (CanvassOf e.cluster.world) e.settled x))
+
+pub is_elected : (e : Election) → runs_leading e.cluster.world 1 ≡ true
+is_elected e = let x = at_rest e in runs_on e.cluster.world x.ahead x.role
+
+pub is_held : (e : Election) (j : ℕ) → 1 < j → j ≤ length e.cluster.world.nodes → (node_of e.cluster.world j).leader ≡ Some 1
+is_held e j u v = (at_rest e).held j u v

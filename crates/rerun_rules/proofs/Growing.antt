@@ -18,7 +18,7 @@ use Rattle.raft_model.proofs.Tests.{at_bool, lt_tells}
 abbrev pub Grown : Log → Log → Type 0
 Grown old new = (new ≡ old) ⊎ ((e : Entry) × (new ≡ old ++ e ∷ []))
 
-appended_log : (n : Node) (e : Entry) → (appended n e).log ≡ n.log ++ e ∷ []
+pub appended_log : (n : Node) (e : Entry) → (appended n e).log ≡ n.log ++ e ∷ []
 appended_log n e = at_bool (λ c. (cond c (record n { log = n.log ++ e ∷ []; commit = length (n.log ++ e ∷ []) }) (record n { log = n.log ++ e ∷ [] })).log ≡ n.log ++ e ∷ []) (n.servers == 1) (λ _. refl) (λ _. refl)
 
 leads_grown : (n : Node) → Grown n.log (leads n).node.log

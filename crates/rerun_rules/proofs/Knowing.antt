@@ -167,7 +167,7 @@ accepts_term n from prev es commit round = at_bool (λ b. (cond b (quiet (follow
     (reply (record (follows n from) { log = accepted n.log prev es; commit = max n.commit (min commit (prev + length es)) }) from (Yes n.term (prev + length es) round))).node.term ≡ n.term)
     (is_refused n (accepted n.log prev es)) (λ _. refl) (λ _. refl)
 
-offered_knows : (n : Node) (r : Role) (from prev pt : ℕ) (es : Log) (commit round : ℕ) → r ≡ Follower → ((offered n r from prev pt es commit round).node.leader ≡ Some from) × ((offered n r from prev pt es commit round).node.term ≡ n.term)
+pub offered_knows : (n : Node) (r : Role) (from prev pt : ℕ) (es : Log) (commit round : ℕ) → r ≡ Follower → ((offered n r from prev pt es commit round).node.leader ≡ Some from) × ((offered n r from prev pt es commit round).node.term ≡ n.term)
 unfolding offered
 offered_knows n Leader from prev pt es commit round e = cc
 offered_knows n Candidate from prev pt es commit round e = cc

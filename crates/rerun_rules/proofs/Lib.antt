@@ -10,6 +10,7 @@ pub mod Serving
 pub mod Beginning
 pub mod Left
 pub mod Finding
+pub mod Winning
 pub mod Voting
 pub mod Canvass
 pub mod Taking

@@ -14,6 +14,7 @@ use Rattle.raft_model.specs.World.{nothing_kept}
 use Rattle.raft_model.proofs.Tests.{at_bool, eq_tells, lt_tells, lt_tells_not, no_bool, or_left}
 use Rattle.cluster_rules.proofs.Tools.{eq_self, eq_tells_not, one_of}
 use Rattle.rerun_rules.proofs.Steady.{appended_role}
+use Rattle.rerun_rules.proofs.Winning.{Wins, leads_wins}
 
 -- A server that has an empty log, and in term 1 voted for nobody but server 1.
 pub record IsOpen (n : Node) : Type 0 where
@@ -57,7 +58,9 @@ done_grants n up o = at_bool (λ c. n.halted ≡ c → Grants (cond c (quiet n) 
 pub record IsShort (servers : ℕ) (n : Node) : Type 0 where
   pub role : n.role ≡ Candidate
   pub term : n.term ≡ 1
+  pub id : n.id ≡ 1
   pub servers_are : n.servers ≡ servers
+  pub log : n.log ≡ []
   pub itself : members n.votes 1 ≡ true
   pub short : is_majority servers (members n.votes) ≡ false
 
@@ -98,37 +101,37 @@ voter_before vs from p e = at_bool (λ b. members (cond b vs (vs ++ from ∷ [])
 pub voter_now : (vs : List ℕ) (from : ℕ) → members (with_voter vs from) from ≡ true
 voter_now vs from = at_bool (λ b. members vs from ≡ b → members (cond b vs (vs ++ from ∷ [])) from ≡ true) (members vs from) (λ _ e. e) (λ _ _. members_last vs from) refl
 
-counted_counts : (servers from : ℕ) (n : Node) → IsShort servers n → ((counted (record n { votes = with_voter n.votes from })).node.role ≡ Leader) ⊎ Counts servers from n (counted (record n { votes = with_voter n.votes from }))
+counted_counts : (servers from : ℕ) (n : Node) → IsShort servers n → Wins servers (counted (record n { votes = with_voter n.votes from })) ⊎ Counts servers from n (counted (record n { votes = with_voter n.votes from }))
 unfolding counted
 counted_counts servers from n s =
     let m : Node = record n { votes = with_voter n.votes from } in
-    at_bool (λ b. is_majority n.servers (members (with_voter n.votes from)) ≡ b → ((cond b (leads m) (quiet m)).node.role ≡ Leader) ⊎ Counts servers from n (cond b (leads m) (quiet m))) (is_majority n.servers (members (with_voter n.votes from)))
-    (λ _ _. inl (leads_role m))
+    at_bool (λ b. is_majority n.servers (members (with_voter n.votes from)) ≡ b → Wins servers (cond b (leads m) (quiet m)) ⊎ Counts servers from n (cond b (leads m) (quiet m))) (is_majority n.servers (members (with_voter n.votes from)))
+    (λ _ _. inl (leads_wins servers m s.id s.servers_are s.log))
     (λ _ e. inr (record {
-      short = record { role = s.role; term = s.term; servers_are = s.servers_are; itself = voter_before n.votes from 1 s.itself; short = subst (λ z. is_majority z (members (with_voter n.votes from)) ≡ false) s.servers_are e };
+      short = record { role = s.role; term = s.term; id = s.id; servers_are = s.servers_are; log = s.log; itself = voter_before n.votes from 1 s.itself; short = subst (λ z. is_majority z (members (with_voter n.votes from)) ≡ false) s.servers_are e };
       votes = refl;
       sent = refl;
     })) refl
 
-voted_counts : (servers from : ℕ) (n : Node) (r : Role) → r ≡ Candidate → IsShort servers n → ((voted n from true r).node.role ≡ Leader) ⊎ Counts servers from n (voted n from true r)
+voted_counts : (servers from : ℕ) (n : Node) (r : Role) → r ≡ Candidate → IsShort servers n → Wins servers (voted n from true r) ⊎ Counts servers from n (voted n from true r)
 unfolding voted
 voted_counts servers from n Candidate e s = counted_counts servers from n s
 voted_counts servers from n Follower e s = cc e
 voted_counts servers from n Leader e s = cc e
 
-received_counts : (servers from : ℕ) (n : Node) → IsShort servers n → ((received n from (Vote 1 true)).node.role ≡ Leader) ⊎ Counts servers from n (received n from (Vote 1 true))
+received_counts : (servers from : ℕ) (n : Node) → IsShort servers n → Wins servers (received n from (Vote 1 true)) ⊎ Counts servers from n (received n from (Vote 1 true))
 unfolding received of_own_term
 received_counts servers from n s =
-    at_bool (λ c. nat_lt 1 n.term ≡ c → ((cond c (of_lower_term n from (Vote 1 true)) (voted (risen n 1) from true (risen n 1).role)).node.role ≡ Leader) ⊎ Counts servers from n (cond c (of_lower_term n from (Vote 1 true)) (voted (risen n 1) from true (risen n 1).role))) (nat_lt 1 n.term)
+    at_bool (λ c. nat_lt 1 n.term ≡ c → Wins servers (cond c (of_lower_term n from (Vote 1 true)) (voted (risen n 1) from true (risen n 1).role)) ⊎ Counts servers from n (cond c (of_lower_term n from (Vote 1 true)) (voted (risen n 1) from true (risen n 1).role))) (nat_lt 1 n.term)
     (λ _ e. absurd (let l = lt_tells 1 n.term e in let k = s.term in omega arith))
     (λ _ _. let up : Node = record n { term = 1; vote = None; role = Follower; leader = None } in
-    at_bool (λ b. nat_lt n.term 1 ≡ b → ((voted (cond b up n) from true (cond b up n).role).node.role ≡ Leader) ⊎ Counts servers from n (voted (cond b up n) from true (cond b up n).role)) (nat_lt n.term 1)
+    at_bool (λ b. nat_lt n.term 1 ≡ b → Wins servers (voted (cond b up n) from true (cond b up n).role) ⊎ Counts servers from n (voted (cond b up n) from true (cond b up n).role)) (nat_lt n.term 1)
     (λ _ e. absurd (let l = lt_tells n.term 1 e in let k = s.term in omega arith))
     (λ _ _. voted_counts servers from n n.role s.role s) refl) refl
 
-pub done_counts : (servers from : ℕ) (n : Node) → n.halted ≡ false → IsShort servers n → ((done n (Receive from (Vote 1 true))).node.role ≡ Leader) ⊎ Counts servers from n (done n (Receive from (Vote 1 true)))
+pub done_counts : (servers from : ℕ) (n : Node) → n.halted ≡ false → IsShort servers n → Wins servers (done n (Receive from (Vote 1 true))) ⊎ Counts servers from n (done n (Receive from (Vote 1 true)))
 unfolding done does
-done_counts servers from n up s = at_bool (λ c. n.halted ≡ c → ((cond c (quiet n) (received n from (Vote 1 true))).node.role ≡ Leader) ⊎ Counts servers from n (cond c (quiet n) (received n from (Vote 1 true)))) n.halted
+done_counts servers from n up s = at_bool (λ c. n.halted ≡ c → Wins servers (cond c (quiet n) (received n from (Vote 1 true))) ⊎ Counts servers from n (cond c (quiet n) (received n from (Vote 1 true)))) n.halted
     (λ _ e. absurd (no_bool n.halted e up)) (λ _ _. received_counts servers from n s) refl
 
 -- who has all votes has those of a majority
@@ -155,7 +158,7 @@ abbrev pub standing : ℕ → Store → Node
 standing servers store = stands (begun 1 servers store nothing_kept)
 
 pub standing_short : (servers : ℕ) (store : Store) → 1 < servers → IsShort servers (standing servers store)
-standing_short servers store l = record { role = refl; term = refl; servers_are = refl; itself = refl; short = one_short servers l }
+standing_short servers store l = record { role = refl; term = refl; id = refl; servers_are = refl; log = refl; itself = refl; short = one_short servers l }
 
 -- It asks all others, unless it leads alone.
 pub record Asks (servers : ℕ) (store : Store) (d : Done) : Type 0 where
@@ -163,12 +166,12 @@ pub record Asks (servers : ℕ) (store : Store) (d : Done) : Type 0 where
   pub node : d.node ≡ standing servers store
   pub sent : d.sent ≡ to_others 1 (λ peer. AskVote 1 0 0) servers
 
-pub done_asks : (servers : ℕ) (store : Store) → 0 < servers → ((done (begun 1 servers store nothing_kept) Timeout).node.role ≡ Leader) ⊎ Asks servers store (done (begun 1 servers store nothing_kept) Timeout)
+pub done_asks : (servers : ℕ) (store : Store) → 0 < servers → ((servers ≡ 1) × ((done (begun 1 servers store nothing_kept) Timeout).node.role ≡ Leader)) ⊎ Asks servers store (done (begun 1 servers store nothing_kept) Timeout)
 unfolding done does timed_out candidate
 done_asks servers store l =
     let m : Node = standing servers store in
-    at_bool (λ b. (servers == 1) ≡ b → ((cond b (leads m) (ask_all m)).node.role ≡ Leader) ⊎ Asks servers store (cond b (leads m) (ask_all m))) (servers == 1)
-    (λ _ _. inl (leads_role m)) (λ _ e. inr (record { some = let k = eq_tells_not servers 1 e in omega arith; node = refl; sent = refl })) refl
+    at_bool (λ b. (servers == 1) ≡ b → ((servers ≡ 1) × ((cond b (leads m) (ask_all m)).node.role ≡ Leader)) ⊎ Asks servers store (cond b (leads m) (ask_all m))) (servers == 1)
+    (λ _ e. inl (eq_tells servers 1 e, leads_role m)) (λ _ e. inr (record { some = let k = eq_tells_not servers 1 e in omega arith; node = refl; sent = refl })) refl
 
 pub done_alone : (store : Store) → (done (begun 1 1 store nothing_kept) Timeout).sent ≡ []
 unfolding done does timed_out candidate leads

@@ -1,6 +1,6 @@
 //! Who leads in a cluster that serves over durable stores that fail no call: server 1, and nobody else.
 
-ghost use Rattle.std.specs.Prelude.{◌≡◌, ◌≢◌, ◌⊎◌, ℕ, Bool, List, None, true};
+ghost use Rattle.std.specs.Prelude.{◌≡◌, ◌≢◌, ◌<◌, ◌≤◌, ◌⊎◌, ℕ, Bool, List, None, Some, length, true};
 ghost use Rattle.cat_model.specs.declared.reply.Kind.TheVariants.{Refused};
 ghost use Rattle.cat_model.specs.declared.reply.Mark.TheVariants.{Answered};
 ghost use Rattle.cat_model.specs.declared.reply.Refusal.{Refusal};
@@ -53,8 +53,17 @@ pub fn nothing_is_lost()
 {}
 
 /// Over empty stores server 1 leads once nothing is on its way any more, where every event was whole and nothing was
-/// done behind its timeout but deliveries, each followed by that message's loss. There are such runs.
+/// done behind its timeout but deliveries, each followed by that message's loss; and all others hold it for leader.
+/// There are such runs.
 pub fn the_first_server_is_elected()
     ensures elected { (e : Election) → runs_leading e.cluster.world 1 ≡ true }
+    ensures known { (e : Election) (server : ℕ) → 1 < server → server ≤ length e.cluster.world.nodes →
+        (node_of e.cluster.world server).leader ≡ Some 1 }
     ensures possible { Election }
+{}
+
+/// From then on each request finds it, whichever server it asks.
+pub fn requests_find_the_elected()
+    ensures { (e : Election) (c : Cluster) (s : Serves e.size c) → WasAt e.cluster s.reached →
+        (asked : ℕ) → 0 < asked → asked ≤ length e.cluster.world.nodes → FindsLeader c.world asked }
 {}

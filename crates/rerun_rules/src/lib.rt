@@ -12,9 +12,9 @@
 //! nobody halts and nobody but server 1 ever stands for election or leads; once it leads it leads for ever, in the
 //! same term, and requests find it from each server that has heard of it. No request is refused because a server
 //! halted or lost its leadership. Empty stores are such, and so are those that such a cluster leaves. Over empty
-//! stores server 1 is elected: it leads once nothing is on its way any more, where every event was whole and nothing
-//! was done behind its timeout but deliveries, each followed by that message's loss; and there are such runs. Carried
-//! by: `leading::*`.
+//! stores server 1 is elected: once nothing is on its way any more it leads, and requests find it from each server
+//! then and for ever after, where every event was whole and nothing was done behind its timeout but deliveries, each
+//! followed by that message's loss; and there are such runs. Carried by: `leading::*`.
 #![tactic(auto)]
 
 pub mod laws;
