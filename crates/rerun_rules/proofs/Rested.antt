@@ -87,7 +87,7 @@ fits_all servers id h (s ∷ ss) (o ∷ old) (n ∷ ns) a b f zero m d e l =
 fits_all servers id h (s ∷ ss) (o ∷ old) (n ∷ ns) a b f (suc j) m d e l =
     fits_all servers (suc id) h ss old ns a.1 b.1 (λ j m d e l. f (suc j) m d (omega arith) (omega arith)) j m d (omega arith) (omega arith)
 
-start_length : (servers id : ℕ) (ss : List Store) (ns : List Node) → StartAll servers id ss ns → length ns ≡ length ss
+pub start_length : (servers id : ℕ) (ss : List Store) (ns : List Node) → StartAll servers id ss ns → length ns ≡ length ss
 start_length servers id [] [] a = refl
 start_length servers id [] (n ∷ ns) a = absurd a
 start_length servers id (s ∷ ss) [] a = absurd a

@@ -1,4 +1,5 @@
-//! Runs over the stores that an earlier run left: `laws` says what the later one has of it.
+//! Runs over the stores that an earlier run left, and who leads in a cluster that serves: `laws` says what a later run
+//! has of the earlier one, and `leading` that server 1 leads and nobody else.
 //!
 //! # What is proved
 //!
@@ -6,6 +7,15 @@
 //! run acknowledged stands at its position in the later one's agreed log once that is so long; a ready leader of
 //! the later run has committed, and where nothing is due applied, all that the earlier run agreed. Carried by:
 //! `laws::*`.
+//!
+//! In a cluster that serves over durable stores that fail no call, none of which holds a higher term than server 1's,
+//! nobody halts and nobody but server 1 ever stands for election or leads; once it leads it leads for ever, in the
+//! same term, and requests find it from each server that has heard of it. No request is refused because a server
+//! halted or lost its leadership. Empty stores are such, and so are those that such a cluster leaves. Over empty
+//! stores server 1 is elected: once nothing is on its way any more it leads, and requests find it from each server
+//! then and for ever after, where every event was whole and nothing was done behind its timeout but deliveries, each
+//! followed by that message's loss; and there are such runs. Carried by: `leading::*`.
 #![tactic(auto)]
 
 pub mod laws;
+pub mod leading;

@@ -1,0 +1,69 @@
+//! Who leads in a cluster that serves over durable stores that fail no call: server 1, and nobody else.
+
+ghost use Rattle.std.specs.Prelude.{◌≡◌, ◌≢◌, ◌<◌, ◌≤◌, ◌⊎◌, ℕ, Bool, List, None, Some, length, true};
+ghost use Rattle.cat_model.specs.declared.reply.Kind.TheVariants.{Refused};
+ghost use Rattle.cat_model.specs.declared.reply.Mark.TheVariants.{Answered};
+ghost use Rattle.cat_model.specs.declared.reply.Refusal.{Refusal};
+ghost use Rattle.cluster_rules.specs.Cluster.{Cluster, node_of, runs_leading};
+ghost use Rattle.cluster_rules.specs.Reached.{AreSure, MayBegin};
+ghost use Rattle.cluster_rules.specs.Sound.{IsAmong};
+ghost use Rattle.raft_model.specs.Node.{Store};
+ghost use Rattle.raft_model.specs.World.{AreEmpty, HoldAll};
+ghost use Rattle.rerun_rules.specs.Leading.{CameBad, Election, FindsLeader, IsForemost, OnlyFirstLeads, TellsLoss, WasAt};
+ghost use Rattle.serving_rules.specs.Serving.{Serves, Size};
+
+/// Empty stores hold no term that is above server 1's.
+pub fn empty_stores_are_foremost()
+    ensures { (stores : List Store) → AreEmpty stores → IsForemost stores }
+{}
+
+/// Nor do the stores that a cluster leaves that served over such ones, so the same holds of the next run over them.
+pub fn stores_left_are_foremost()
+    ensures { (size : Size) (c : Cluster) (stores : List Store) → AreSure size.stores → IsForemost size.stores →
+        MayBegin size.stores → Serves size c → HoldAll stores c.world.nodes → IsForemost stores }
+{}
+
+/// Nobody but server 1 ever stands for election or leads, and nobody halts.
+pub fn nobody_else_leads()
+    ensures { (size : Size) (c : Cluster) → AreSure size.stores → IsForemost size.stores → Serves size c →
+        OnlyFirstLeads c.world }
+{}
+
+/// Where server 1 led at any time of the run, it leads still, in the same term.
+pub fn a_leader_stays()
+    ensures { (size : Size) (c earlier : Cluster) (s : Serves size c) → AreSure size.stores → IsForemost size.stores →
+        WasAt earlier s.reached → runs_leading earlier.world 1 ≡ true →
+        (runs_leading c.world 1 ≡ true) × ((node_of c.world 1).term ≡ (node_of earlier.world 1).term) }
+{}
+
+/// Where server 1 led at any time of the run, a request that asks server 1 now, or a server that held one for leader
+/// then, goes to server 1, or if it may be stale it stays where it asked.
+pub fn requests_find_the_leader()
+    ensures { (size : Size) (c earlier : Cluster) (s : Serves size c) → AreSure size.stores → IsForemost size.stores →
+        WasAt earlier s.reached → runs_leading earlier.world 1 ≡ true →
+        (asked : ℕ) → (asked ≡ 1) ⊎ ((node_of earlier.world asked).leader ≢ None) → FindsLeader c.world asked }
+{}
+
+/// No request is refused because a server halted or lost its leadership, unless it came as none, with just that
+/// refusal.
+pub fn nothing_is_lost()
+    ensures { (size : Size) (c : Cluster) → AreSure size.stores → IsForemost size.stores → Serves size c →
+        (number : ℕ) (why : Refusal) (known : Bool) (contact : ℕ) →
+        IsAmong (Answered number (Refused why) known contact) c.past → TellsLoss why → CameBad number why c.past }
+{}
+
+/// Over empty stores server 1 leads once nothing is on its way any more, where every event was whole and nothing was
+/// done behind its timeout but deliveries, each followed by that message's loss; and all others hold it for leader.
+/// There are such runs.
+pub fn the_first_server_is_elected()
+    ensures elected { (e : Election) → runs_leading e.cluster.world 1 ≡ true }
+    ensures known { (e : Election) (server : ℕ) → 1 < server → server ≤ length e.cluster.world.nodes →
+        (node_of e.cluster.world server).leader ≡ Some 1 }
+    ensures possible { Election }
+{}
+
+/// From then on each request finds it, whichever server it asks.
+pub fn requests_find_the_elected()
+    ensures { (e : Election) (c : Cluster) (s : Serves e.size c) → WasAt e.cluster s.reached →
+        (asked : ℕ) → 0 < asked → asked ≤ length e.cluster.world.nodes → FindsLeader c.world asked }
+{}
