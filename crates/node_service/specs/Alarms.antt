@@ -46,7 +46,8 @@ is_known (Some leader) server = leader == server
 
 -- an Append of the host's term by the leader that it knows
 abbrev pub is_from_leader : Hosted → Frame → Bool
-is_from_leader h (Peer sender (Append term prev_index prev_term entries commit round)) = (term == h.node.term) && is_known h.node.leader sender
+is_from_leader h (Peer sender (Append term prev_index prev_term entries commit round)) =
+    (term == h.node.term) && is_known h.node.leader sender
 is_from_leader h other = false
 
 -- The election timeout begins anew with each word of the leader.

@@ -28,7 +28,8 @@ Says (Err faults.Memory) answer = ⊥
 -- refused. Other frames change nothing and have no answer.
 abbrev pub IsAnswered : Hosted → Frame → Option Frame → Hosted → Type 0
 IsAnswered old (Peer sender message) answer new = Makes Steps old (Receive sender message) new × (answer ≡ None)
-IsAnswered old (Propose command) answer new = (end : Result Place ProposeFault) × Answers old command new end × Says end answer
+IsAnswered old (Propose command) answer new =
+    (end : Result Place ProposeFault) × Answers old command new end × Says end answer
 IsAnswered old Status answer new = (new ≡ old) × (answer ≡ None)
 IsAnswered old (Placed index term) answer new = (new ≡ old) × (answer ≡ None)
 IsAnswered old (Refused why) answer new = (new ≡ old) × (answer ≡ None)

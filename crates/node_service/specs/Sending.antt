@@ -17,7 +17,8 @@ use Rattle.node_service.specs.Dialers.{DialerState, append_took, brought}
 
 -- A frame holds at most 64 entries, and of their commands as many bytes as a log may have.
 abbrev pub has_frame : Message → Bool
-has_frame (Append term prev_index prev_term entries commit round) = nat_le (length entries) 64 && nat_le (entries_bytes entries) 67108864
+has_frame (Append term prev_index prev_term entries commit round) =
+    nat_le (length entries) 64 && nat_le (entries_bytes entries) 67108864
 has_frame (AskVote term last_index last_term) = true
 has_frame (Vote term granted) = true
 has_frame (Yes term matched round) = true
@@ -31,7 +32,9 @@ port_of ports (suc server) = slice_get ports server
 -- A message as its frame, for the port of its server. One without a port, or that no frame holds, is lost.
 abbrev pub piece_of : ℕ → List ℕ → Sent → Option Piece
 piece_of sender ports m =
-    if has_frame m.message then option_map (λ port. record { port = port; bytes = frame_bytes (Peer sender m.message) }) (port_of ports m.to) else None
+    if has_frame m.message
+    then option_map (λ port. record { port = port; bytes = frame_bytes (Peer sender m.message) }) (port_of ports m.to)
+    else None
 
 -- the pieces of what a host has to send, in order
 abbrev pub pieces_of : List ℕ → Hosted → List Piece

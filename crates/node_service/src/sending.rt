@@ -111,8 +111,8 @@ fn send_each<D: Dialer>(
     first_and_others(one, others)
 }
 
-/// Takes all messages out of the outbox, and brings each as its frame to the port of its server: of server 1 the first of
-/// `ports`, and so on. A message whose sending fails is lost, as a network may lose it; the dialer counts that.
+/// Takes all messages out of the outbox, and brings each as its frame to the port of its server: that of server 1 is the
+/// first of `ports`, and so on. A message whose sending fails is lost, as a network may lose it; the dialer counts that.
 pub fn send_all<K: Keeper + Drop, D: Dialer>(
     host: &mut Host<K>,
     alloc: Global,
