@@ -29,9 +29,8 @@ pub fn answer<K: Keeper + Drop>(
             Ok(None)
         }
         Frame::Propose { command } => propose(host, alloc, command.share()?),
-        Frame::Status | Frame::Placed { .. } | Frame::Refused { .. } | Frame::State { .. } => Ok(
-            None,
-        ),
+        Frame::Status => Ok(None),
+        Frame::Placed { .. } | Frame::Refused { .. } | Frame::State { .. } => Ok(None),
     }
 }
 
