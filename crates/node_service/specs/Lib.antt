@@ -1,0 +1,4 @@
+pub mod Answering
+pub mod Alarms
+pub mod Dialers
+pub mod Sending

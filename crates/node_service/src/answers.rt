@@ -1,0 +1,54 @@
+//! What a host answers to the frames that came to it.
+
+ghost use Rattle.std.specs.Prelude.{◌≡◌, IfOk, OnErr};
+ghost use Rattle.peer_frames.specs.Spelling.{Accepts};
+ghost use Rattle.peer_frames.specs.declared.frame.Frame.TheVariants as frames;
+ghost use Rattle.node_service.specs.Answering.{AnswersFrame, IsAnswered, peers_of};
+
+use cat_model::{Command, Memory, Shared};
+use cat_outside::Keeper;
+use node_link::Host;
+use peer_frames::{Frame, Why};
+use raft_model::Place;
+use raft_node::ProposeFault;
+use std::alloc::Global;
+
+/// Answers a frame that the host's reader accepted. A peer's message has no answer here: what the node says to it waits
+/// in the outbox, as does what a proposal sends.
+pub fn answer<K: Keeper + Drop>(
+    host: &mut Host<K>,
+    alloc: Global,
+    frame: &Frame,
+) -> Result<Option<Frame>, Memory>
+    requires { Accepts (peers_of host.old) frame.now }
+    ensures { AnswersFrame host.old frame.now result host.new }
+{
+    match frame {
+        Frame::Peer { sender, message } => {
+            host.receive(alloc, *sender, message)?;
+            Ok(None)
+        }
+        Frame::Propose { command } => propose(host, alloc, command.share()?),
+        Frame::Status => Ok(None),
+        Frame::Placed { .. } | Frame::Refused { .. } | Frame::State { .. } => Ok(None),
+    }
+}
+
+// The place of the command's entry, or why there is none.
+fn propose<K: Keeper + Drop>(
+    host: &mut Host<K>,
+    alloc: Global,
+    command: Shared<Command>,
+) -> Result<Option<Frame>, Memory>
+    ensures answered { IfOk result (λ answer. IsAnswered host.old (frames.Propose command) answer host.new) }
+    ensures memory { OnErr result (host.new ≡ host.old) }
+{
+    let why = match host.propose(alloc, command) {
+        Ok(Place { index, term }) => return Ok(Some(Frame::Placed { index, term })),
+        Err(ProposeFault::NotLeader) => Why::NotLeader,
+        Err(ProposeFault::Full) => Why::Full,
+        Err(ProposeFault::Halted) => Why::Halted,
+        Err(ProposeFault::Memory) => return Err(Memory),
+    };
+    Ok(Some(Frame::Refused { why }))
+}
