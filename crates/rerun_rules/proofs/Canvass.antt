@@ -26,11 +26,11 @@ IsGrant servers p = (1 < p.from) × (p.from ≤ servers) × (p.to ≡ 1) × (p.m
 abbrev pub IsBallot : ℕ → Packet → Type 0
 IsBallot servers p = IsAsk servers p ⊎ IsGrant servers p
 
--- What comes of a message at most: an AskVote makes a Vote.
+-- What comes of a message at most: an AskVote makes a Vote, and an Append a Yes.
 abbrev pub worth_of : Message → ℕ
 worth_of (AskVote term last_index last_term) = 2
 worth_of (Vote term granted) = 1
-worth_of (Append term prev prev_term entries commit round) = 1
+worth_of (Append term prev prev_term entries commit round) = 2
 worth_of (Yes term matched round) = 1
 worth_of (No term last) = 1
 
@@ -57,11 +57,11 @@ pub few_bytes : (servers : ℕ) (ps : List Packet) → Each (IsBallot servers) p
 few_bytes servers [] a = refl
 few_bytes servers (p ∷ ps) a = let k = few_bytes servers ps a.1 in let l = small_ballot servers p a.0 in omega arith
 
-worth_append : (ps qs : List Packet) → worth (ps ++ qs) ≡ worth ps + worth qs
+pub worth_append : (ps qs : List Packet) → worth (ps ++ qs) ≡ worth ps + worth qs
 worth_append [] qs = omega arith
 worth_append (p ∷ ps) qs = let k = worth_append ps qs in omega arith
 
-worth_without : (k : ℕ) (ps : List Packet) (p : Packet) → numbered k ps ≡ Some p → worth ps ≡ worth_of p.message + worth (without k ps)
+pub worth_without : (k : ℕ) (ps : List Packet) (p : Packet) → numbered k ps ≡ Some p → worth ps ≡ worth_of p.message + worth (without k ps)
 worth_without k [] p e = cc e
 worth_without k (x ∷ ps) p e = at_bool (λ b. cond b (Some x) (numbered k ps) ≡ Some p → worth_of x.message + worth ps ≡ worth_of p.message + worth (cond b ps (x ∷ without k ps))) (x.number == k)
     (λ _ e. let same : x ≡ p = cc e in ap (λ (z : Packet). worth_of z.message + worth ps) same) (λ _ e. let q = worth_without k ps p e in omega arith) e

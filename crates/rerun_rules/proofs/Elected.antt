@@ -3,13 +3,13 @@ use Rattle.std.proofs.Common.{◌≡◌, ◌≢◌, ℕ, zero, suc, ◌+◌, ◌
 use Rattle.std.specs.Prelude.{◌==◌}
 use Rattle.cat_model.specs.declared.request.Event.{Event}
 use Rattle.cat_model.specs.declared.request.Event.TheVariants as event
-use Rattle.cat_model.specs.declared.reply.Role.TheVariants.{Candidate, Leader}
+use Rattle.cat_model.specs.declared.reply.Role.TheVariants.{Follower, Leader}
 use Rattle.raft_model.specs.declared.message.Message.{Message}
 use Rattle.raft_model.specs.declared.message.Message.TheVariants.{Append, AskVote, No, Vote, Yes}
 use Rattle.raft_model.specs.declared.message.Sent.{Sent}
-use Rattle.raft_model.specs.Node.{Kept, Node, Store, begun, to_others}
-use Rattle.raft_model.specs.Rules.{Input, Receive, Timeout, done, term_of, with_voter}
-use Rattle.raft_model.specs.Step.{Forgets, LogFails, NodeStep, Outcome, VoteFails, Works}
+use Rattle.raft_model.specs.Node.{Kept, Node, Store, begun, of_server, to_others}
+use Rattle.raft_model.specs.Rules.{Receive, Timeout, done, term_of, with_voter}
+use Rattle.raft_model.specs.Step.{Forgets}
 use Rattle.raft_model.specs.World.{Acts as NodeActs, AreEmpty, Bag, Begins, Drops, Packet, StartAll, World, WorldStep, nothing_kept, numbered, posted_all, without}
 use Rattle.raft_model.proofs.Moving.{reads_told}
 use Rattle.raft_model.proofs.Tests.{at_bool, eq_tells}
@@ -17,25 +17,22 @@ use Rattle.cluster_rules.specs.Cluster.{Cluster, no_node, node_of, runs_leading}
 use Rattle.cluster_rules.specs.Reached.{IsBegun, Makes, Move, Reached, at_start, by_advancing, by_event, by_handing, by_settling, by_taking}
 use Rattle.cluster_rules.specs.Sound.{IsAmong}
 use Rattle.cluster_rules.specs.Step.{ClusterStep, received}
-use Rattle.cluster_rules.proofs.Tools.{both, is_node, is_place, item_other, item_same, length_set_server, there_or_none}
+use Rattle.cluster_rules.proofs.Tools.{both, each_map, is_place, there_or_none}
 use Rattle.serving_rules.specs.Serving.{AreServing, Serves}
 use Rattle.rerun_rules.specs.Leading.{Election, OnlyDelivered}
-use Rattle.rerun_rules.proofs.Ahead.{IsAhead, IsFirsts, IsWell, StaysAhead, acts_ahead, call_fails, vote_saved}
-use Rattle.rerun_rules.proofs.Bags.{among_left, among_without, each_numbered, without_then}
+use Rattle.rerun_rules.proofs.Ahead.{IsAhead, IsFirsts, StaysAhead, acts_ahead}
+use Rattle.rerun_rules.proofs.Bags.{among_left, among_without, each_numbered, each_without, without_then}
 use Rattle.rerun_rules.proofs.Beginning.{empty_foremost, runs_on, start_ahead}
-use Rattle.rerun_rules.proofs.Canvass.{Canvass, IsAsk, IsBallot, IsGrant, ask_came, canvass_begins, few, few_bytes, grant_came, none_left, packet_of, posted_is}
+use Rattle.rerun_rules.proofs.Canvass.{Canvass, IsAsk, IsBallot, IsGrant, ask_came, canvass_begins, few, few_bytes, grant_came, none_left, packet_of, posted_is, worth_without}
 use Rattle.rerun_rules.proofs.Rested.{start_length}
 use Rattle.rerun_rules.proofs.Serving.{run_ahead}
+use Rattle.rerun_rules.proofs.Delivering.{ReignOf, reign_of, reign_on}
+use Rattle.rerun_rules.proofs.Reigning.{Calls, IsMail, Reign, calls, packets_of, posted_are, reign_begins}
+use Rattle.rerun_rules.proofs.Spreading.{Opens, Reigns, all_have, reigns_stored}
+use Rattle.rerun_rules.proofs.Stepping.{bag_then, count, now, others, place, was, well}
 use Rattle.rerun_rules.proofs.Taking.{TakesTo, step_loses, step_takes}
 use Rattle.rerun_rules.proofs.Winning.{HasRoom, IsAppend, Wins, all_behind, all_posted_in, done_led, numbered_then}
 use Rattle.rerun_rules.proofs.Voting.{Asks, Counts, Grants, IsOpen, IsShort, done_alone, done_asks, done_counts, done_grants, standing_short}
-
--- With a reliable store and with memory a step works.
-step_works : (o : Outcome) (old : Node) (input : Input) (new : Node) (sent : List Sent) → NodeStep o old input new sent → IsWell old → o ≢ Forgets → (new ≡ record (done old input).node { store = new.store }) × (sent ≡ (done old input).sent)
-step_works Works old input new sent (between, v, g, e, s) w r = (e, s)
-step_works VoteFails old input new sent (v, f, e, s) w r = absurd (call_fails _ old.store new.store f w.store)
-step_works LogFails old input new sent (between, v, g, f, e, s) w r = absurd (call_fails _ between new.store f (vote_saved old (done old input).node old.store between v w.store))
-step_works Forgets old input new sent (v, c, g, e, s) w r = absurd (r refl)
 
 -- The canvass in a world, with these messages still to come.
 abbrev CanvassOf : World → List Packet → Type 0
@@ -47,33 +44,7 @@ IsHeard w ps = (j : ℕ) → 1 < j → j ≤ length w.nodes → ((p : Packet) ×
 
 -- server 1 leads, or it canvasses
 abbrev Elects : World → List Packet → Type 0
-Elects w ps = (((node_of w 1).role ≡ Leader) × IsHeard w ps) ⊎ CanvassOf w ps
-
--- what a step of one server makes of the world
-module _ (w : World) (i : ℕ) (input : Input) (w' : World) (ahead : IsAhead w) (a : NodeActs w i input w') (r : a.outcome ≢ Forgets) where
-  place : (0 < i) × (i ≤ length w.nodes)
-  place = is_place w i a.old a.server
-
-  was : node_of w i ≡ a.old
-  was = is_node w i a.old a.server
-
-  well : IsWell a.old
-  well = subst IsWell was (ahead.well i place.0 place.1)
-
-  works : (a.new ≡ record (done a.old input).node { store = a.new.store }) × (a.sent ≡ (done a.old input).sent)
-  works = step_works a.outcome a.old input a.new a.sent a.step well r
-
-  now : node_of w' i ≡ record (done a.old input).node { store = a.new.store }
-  now = ap (λ (z : World). node_of z i) a.becomes ∙ item_same no_node w.nodes i a.new place.0 place.1 ∙ works.0
-
-  count : length w'.nodes ≡ length w.nodes
-  count = ap (λ (z : World). length z.nodes) a.becomes ∙ length_set_server w.nodes i a.new
-
-  others : (j : ℕ) → j ≢ i → node_of w' j ≡ node_of w j
-  others j d = ap (λ (z : World). node_of z j) a.becomes ∙ item_other no_node w.nodes i j a.new d
-
-  bag_then : w'.bag ≡ posted_all i (done a.old input).sent w.bag
-  bag_then = ap (λ (z : World). z.bag) a.becomes ∙ ap (λ (s : List Sent). posted_all i s w.bag) works.1
+Elects w ps = (IsHeard w ps × ReignOf w ps) ⊎ CanvassOf w ps
 
 -- A delivery.
 module _ (w : World) (k : ℕ) (p : Packet) (w' : World) (ahead : IsAhead w) (c : CanvassOf w w.bag.packets) (e : numbered k w.bag.packets ≡ Some p) (a : NodeActs w p.to (Receive p.from p.message) w') (r : a.outcome ≢ Forgets) where
@@ -99,11 +70,11 @@ module _ (w : World) (k : ℕ) (p : Packet) (w' : World) (ahead : IsAhead w) (c 
 
   grant_delivered : IsGrant (length w.nodes) p → Elects w' (without k w'.bag.packets)
   grant_delivered grant = elim counts [
-    | inl l ↦ inl (ap (λ (n : Node). n.role) now_first ∙ l.role, heard l)
+    | inl l ↦ inl (heard l, reign l)
     | inr q ↦ inr (subst (λ n. Canvass n (node_of w') w'.bag.last (without k w'.bag.packets)) (sym (count w p.to _ w' ahead a r))
         (subst (λ (b : Bag). Canvass (length w.nodes) (node_of w') b.last (without k b.packets)) (sym (bag_then w p.to _ w' ahead a r ∙ ap (λ (s : List Sent). posted_all p.to s w.bag) q.sent))
         (grant_came (length w.nodes) w.bag.last (node_of w) (node_of w') k w.bag.packets p c e grant
-        (subst (IsShort (length w.nodes)) (sym now_first) (record { role = q.short.role; term = q.short.term; id = q.short.id; servers_are = q.short.servers_are; log = q.short.log; itself = q.short.itself; short = q.short.short }))
+        (subst (IsShort (length w.nodes)) (sym now_first) (record { role = q.short.role; term = q.short.term; id = q.short.id; servers_are = q.short.servers_are; log = q.short.log; idle = q.short.idle; itself = q.short.itself; short = q.short.short }))
         (ap (λ (n : Node). n.votes) now_first ∙ q.votes ∙ ap (λ (n : Node). with_voter n.votes p.from) (sym was_first))
         (λ j d. others w p.to _ w' ahead a r j (λ z. d (z ∙ grant.2))))))
   ]
@@ -136,6 +107,25 @@ module _ (w : World) (k : ℕ) (p : Packet) (w' : World) (ahead : IsAhead w) (c 
             | inr m ↦ (q.0, m, q.2 ∙ call.2, subst IsAppend (sym q.3) call.3)
           ])
 
+      ballot_mail : (q : Packet) → IsBallot (length w.nodes) q → IsMail (length w.nodes) (node_of w') q
+      ballot_mail q (inl x) = inl x
+      ballot_mail q (inr x) = inr (inl (x.2, (true, x.3)))
+
+      -- its reign begins
+      reign : Wins (length w.nodes) (done a.old (Receive p.from p.message)) → ReignOf w' (without k w'.bag.packets)
+      reign l =
+          let d = done a.old (Receive p.from p.message) in
+          let first : Reigns (length w.nodes) (node_of w' 1) = subst (Reigns (length w.nodes)) (sym now_first) (reigns_stored (length w.nodes) d.node a.new.store l.opens.reigns) in
+          let next : (j : ℕ) → 1 < j → j ≤ length w.nodes → of_server (node_of w' 1).next j ≡ 1 = λ j u v. ap (λ (n : Node). of_server n.next j) now_first ∙ l.opens.next j u v in
+          let cs : Calls (length w.nodes) (node_of w') d.sent = subst (Calls (length w.nodes) (node_of w')) (sym l.opens.sent)
+          (calls (length w.nodes) (node_of w') (record d.node { store = a.new.store }) (sym now_first) first (λ j u v. inl (next j u v))) in
+          reign_of w' (length w.nodes) (w.bag.last + length d.sent) k p w.bag.packets (packets_of 1 w.bag.last d.sent) (count w p.to _ w' ahead a r)
+          (bag_then w p.to _ w' ahead a r ∙ ap (λ z. posted_all z d.sent w.bag) grant.2 ∙ posted_are 1 d.sent w.bag l.small (room l)) e
+          (reign_begins (length w.nodes) w.bag.last (node_of w') (without k w.bag.packets) d.sent first
+          (λ j u v. inl (ap (λ (n : Node). n.log) (others w p.to _ w' ahead a r j (λ z. let q = grant.2 in omega arith)) ∙ (c.unvoted j u v).log)) next
+          (each_map (IsBallot (length w.nodes)) (IsMail (length w.nodes) (node_of w')) ballot_mail (without k w.bag.packets) (each_without (IsBallot (length w.nodes)) k w.bag.packets c.ballots))
+          cs (let b = worth_without k w.bag.packets p e in let z = c.small in omega arith) c.servers_few)
+
   delivered : Elects w' (without k w'.bag.packets)
   delivered = elim (each_numbered (IsBallot (length w.nodes)) k w.bag.packets p e c.ballots) [ inl ask ↦ inr (ask_delivered ask) | inr grant ↦ grant_delivered grant ]
 
@@ -153,8 +143,8 @@ append_led w j from (Vote term granted) w' ahead a r d f is = absurd is
 append_led w j from (Yes term matched round) w' ahead a r d f is = absurd is
 append_led w j from (No term last) w' ahead a r d f is = absurd is
 
-leading_delivered : (w : World) (k : ℕ) (p : Packet) (w' : World) → IsAhead w → (node_of w 1).role ≡ Leader → IsHeard w w.bag.packets → numbered k w.bag.packets ≡ Some p → (a : NodeActs w p.to (Receive p.from p.message) w') → a.outcome ≢ Forgets → Elects w' (without k w'.bag.packets)
-leading_delivered w k p w' ahead lead heard e a r = inl ((x.on lead).0, λ j u v. one j u (omega (arith, x.count)) (heard j u (omega (arith, x.count))))
+leading_delivered : (w : World) (k : ℕ) (p : Packet) (w' : World) → IsAhead w → ReignOf w w.bag.packets → IsHeard w w.bag.packets → numbered k w.bag.packets ≡ Some p → (a : NodeActs w p.to (Receive p.from p.message) w') → a.outcome ≢ Forgets → Elects w' (without k w'.bag.packets)
+leading_delivered w k p w' ahead reign heard e a r = inl (λ j u v. one j u (omega (arith, x.count)) (heard j u (omega (arith, x.count))), reign_on w k p w' ahead reign e a r)
   where
     firsts : IsFirsts (node_of w 1) p.from p.message
     firsts = each_numbered (λ (z : Packet). IsFirsts (node_of w 1) z.from z.message) k w.bag.packets p e ahead.appends
@@ -174,7 +164,7 @@ leading_delivered w k p w' ahead lead heard e a r = inl ((x.on lead).0, λ j u v
     ]
 
 any_delivered : (w : World) (k : ℕ) (p : Packet) (w' : World) → IsAhead w → Elects w w.bag.packets → numbered k w.bag.packets ≡ Some p → (a : NodeActs w p.to (Receive p.from p.message) w') → a.outcome ≢ Forgets → Elects w' (without k w'.bag.packets)
-any_delivered w k p w' ahead (inl l) e a r = leading_delivered w k p w' ahead l.0 l.1 e a r
+any_delivered w k p w' ahead (inl l) e a r = leading_delivered w k p w' ahead l.1 l.0 e a r
 any_delivered w k p w' ahead (inr c) e a r = delivered w k p w' ahead c e a r
 
 event_delivered : (w : World) (k : ℕ) (w' : World) → IsAhead w → Elects w w.bag.packets → TakesTo w (event.Deliver k) w' → Elects w' (without k w'.bag.packets)
@@ -208,15 +198,15 @@ module _ (ss : List Store) (w w' : World) (begins : Begins ss w) (none : AreEmpt
   old_is : a.old ≡ begun 1 (length ss) (node_of w 1).store nothing_kept
   old_is = sym (was w 1 Timeout w' ahead a r) ∙ fresh_node 0 (omega (arith, all))
 
+  silence : length ss ≡ 1 → (done a.old Timeout).sent ≡ []
+  silence one = ap (λ (n : Node). (done n Timeout).sent) (old_is ∙ ap (λ z. begun 1 z (node_of w 1).store nothing_kept) one) ∙ done_alone (node_of w 1).store
+
   alone : length ss ≡ 1 → w'.bag.packets ≡ []
-  alone one = ap (λ (b : Bag). b.packets) (bag_then w 1 Timeout w' ahead a r ∙ ap (λ (s : List Sent). posted_all 1 s w.bag) silence ∙ begins.bag)
-    where
-      silence : (done a.old Timeout).sent ≡ []
-      silence = ap (λ (n : Node). (done n Timeout).sent) (old_is ∙ ap (λ z. begun 1 z (node_of w 1).store nothing_kept) one) ∙ done_alone (node_of w 1).store
+  alone one = ap (λ (b : Bag). b.packets) (bag_then w 1 Timeout w' ahead a r ∙ ap (λ (s : List Sent). posted_all 1 s w.bag) (silence one) ∙ begins.bag)
 
   stood : Elects w' w'.bag.packets
-  stood = elim (subst (λ n. ((length ss ≡ 1) × ((done n Timeout).node.role ≡ Leader)) ⊎ Asks (length ss) (node_of w 1).store (done n Timeout)) (sym old_is) (done_asks (length ss) (node_of w 1).store some)) [
-    | inl l ↦ inl (ap (λ (n : Node). n.role) (now w 1 Timeout w' ahead a r) ∙ l.1, λ j u v. absurd (let one = l.0 in let n = count w 1 Timeout w' ahead a r in omega (arith, all)))
+  stood = elim (subst (λ n. ((length ss ≡ 1) × Opens (length ss) (done n Timeout)) ⊎ Asks (length ss) (node_of w 1).store (done n Timeout)) (sym old_is) (done_asks (length ss) (node_of w 1).store some)) [
+    | inl l ↦ inl (λ j u v. absurd (let one = l.0 in let n = count w 1 Timeout w' ahead a r in omega (arith, all)), reign_alone l.0 l.1)
     | inr q ↦ inr (subst (λ n. Canvass n (node_of w') w'.bag.last w'.bag.packets) (sym (count w 1 Timeout w' ahead a r ∙ all))
         (canvass_begins (length ss) (node_of w') few
         (subst (IsShort (length ss)) (sym (now w 1 Timeout w' ahead a r ∙ ap (λ (n : Node). record n { store = a.new.store }) q.node)) (standing_short (length ss) a.new.store q.some))
@@ -224,6 +214,16 @@ module _ (ss : List Store) (w w' : World) (begins : Begins ss w) (none : AreEmpt
         (bag_then w 1 Timeout w' ahead a r ∙ ap (λ (s : List Sent). posted_all 1 s w.bag) q.sent ∙ ap (posted_all 1 (to_others 1 (λ peer. AskVote 1 0 0) (length ss))) begins.bag)))
   ]
     where
+      -- a single server sends nothing
+      reign_alone : length ss ≡ 1 → Opens (length ss) (done a.old Timeout) → ReignOf w' w'.bag.packets
+      reign_alone one o =
+          let sent : (done a.old Timeout).sent ≡ [] = silence one in
+          subst (λ n. Reign n (node_of w') w'.bag.last w'.bag.packets) (sym (count w 1 Timeout w' ahead a r ∙ all))
+          (subst (λ (b : Bag). Reign (length ss) (node_of w') b.last b.packets) (sym (bag_then w 1 Timeout w' ahead a r ∙ ap (λ (s : List Sent). posted_all 1 s w.bag) sent ∙ begins.bag))
+          (reign_begins (length ss) 0 (node_of w') [] [] (subst (Reigns (length ss)) (sym (now w 1 Timeout w' ahead a r)) (reigns_stored (length ss) (done a.old Timeout).node a.new.store o.reigns))
+          (λ j u v. absurd (omega (arith, one))) (λ j u v. absurd (omega (arith, one))) tt
+          (record { small = tt; few = omega arith; mails = λ last. tt; all = λ last j u v. absurd (omega (arith, one)) }) (omega arith) few))
+
       unvoted : (j : ℕ) → 1 < j → j ≤ length ss → IsOpen (node_of w' j)
       unvoted zero l m = absurd (omega arith)
       unvoted (suc j) l m = subst IsOpen (sym (others w 1 Timeout w' ahead a r (suc j) (λ z. omega arith) ∙ fresh_node j (omega (arith, all)))) (record { log = refl; vote = inl refl })
@@ -304,6 +304,8 @@ pub record AtRest (w : World) : Type 0 where
   pub ahead : IsAhead w
   pub role : (node_of w 1).role ≡ Leader
   pub held : (j : ℕ) → 1 < j → j ≤ length w.nodes → (node_of w j).leader ≡ Some 1
+  pub reigns : Reigns (length w.nodes) (node_of w 1)
+  pub commit : (node_of w 1).commit ≡ 1
 
 pub at_rest : (e : Election) → AtRest e.cluster.world
 at_rest e = by ((elects e.size.stores s.start s.begins e.are_empty start s.whole s.moves e.cluster s.reached e.whole s.serving).settled e.delivered)
@@ -314,17 +316,20 @@ at_rest e = by ((elects e.size.stores s.start s.begins e.are_empty start s.whole
     start : IsAhead s.start.world
     start = start_ahead e.size.stores s.start s.begins e.sure (empty_foremost e.size.stores e.are_empty)
 
-    -- a candidate is there
-    some : (node_of e.cluster.world 1).role ≡ Candidate → 0 < length e.cluster.world.nodes
-    some q = elim (there_or_none e.cluster.world 1) [ inl n ↦ absurd (let k = ap (λ (z : Node). z.role) n in cc (k, q)) | inr at ↦ (is_place e.cluster.world 1 (node_of e.cluster.world 1) at).1 ]
+    -- who is no follower is there
+    some : (node_of e.cluster.world 1).role ≢ Follower → 0 < length e.cluster.world.nodes
+    some q = elim (there_or_none e.cluster.world 1) [ inl n ↦ absurd (q (ap (λ (z : Node). z.role) n)) | inr at ↦ (is_place e.cluster.world 1 (node_of e.cluster.world 1) at).1 ]
 
     by : Elects e.cluster.world e.cluster.world.bag.packets → AtRest e.cluster.world
     by (inl l) = record {
       ahead = run_ahead s.start s.whole s.moves e.cluster s.reached s.serving start;
-      role = l.0;
-      held = λ j u v. elim (subst (λ (ps : List Packet). IsHeard e.cluster.world ps) e.settled l.1 j u v) [ inl x ↦ absurd x.1 | inr k ↦ k ];
+      role = l.1.first.role;
+      held = λ j u v. elim (subst (λ (ps : List Packet). IsHeard e.cluster.world ps) e.settled l.0 j u v) [ inl x ↦ absurd x.1 | inr k ↦ k ];
+      reigns = l.1.first;
+      commit = all_have (length e.cluster.world.nodes) (node_of e.cluster.world 1) (some (λ f. let k = l.1.first.role in cc (f, k))) l.1.first
+          (λ j u v. elim (l.1.pending j u v) [ inl x ↦ absurd (subst (IsAmong x.0) e.settled x.1) | inr k ↦ k ]);
     }
-    by (inr x) = absurd (none_left (length e.cluster.world.nodes) (node_of e.cluster.world) e.cluster.world.bag.last (some x.first.role) (subst (CanvassOf e.cluster.world) e.settled x))
+    by (inr x) = absurd (none_left (length e.cluster.world.nodes) (node_of e.cluster.world) e.cluster.world.bag.last (some (λ f. let k = x.first.role in cc (f, k))) (subst (CanvassOf e.cluster.world) e.settled x))
 
 pub is_elected : (e : Election) → runs_leading e.cluster.world 1 ≡ true
 is_elected e = let x = at_rest e in runs_on e.cluster.world x.ahead x.role

@@ -18,3 +18,8 @@ pub mod Elected
 pub mod Alone
 pub mod Keeping
 pub mod Answering
+pub mod Spreading
+pub mod Reigning
+pub mod Stepping
+pub mod Delivering
+pub mod Ready

@@ -5,15 +5,14 @@ use Rattle.std.specs.Prelude.{nat_lt, ◌&&◌, ◌||◌, ◌==◌}
 use Rattle.cat_model.specs.declared.reply.Role.{Role}
 use Rattle.cat_model.specs.declared.reply.Role.TheVariants.{Candidate, Follower, Leader}
 use Rattle.raft_model.specs.declared.message.Message.TheVariants.{AskVote, Vote}
-use Rattle.raft_model.specs.Limits.{is_full}
 use Rattle.raft_model.specs.Log.{Log}
 use Rattle.raft_model.specs.Node.{Done, Node, Store, begun, quiet, reply, to_others}
-use Rattle.raft_model.specs.Quorum.{count, is_majority, members}
-use Rattle.raft_model.specs.Rules.{Receive, Timeout, appended, ask_all, asked, candidate, counted, does, done, is_up_to_date, leading, leads, may_vote, noop, of_lower_term, of_own_term, received, risen, stands, timed_out, voted, with_voter}
+use Rattle.raft_model.specs.Quorum.{Servers, count, is_majority, members}
+use Rattle.raft_model.specs.Rules.{Receive, Timeout, ask_all, asked, candidate, counted, does, done, is_up_to_date, leads, may_vote, of_lower_term, of_own_term, received, risen, stands, timed_out, voted, with_voter}
 use Rattle.raft_model.specs.World.{nothing_kept}
 use Rattle.raft_model.proofs.Tests.{at_bool, eq_tells, lt_tells, lt_tells_not, no_bool, or_left}
 use Rattle.cluster_rules.proofs.Tools.{eq_self, eq_tells_not, one_of}
-use Rattle.rerun_rules.proofs.Steady.{appended_role}
+use Rattle.rerun_rules.proofs.Spreading.{Opens, leads_opens}
 use Rattle.rerun_rules.proofs.Winning.{Wins, leads_wins}
 
 -- A server that has an empty log, and in term 1 voted for nobody but server 1.
@@ -61,6 +60,7 @@ pub record IsShort (servers : ℕ) (n : Node) : Type 0 where
   pub id : n.id ≡ 1
   pub servers_are : n.servers ≡ servers
   pub log : n.log ≡ []
+  pub idle : n.commit ≡ 0
   pub itself : members n.votes 1 ≡ true
   pub short : is_majority servers (members n.votes) ≡ false
 
@@ -70,9 +70,9 @@ pub record Counts (servers from : ℕ) (n : Node) (d : Done) : Type 0 where
   pub votes : d.node.votes ≡ with_voter n.votes from
   pub sent : d.sent ≡ []
 
-leads_role : (n : Node) → (leads n).node.role ≡ Leader
-unfolding leads
-leads_role n = at_bool (λ b. (cond b (leading n) (appended (leading n) (noop n.term))).role ≡ Leader) (is_full n.log) (λ _. refl) (λ _. appended_role (leading n) (noop n.term))
+some_majority : (servers : ℕ) (p : Servers) → is_majority servers p ≡ true → 0 < servers
+some_majority zero p e = cc e
+some_majority (suc n) p e = omega arith
 
 members_more : (vs : List ℕ) (from p : ℕ) → members vs p ≡ true → members (vs ++ from ∷ []) p ≡ true
 members_more [] from p e = cc e
@@ -106,9 +106,9 @@ unfolding counted
 counted_counts servers from n s =
     let m : Node = record n { votes = with_voter n.votes from } in
     at_bool (λ b. is_majority n.servers (members (with_voter n.votes from)) ≡ b → Wins servers (cond b (leads m) (quiet m)) ⊎ Counts servers from n (cond b (leads m) (quiet m))) (is_majority n.servers (members (with_voter n.votes from)))
-    (λ _ _. inl (leads_wins servers m s.id s.servers_are s.log))
+    (λ _ e. inl (leads_wins servers m (let k = some_majority n.servers (members (with_voter n.votes from)) e in let q = s.servers_are in omega arith) s.id s.servers_are s.term s.log s.idle))
     (λ _ e. inr (record {
-      short = record { role = s.role; term = s.term; id = s.id; servers_are = s.servers_are; log = s.log; itself = voter_before n.votes from 1 s.itself; short = subst (λ z. is_majority z (members (with_voter n.votes from)) ≡ false) s.servers_are e };
+      short = record { role = s.role; term = s.term; id = s.id; servers_are = s.servers_are; log = s.log; idle = s.idle; itself = voter_before n.votes from 1 s.itself; short = subst (λ z. is_majority z (members (with_voter n.votes from)) ≡ false) s.servers_are e };
       votes = refl;
       sent = refl;
     })) refl
@@ -158,7 +158,7 @@ abbrev pub standing : ℕ → Store → Node
 standing servers store = stands (begun 1 servers store nothing_kept)
 
 pub standing_short : (servers : ℕ) (store : Store) → 1 < servers → IsShort servers (standing servers store)
-standing_short servers store l = record { role = refl; term = refl; id = refl; servers_are = refl; log = refl; itself = refl; short = one_short servers l }
+standing_short servers store l = record { role = refl; term = refl; id = refl; servers_are = refl; log = refl; idle = refl; itself = refl; short = one_short servers l }
 
 -- It asks all others, unless it leads alone.
 pub record Asks (servers : ℕ) (store : Store) (d : Done) : Type 0 where
@@ -166,12 +166,12 @@ pub record Asks (servers : ℕ) (store : Store) (d : Done) : Type 0 where
   pub node : d.node ≡ standing servers store
   pub sent : d.sent ≡ to_others 1 (λ peer. AskVote 1 0 0) servers
 
-pub done_asks : (servers : ℕ) (store : Store) → 0 < servers → ((servers ≡ 1) × ((done (begun 1 servers store nothing_kept) Timeout).node.role ≡ Leader)) ⊎ Asks servers store (done (begun 1 servers store nothing_kept) Timeout)
+pub done_asks : (servers : ℕ) (store : Store) → 0 < servers → ((servers ≡ 1) × Opens servers (done (begun 1 servers store nothing_kept) Timeout)) ⊎ Asks servers store (done (begun 1 servers store nothing_kept) Timeout)
 unfolding done does timed_out candidate
 done_asks servers store l =
     let m : Node = standing servers store in
-    at_bool (λ b. (servers == 1) ≡ b → ((servers ≡ 1) × ((cond b (leads m) (ask_all m)).node.role ≡ Leader)) ⊎ Asks servers store (cond b (leads m) (ask_all m))) (servers == 1)
-    (λ _ e. inl (eq_tells servers 1 e, leads_role m)) (λ _ e. inr (record { some = let k = eq_tells_not servers 1 e in omega arith; node = refl; sent = refl })) refl
+    at_bool (λ b. (servers == 1) ≡ b → ((servers ≡ 1) × Opens servers (cond b (leads m) (ask_all m))) ⊎ Asks servers store (cond b (leads m) (ask_all m))) (servers == 1)
+    (λ _ e. inl (eq_tells servers 1 e, leads_opens servers m l refl refl refl refl refl)) (λ _ e. inr (record { some = let k = eq_tells_not servers 1 e in omega arith; node = refl; sent = refl })) refl
 
 pub done_alone : (store : Store) → (done (begun 1 1 store nothing_kept) Timeout).sent ≡ []
 unfolding done does timed_out candidate leads

@@ -5,8 +5,11 @@ ghost use Rattle.cat_model.specs.declared.reply.Kind.TheVariants.{Refused};
 ghost use Rattle.cat_model.specs.declared.reply.Mark.TheVariants.{Answered};
 ghost use Rattle.cat_model.specs.declared.reply.Refusal.{Refusal};
 ghost use Rattle.cluster_rules.specs.Cluster.{Cluster, node_of, runs_leading};
+ghost use Rattle.cluster_rules.specs.Due.{due};
 ghost use Rattle.cluster_rules.specs.Reached.{AreSure, MayBegin};
+ghost use Rattle.cluster_rules.specs.Requests.{is_ready};
 ghost use Rattle.cluster_rules.specs.Sound.{IsAmong};
+ghost use Rattle.raft_model.specs.Facts.{IsReady};
 ghost use Rattle.raft_model.specs.Node.{Store};
 ghost use Rattle.raft_model.specs.World.{AreEmpty, HoldAll};
 ghost use Rattle.rerun_rules.specs.Leading.{CameBad, Election, FindsLeader, IsForemost, OnlyFirstLeads, TellsLoss, WasAt};
@@ -66,4 +69,13 @@ pub fn the_first_server_is_elected()
 pub fn requests_find_the_elected()
     ensures { (e : Election) (c : Cluster) (s : Serves e.size c) → WasAt e.cluster s.reached →
         (asked : ℕ) → 0 < asked → asked ≤ length e.cluster.world.nodes → FindsLeader c.world asked }
+{}
+
+/// And server 1 is ready: it has committed an entry of its own term, and where nothing is due there it has applied one,
+/// so that it takes on what comes.
+pub fn the_elected_is_ready()
+    ensures committed { (e : Election) (c : Cluster) (s : Serves e.size c) → WasAt e.cluster s.reached →
+        IsReady (node_of c.world 1) }
+    ensures applied { (e : Election) (c : Cluster) (s : Serves e.size c) → WasAt e.cluster s.reached →
+        due 1 c ≡ None → is_ready c 1 ≡ true }
 {}
