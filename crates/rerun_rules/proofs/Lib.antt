@@ -23,3 +23,4 @@ pub mod Reigning
 pub mod Stepping
 pub mod Delivering
 pub mod Ready
+pub mod Unready

@@ -96,7 +96,7 @@ ready_by w r ahead lead k p l t = ((up, lead), some, own)
     own = agree_term (node_of w 1).commit (node_of w 1).commit (node_of w 1).log w.agreed (omega arith) (agrees w r 1 (node_of w 1) at).1 ∙ ap (λ z. term_at z w.agreed) commit_is ∙ last_is
 
 -- It stays ready.
-ready_on : (w w' : World) → IsReached w → IsReached w' → Reaches w w' → StaysAhead w w' → IsReady (node_of w 1) → IsServer w 1 (node_of w 1) → IsReady (node_of w' 1)
+pub ready_on : (w w' : World) → IsReached w → IsReached w' → Reaches w w' → StaysAhead w w' → IsReady (node_of w 1) → IsServer w 1 (node_of w 1) → IsReady (node_of w' 1)
 ready_on w w' r r' reaches x (lead, some, own) at =
     let o = x.on lead.1 in
     let a = agrees w r 1 (node_of w 1) at in
@@ -132,7 +132,7 @@ was_goes start whole moves c (by_advancing ms made r ends) w d (inl e) = same_on
 was_goes start whole moves c (by_advancing {whole = w₀} {moves = ms'} {c = c₀} ms made r ends) w d (inr x) = let b = was_goes start w₀ ms' c₀ r w d x in record { on = b.on; before = b.before; reached = b.reached }
 
 -- An election makes server 1 ready.
-elected_ready : (e : Election) → IsReady (node_of e.cluster.world 1)
+pub elected_ready : (e : Election) → IsReady (node_of e.cluster.world 1)
 elected_ready e =
     let x = at_rest e in
     let p = is_place e.cluster.world 1 (node_of e.cluster.world 1) (leader_there e.cluster.world 1 (runs_on e.cluster.world x.ahead x.role)) in

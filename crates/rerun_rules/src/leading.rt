@@ -3,6 +3,7 @@
 ghost use Rattle.std.specs.Prelude.{◌≡◌, ◌≢◌, ◌<◌, ◌≤◌, ◌⊎◌, ℕ, Bool, List, None, Some, length, true};
 ghost use Rattle.cat_model.specs.declared.reply.Kind.TheVariants.{Refused};
 ghost use Rattle.cat_model.specs.declared.reply.Mark.TheVariants.{Answered};
+ghost use Rattle.cat_model.specs.declared.reply.Refusal.TheVariants.{NotReady};
 ghost use Rattle.cat_model.specs.declared.reply.Refusal.{Refusal};
 ghost use Rattle.cluster_rules.specs.Cluster.{Cluster, node_of, runs_leading};
 ghost use Rattle.cluster_rules.specs.Due.{due};
@@ -71,11 +72,20 @@ pub fn requests_find_the_elected()
         (asked : ℕ) → 0 < asked → asked ≤ length e.cluster.world.nodes → FindsLeader c.world asked }
 {}
 
-/// And server 1 is ready: it has committed an entry of its own term, and where nothing is due there it has applied one,
-/// so that it takes on what comes.
+/// And server 1 is ready: it has committed an entry of its own term, and where nothing is due there it has applied one.
 pub fn the_elected_is_ready()
     ensures committed { (e : Election) (c : Cluster) (s : Serves e.size c) → WasAt e.cluster s.reached →
         IsReady (node_of c.world 1) }
     ensures applied { (e : Election) (c : Cluster) (s : Serves e.size c) → WasAt e.cluster s.reached →
         due 1 c ≡ None → is_ready c 1 ≡ true }
+{}
+
+/// So from then on no request is refused because its leader is not ready yet, unless it came as none, with just that
+/// refusal.
+pub fn nothing_finds_it_unready()
+    ensures { (e : Election) (c : Cluster) (s : Serves e.size c) → WasAt e.cluster s.reached →
+        (number term last : ℕ) (known : Bool) (contact : ℕ) →
+        IsAmong (Answered number (Refused (NotReady term last)) known contact) c.past →
+        IsAmong (Answered number (Refused (NotReady term last)) known contact) e.cluster.past
+        ⊎ CameBad number (NotReady term last) c.past }
 {}

@@ -15,7 +15,8 @@
 //! stores server 1 is elected: once nothing is on its way any more it leads, and requests find it from each server
 //! then and for ever after, where every event was whole and nothing was done behind its timeout but deliveries, each
 //! followed by that message's loss; and there are such runs. Then and for ever after it is ready: it has committed an
-//! entry of its own term, and where nothing is due there it has applied one. Carried by: `leading::*`.
+//! entry of its own term, and where nothing is due there it has applied one; and no request is refused because it is
+//! not. Carried by: `leading::*`.
 #![tactic(auto)]
 
 pub mod laws;
