@@ -54,7 +54,7 @@ module _ (w : World) (k : ℕ) (p : Packet) (w' : World) (ahead : IsAhead w) (x 
       (subst (λ (n : Node). IsBlank n.log) (sym now_is) blank) (λ h. subst Has (sym now_is) (has (subst Has (was w p.to _ w' ahead a r) h)))
       (others w p.to _ w' ahead a r) mail less (λ q. (refl, agrees q)) not_yes))
 
-  asked : IsAsk (length w.nodes) p → ReignOf w' (without k w'.bag.packets)
+  asked : IsAsk (length w.nodes) 1 [] p → ReignOf w' (without k w'.bag.packets)
   asked ask =
       let v : Votes a.old.log (done a.old (Receive p.from p.message)) =
       subst (λ f. Votes a.old.log (done a.old (Receive f p.message))) (sym ask.0) (subst (λ m. Votes a.old.log (done a.old (Receive 1 m))) (sym ask.3) (low_votes a.old (low ask.1 ask.2))) in

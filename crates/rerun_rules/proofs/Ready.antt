@@ -136,7 +136,7 @@ pub elected_ready : (e : Election) → IsReady (node_of e.cluster.world 1)
 elected_ready e =
     let x = at_rest e in
     let p = is_place e.cluster.world 1 (node_of e.cluster.world 1) (leader_there e.cluster.world 1 (runs_on e.cluster.world x.ahead x.role)) in
-    (((x.ahead.well 1 p.0 p.1).runs, x.role), let c = x.commit in omega arith, ap (λ z. term_at z (node_of e.cluster.world 1).log) x.commit ∙ ap (λ (z : Log). term_at 1 z) x.reigns.log ∙ sym x.reigns.term)
+    (((x.ahead.well 1 p.0 p.1).runs, x.role), let c = (x.committed refl refl).1 in omega arith, ap (λ z. term_at z (node_of e.cluster.world 1).log) (x.committed refl refl).1 ∙ ap (λ (z : Log). term_at 1 z) (x.committed refl refl).0.log ∙ sym (x.committed refl refl).0.term)
 
 pub stays_ready : (e : Election) (c : Cluster) (s : Serves e.size c) → WasAt e.cluster s.reached → IsReady (node_of c.world 1)
 stays_ready e c s was =

@@ -1,5 +1,5 @@
 -- Server 1 leads: each other server has its first entry, or will, as no message is lost.
-use Rattle.std.proofs.Common.{◌≡◌, ◌≢◌, ℕ, zero, suc, ◌+◌, ◌*◌, ◌-◌, ◌<◌, ◌≤◌, ◌⊎◌, inl, inr, Bool, cond, List, [], ◌∷◌, ◌++◌, length, drop, Some, refl, sym, ◌∙◌, ap, subst, arith}
+use Rattle.std.proofs.Common.{◌≡◌, ◌≢◌, ℕ, suc, ◌+◌, ◌*◌, ◌-◌, ◌<◌, ◌≤◌, ◌⊎◌, inl, inr, Bool, List, [], ◌∷◌, ◌++◌, length, drop, Some, refl, sym, ◌∙◌, ap, subst, arith}
 use Rattle.std.specs.Prelude.{◌==◌}
 use Rattle.std.specs.List.{AllByRecursion as Each}
 use Rattle.std.proofs.lemmas.List.{append_assoc}
@@ -17,7 +17,7 @@ use Rattle.cluster_rules.proofs.Tools.{each_append, each_map, eq_tells_not}
 use Rattle.rerun_rules.proofs.Bags.{among_last, among_left, among_without, each_without}
 use Rattle.rerun_rules.proofs.Canvass.{IsAsk, few, worth, worth_append, worth_of, worth_without}
 use Rattle.rerun_rules.proofs.Spreading.{IsBlank, Reigns, first_log}
-use Rattle.rerun_rules.proofs.Winning.{HasRoom, IsAppend, IsSmall, bag_takes_it, others_length, others_to}
+use Rattle.rerun_rules.proofs.Winning.{HasRoom, IsAppend, IsSmall, bag_takes_it, others_length, others_to, others_within}
 
 abbrev pub IsYes : Message → Type 0
 IsYes (Yes term matched round) = Unit {0}
@@ -34,7 +34,7 @@ IsCall n m = (commit : ℕ) × (round : ℕ) × ((m ≡ Append 1 0 0 first_log c
 -- What is on its way: an AskVote or a Vote of the election, an Append to a follower, or its Yes.
 abbrev pub IsMail : ℕ → (ℕ → Node) → Packet → Type 0
 IsMail servers nodes p =
-    IsAsk servers p
+    IsAsk servers 1 [] p
     ⊎ ((p.to ≡ 1) × ((granted : Bool) × (p.message ≡ Vote 1 granted)))
     ⊎ ((p.from ≡ 1) × (1 < p.to) × (p.to ≤ servers) × IsCall (nodes p.to) p.message)
     ⊎ ((p.to ≡ 1) × (1 < p.from) × (p.from ≤ servers) × Has (nodes p.from) × ((round : ℕ) × (p.message ≡ Yes 1 1 round)))
@@ -211,12 +211,6 @@ append_second t x log c r a b e =
 is_call : (servers : ℕ) (nodes : ℕ → Node) (j : ℕ) → Reigns servers (nodes 1) → NextIs nodes j → IsCall (nodes j) (append_to (nodes 1) j)
 is_call servers nodes j x (inl e) = ((nodes 1).commit, (nodes 1).round, inl (append_first (nodes 1).term (of_server (nodes 1).next j) (nodes 1).log (nodes 1).commit (nodes 1).round x.term e x.log))
 is_call servers nodes j x (inr e) = ((nodes 1).commit, (nodes 1).round, inr (append_second (nodes 1).term (of_server (nodes 1).next j) (nodes 1).log (nodes 1).commit (nodes 1).round x.term e.0 x.log, e.1))
-
-others_within : (P : Sent → Type 0) (servers : ℕ) (f : ℕ → Message) → ((j : ℕ) → 1 < j → j ≤ servers → P (record { to = j; message = f j })) → (k : ℕ) → k ≤ servers → Each P (to_others 1 f k)
-others_within P servers f x zero l = tt
-others_within P servers f x (suc k) l = at_bool (λ b. (suc k == 1) ≡ b → Each P (cond b (to_others 1 f k) (to_others 1 f k ++ record { to = suc k; message = f (suc k) } ∷ []))) (suc k == 1)
-    (λ _ _. others_within P servers f x k (omega arith))
-    (λ _ e. each_append P (to_others 1 f k) (record { to = suc k; message = f (suc k) } ∷ []) (others_within P servers f x k (omega arith)) (x (suc k) (let n = eq_tells_not (suc k) 1 e in omega arith) l, tt)) refl
 
 -- all that it sends
 pub record Calls (servers : ℕ) (nodes : ℕ → Node) (ss : List Sent) : Type 0 where

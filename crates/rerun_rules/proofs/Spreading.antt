@@ -273,7 +273,7 @@ pub record Opens (servers : ℕ) (d : Done) : Type 0 where
   pub next : (j : ℕ) → 1 < j → j ≤ servers → of_server d.node.next j ≡ 1
   pub sent : d.sent ≡ to_others 1 (append_to d.node) servers
 
-replicated : (n x j : ℕ) → 0 < j → j ≤ n → of_server (replicate n x) j ≡ x
+pub replicated : (n x j : ℕ) → 0 < j → j ≤ n → of_server (replicate n x) j ≡ x
 replicated n x zero p l = absurd (omega arith)
 replicated zero x (suc j) p l = absurd (omega arith)
 replicated (suc n) x (suc zero) p l = refl

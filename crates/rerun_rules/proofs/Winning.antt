@@ -1,5 +1,5 @@
 -- Who wins its election asks all others to follow, and no limit of the bag stops it.
-use Rattle.std.proofs.Common.{◌≡◌, ℕ, zero, suc, ◌+◌, ◌*◌, ◌-◌, ◌^◌, ◌<◌, ◌≤◌, ◌⊎◌, inl, inr, true, false, cond, List, [], ◌∷◌, ◌++◌, length, drop, Some, None, refl, sym, ◌∙◌, ap, subst, arith}
+use Rattle.std.proofs.Common.{◌≡◌, ℕ, zero, suc, ◌+◌, ◌*◌, ◌-◌, ◌^◌, ◌<◌, ◌≤◌, ◌⊎◌, inl, inr, true, false, cond, List, [], ◌∷◌, ◌++◌, length, drop, replicate, Some, None, refl, sym, ◌∙◌, ap, subst, arith}
 use Rattle.std.specs.Prelude.{nat_le, nat_lt, ◌&&◌, ◌==◌}
 use Rattle.std.specs.List.{AllByRecursion as Each}
 use Rattle.std.proofs.lemmas.List.{append_assoc, length-append}
@@ -19,7 +19,7 @@ use Rattle.cluster_rules.proofs.Tools.{each_append, eq_tells_not}
 use Rattle.rerun_rules.proofs.Bags.{among_last, among_left}
 use Rattle.rerun_rules.proofs.Growing.{appended_log}
 use Rattle.rerun_rules.proofs.Knowing.{offered_knows}
-use Rattle.rerun_rules.proofs.Spreading.{Opens, leads_opens}
+use Rattle.rerun_rules.proofs.Spreading.{Opens, leads_opens, replicated}
 use Rattle.rerun_rules.proofs.Steady.{appended_role}
 
 abbrev pub IsAppend : Message → Type 0
@@ -31,11 +31,6 @@ pub others_length : (f : ℕ → Message) (k : ℕ) → length (to_others 1 f k)
 others_length f zero = omega arith
 others_length f (suc k) = at_bool (λ b. length (cond b (to_others 1 f k) (to_others 1 f k ++ record { to = suc k; message = f (suc k) } ∷ [])) ≤ suc k) (suc k == 1)
     (λ _. let n = others_length f k in omega arith) (λ _. let n = others_length f k in omega (arith, length-append (to_others 1 f k) (record { to = suc k; message = f (suc k) } ∷ [])))
-
-others_each : (P : Sent → Type 0) (f : ℕ → Message) → ((p : ℕ) → P (record { to = p; message = f p })) → (k : ℕ) → Each P (to_others 1 f k)
-others_each P f x zero = tt
-others_each P f x (suc k) = at_bool (λ b. Each P (cond b (to_others 1 f k) (to_others 1 f k ++ record { to = suc k; message = f (suc k) } ∷ []))) (suc k == 1)
-    (λ _. others_each P f x k) (λ _. each_append P (to_others 1 f k) (record { to = suc k; message = f (suc k) } ∷ []) (others_each P f x k) (x (suc k), tt))
 
 pub others_to : (f : ℕ → Message) (j k : ℕ) → 1 < j → j ≤ k → IsAmong (record { to = j; message = f j }) (to_others 1 f k)
 others_to f j zero l m = absurd (omega arith)
@@ -49,35 +44,45 @@ others_to f j (suc k) l m = at_bool (λ b. (suc k == 1) ≡ b → IsAmong (recor
 abbrev pub IsSmall : Sent → Type 0
 IsSmall s = message_bytes s.message ≤ 1000
 
-pub record Wins (servers : ℕ) (d : Done) : Type 0 where
+pub record Wins (servers term : ℕ) (mine : Log) (d : Done) : Type 0 where
   pub role : d.node.role ≡ Leader
   pub calls : (j : ℕ) → 1 < j → j ≤ servers → (s : Sent) × IsAmong s d.sent × (s.to ≡ j) × IsAppend s.message
   pub small : Each IsSmall d.sent
   pub few : length d.sent ≤ servers
-  pub opens : Opens servers d
+  pub opens : term ≡ 1 → mine ≡ [] → Opens servers d
 
--- its log has a Noop at most
-small_batch : (prev term : ℕ) → 64 + entries_bytes (batch (drop prev (noop term ∷ []))) ≤ 1000
-small_batch zero term = omega arith
-small_batch (suc prev) term = small_none prev
+-- It sends the Noop, or nothing.
+drop_whole : (xs ys : Log) → drop (length xs) (xs ++ ys) ≡ ys
+drop_whole [] ys = refl
+drop_whole (x ∷ xs) ys = drop_whole xs ys
+
+pub others_within : (P : Sent → Type 0) (servers : ℕ) (f : ℕ → Message) → ((j : ℕ) → 1 < j → j ≤ servers → P (record { to = j; message = f j })) → (k : ℕ) → k ≤ servers → Each P (to_others 1 f k)
+others_within P servers f x zero l = tt
+others_within P servers f x (suc k) l = at_bool (λ b. (suc k == 1) ≡ b → Each P (cond b (to_others 1 f k) (to_others 1 f k ++ record { to = suc k; message = f (suc k) } ∷ []))) (suc k == 1)
+    (λ _ _. others_within P servers f x k (omega arith))
+    (λ _ e. each_append P (to_others 1 f k) (record { to = suc k; message = f (suc k) } ∷ []) (others_within P servers f x k (omega arith)) (x (suc k) (let n = eq_tells_not (suc k) 1 e in omega arith) l, tt)) refl
+
+small_new : (x term : ℕ) (mine log : Log) → x ≡ length mine + 1 → (log ≡ mine) ⊎ (log ≡ mine ++ noop term ∷ []) → 64 + entries_bytes (batch (drop (x - 1) log)) ≤ 1000
+small_new x term mine log e o =
+    let at : x - 1 ≡ length mine = omega arith in
+    subst (λ z. 64 + entries_bytes (batch (drop z log)) ≤ 1000) (sym at)
+    (elim o [
+      | inl q ↦ subst (λ (z : Log). 64 + entries_bytes (batch z) ≤ 1000) (sym (ap (drop (length mine)) q ∙ (let n = append_none mine in ap (drop (length mine)) (sym n) ∙ drop_whole mine []))) (omega arith)
+      | inr q ↦ subst (λ (z : Log). 64 + entries_bytes (batch z) ≤ 1000) (sym (ap (drop (length mine)) q ∙ drop_whole mine (noop term ∷ []))) (omega arith)
+    ])
   where
-    small_none : (prev : ℕ) → 64 + entries_bytes (batch (drop prev [])) ≤ 1000
-    small_none zero = omega arith
-    small_none (suc prev) = omega arith
+    append_none : (xs : Log) → xs ++ [] ≡ xs
+    append_none [] = refl
+    append_none (x ∷ xs) = ap (λ (z : Log). x ∷ z) (append_none xs)
 
-small_log : (prev term : ℕ) (log : Log) → (log ≡ []) ⊎ (log ≡ noop term ∷ []) → 64 + entries_bytes (batch (drop prev log)) ≤ 1000
-small_log zero term log (inl e) = subst (λ (z : Log). 64 + entries_bytes (batch (drop 0 z)) ≤ 1000) (sym e) (omega arith)
-small_log (suc prev) term log (inl e) = subst (λ (z : Log). 64 + entries_bytes (batch (drop (suc prev) z)) ≤ 1000) (sym e) (omega arith)
-small_log prev term log (inr e) = subst (λ (z : Log). 64 + entries_bytes (batch (drop prev z)) ≤ 1000) (sym e) (small_batch prev term)
-
-all_wins : (servers term : ℕ) (m : Node) → m.role ≡ Leader → m.id ≡ 1 → m.servers ≡ servers → (m.log ≡ []) ⊎ (m.log ≡ noop term ∷ []) → Opens servers (append_all m) → Wins servers (append_all m)
-all_wins servers term m r i s l o =
+all_wins : (servers term : ℕ) (mine : Log) (m : Node) → m.role ≡ Leader → m.id ≡ 1 → m.servers ≡ servers → m.next ≡ replicate servers (length mine + 1) → (m.log ≡ mine) ⊎ (m.log ≡ mine ++ noop term ∷ []) → (term ≡ 1 → mine ≡ [] → Opens servers (append_all m)) → Wins servers term mine (append_all m)
+all_wins servers term mine m r i s n l o =
     let e = ap (λ z. to_others z (append_to m) m.servers) i ∙ ap (to_others 1 (append_to m)) s in
-    subst (λ (sent : List Sent). Opens servers (record { node = m; sent = sent }) → Wins servers (record { node = m; sent = sent })) (sym e)
+    subst (λ (sent : List Sent). (term ≡ 1 → mine ≡ [] → Opens servers (record { node = m; sent = sent })) → Wins servers term mine (record { node = m; sent = sent })) (sym e)
     (λ o. record {
       role = r;
       calls = λ j p q. (record { to = j; message = append_to m j }, others_to (append_to m) j servers p q, refl, tt);
-      small = others_each IsSmall (append_to m) (λ p. small_log (of_server m.next p - 1) term m.log l) servers;
+      small = others_within IsSmall servers (append_to m) (λ j p q. small_new (of_server m.next j) term mine m.log (ap (λ (z : List ℕ). of_server z j) n ∙ replicated servers (length mine + 1) j (omega arith) q) l) servers (omega arith);
       few = others_length (append_to m) servers;
       opens = o;
     }) o
@@ -88,12 +93,19 @@ appended_id n e = at_bool (λ c. (cond c (record n { log = n.log ++ e ∷ []; co
 appended_servers : (n : Node) (e : Entry) → (appended n e).servers ≡ n.servers
 appended_servers n e = at_bool (λ c. (cond c (record n { log = n.log ++ e ∷ []; commit = length (n.log ++ e ∷ []) }) (record n { log = n.log ++ e ∷ [] })).servers ≡ n.servers) (n.servers == 1) (λ _. refl) (λ _. refl)
 
-pub leads_wins : (servers : ℕ) (n : Node) → 0 < servers → n.id ≡ 1 → n.servers ≡ servers → n.term ≡ 1 → n.log ≡ [] → n.commit ≡ 0 → Wins servers (leads n)
+appended_next : (n : Node) (e : Entry) → (appended n e).next ≡ n.next
+appended_next n e = at_bool (λ c. (cond c (record n { log = n.log ++ e ∷ []; commit = length (n.log ++ e ∷ []) }) (record n { log = n.log ++ e ∷ [] })).next ≡ n.next) (n.servers == 1) (λ _. refl) (λ _. refl)
+
+pub leads_wins : (servers term : ℕ) (mine : Log) (n : Node) → 0 < servers → n.id ≡ 1 → n.servers ≡ servers → n.term ≡ term → n.log ≡ mine → n.commit ≡ 0 → Wins servers term mine (leads n)
 unfolding leads
-leads_wins servers n some i s t l c = at_bool (λ b. Opens servers (append_all (cond b (leading n) (appended (leading n) (noop n.term)))) → Wins servers (append_all (cond b (leading n) (appended (leading n) (noop n.term))))) (is_full n.log)
-    (λ _. all_wins servers n.term (leading n) refl i s (inl l))
-    (λ _. all_wins servers n.term (appended (leading n) (noop n.term)) (appended_role (leading n) (noop n.term)) (appended_id (leading n) (noop n.term) ∙ i) (appended_servers (leading n) (noop n.term) ∙ s)
-    (inr (appended_log (leading n) (noop n.term) ∙ ap (λ (z : Log). z ++ noop n.term ∷ []) l))) (leads_opens servers n some i s t l c)
+leads_wins servers term mine n some i s t l c = at_bool (λ b. (term ≡ 1 → mine ≡ [] → Opens servers (append_all (cond b (leading n) (appended (leading n) (noop n.term))))) → Wins servers term mine (append_all (cond b (leading n) (appended (leading n) (noop n.term))))) (is_full n.log)
+    (λ _. all_wins servers term mine (leading n) refl i s next (inl l))
+    (λ _. all_wins servers term mine (appended (leading n) (noop n.term)) (appended_role (leading n) (noop n.term)) (appended_id (leading n) (noop n.term) ∙ i) (appended_servers (leading n) (noop n.term) ∙ s) (appended_next (leading n) (noop n.term) ∙ next)
+    (inr (appended_log (leading n) (noop n.term) ∙ ap (λ (z : Log). z ++ noop n.term ∷ []) l ∙ ap (λ z. mine ++ noop z ∷ []) t)))
+    (λ one none. leads_opens servers n some i s (t ∙ one) (l ∙ none) c)
+  where
+    next : replicate n.servers (length n.log + 1) ≡ replicate servers (length mine + 1)
+    next = ap (λ z. replicate z (length n.log + 1)) s ∙ ap (λ (z : Log). replicate servers (length z + 1)) l
 
 -- The bag. What is in it stays in front.
 pub record Behind (bag bag' : Bag) : Type 0 where

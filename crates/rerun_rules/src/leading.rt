@@ -11,9 +11,10 @@ ghost use Rattle.cluster_rules.specs.Reached.{AreSure, MayBegin};
 ghost use Rattle.cluster_rules.specs.Requests.{is_ready};
 ghost use Rattle.cluster_rules.specs.Sound.{IsAmong};
 ghost use Rattle.raft_model.specs.Facts.{IsReady};
-ghost use Rattle.raft_model.specs.Node.{Store};
-ghost use Rattle.raft_model.specs.World.{AreEmpty, HoldAll};
-ghost use Rattle.rerun_rules.specs.Leading.{CameBad, Election, FindsLeader, IsForemost, OnlyFirstLeads, TellsLoss, WasAt};
+ghost use Rattle.raft_model.specs.Node.{Kept, Store};
+ghost use Rattle.raft_model.specs.World.{AreEmpty, HoldAll, nothing_kept};
+ghost use Rattle.rerun_rules.specs.Leading.{CameBad, Election, FindsLeader, IsAheadBy, IsForemost, LaterElection};
+ghost use Rattle.rerun_rules.specs.Leading.{OnlyFirstLeads, TellsLoss, WasAt};
 ghost use Rattle.serving_rules.specs.Serving.{Serves, Size};
 
 /// Empty stores hold no term that is above server 1's.
@@ -88,4 +89,25 @@ pub fn nothing_finds_it_unready()
         IsAmong (Answered number (Refused (NotReady term last)) known contact) c.past →
         IsAmong (Answered number (Refused (NotReady term last)) known contact) e.cluster.past
         ⊎ CameBad number (NotReady term last) c.past }
+{}
+
+/// Empty stores hold nothing in which another is ahead of server 1's, and a store that is ahead is foremost.
+pub fn empty_stores_are_ahead()
+    ensures empty { (stores : List Store) → AreEmpty stores → IsAheadBy nothing_kept stores }
+    ensures foremost { (first : Kept) (stores : List Store) → IsAheadBy first stores → IsForemost stores }
+{}
+
+/// Server 1 is elected again over stores that were kept, if its own is ahead and its term can still rise. There are
+/// such runs.
+pub fn the_first_server_is_elected_again()
+    ensures elected { (e : LaterElection) → runs_leading e.cluster.world 1 ≡ true }
+    ensures known { (e : LaterElection) (server : ℕ) → 1 < server → server ≤ length e.cluster.world.nodes →
+        (node_of e.cluster.world server).leader ≡ Some 1 }
+    ensures possible { LaterElection }
+{}
+
+/// From then on each request finds it there too, whichever server it asks.
+pub fn requests_find_it_again()
+    ensures { (e : LaterElection) (c : Cluster) (s : Serves e.size c) → WasAt e.cluster s.reached →
+        (asked : ℕ) → 0 < asked → asked ≤ length e.cluster.world.nodes → FindsLeader c.world asked }
 {}

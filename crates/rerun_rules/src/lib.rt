@@ -16,7 +16,8 @@
 //! then and for ever after, where every event was whole and nothing was done behind its timeout but deliveries, each
 //! followed by that message's loss; and there are such runs. Then and for ever after it is ready: it has committed an
 //! entry of its own term, and where nothing is due there it has applied one; and no request is refused because it is
-//! not. Carried by: `leading::*`.
+//! not. Over stores that were kept server 1 is elected in the same way, if its own store has the highest term and a log
+//! that is as up to date as every other, and its term can still rise. Carried by: `leading::*`.
 #![tactic(auto)]
 
 pub mod laws;
