@@ -194,7 +194,7 @@ module _ (term : ℕ) (mine : Log) where
 start_is : (id servers : ℕ) (s : Store) (n : Node) → Starts id servers s n → (kept : Kept) → s.contents ≡ Some kept → n ≡ begun id servers n.store kept
 start_is id servers s n (read, works, reads, is) kept told = is ∙ ap (λ (k : Kept). begun id servers n.store k) (reads_told s kept read told reads)
 
-first_is : (servers : ℕ) (ss : List Store) (ns : List Node) → StartAll servers 1 ss ns → (first : Kept) → IsAheadBy first ss → 0 < length ns → get_or ns 0 no_node ≡ begun 1 servers (get_or ns 0 no_node).store first
+pub first_is : (servers : ℕ) (ss : List Store) (ns : List Node) → StartAll servers 1 ss ns → (first : Kept) → IsAheadBy first ss → 0 < length ns → get_or ns 0 no_node ≡ begun 1 servers (get_or ns 0 no_node).store first
 first_is servers [] [] a first by l = absurd (omega arith)
 first_is servers [] (n ∷ ns) a first by l = absurd a
 first_is servers (s ∷ ss) [] a first by l = absurd a
@@ -209,7 +209,7 @@ all_open servers id first (s ∷ ss) (n ∷ ns) a ((kept, told, low, log), more)
     record { log = subst (IsUpToDate (last_term first.log) (length first.log)) (sym (ap (λ (z : Node). z.log) e)) log; vote = inl (let t = ap (λ (z : Node). z.term) e in omega arith) }
 all_open servers id first (s ∷ ss) (n ∷ ns) a h (suc j) l = all_open servers (suc id) first ss ns a.1 h.1 j (omega arith)
 
-others_open : (servers : ℕ) (first : Kept) (ss : List Store) (ns : List Node) → StartAll servers 1 ss ns → IsAheadBy first ss → (j : ℕ) → suc j < length ns → IsOpen (suc first.term) first.log (get_or ns (suc j) no_node)
+pub others_open : (servers : ℕ) (first : Kept) (ss : List Store) (ns : List Node) → StartAll servers 1 ss ns → IsAheadBy first ss → (j : ℕ) → suc j < length ns → IsOpen (suc first.term) first.log (get_or ns (suc j) no_node)
 others_open servers first [] [] a by j l = absurd (omega arith)
 others_open servers first [] (n ∷ ns) a by j l = absurd a
 others_open servers first (s ∷ ss) [] a by j l = absurd a

@@ -24,3 +24,6 @@ pub mod Stepping
 pub mod Delivering
 pub mod Ready
 pub mod Unready
+pub mod Longest
+pub mod Following
+pub mod LeftAhead

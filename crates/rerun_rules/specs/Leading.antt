@@ -14,7 +14,8 @@ use Rattle.raft_model.specs.Node.{Kept, Node, Store}
 use Rattle.raft_model.specs.Rules.{term_of}
 use Rattle.raft_model.specs.World.{AreEmpty, IsServer, Packet, World}
 use Rattle.cluster_rules.specs.Cluster.{Cluster, node_of}
-use Rattle.cluster_rules.specs.Reached.{AreSure, Move, Makes, Settles, Reached, at_start, by_event, by_taking, by_handing, by_settling, by_advancing}
+use Rattle.cluster_rules.specs.Reached.{AreSure, Move, Makes, Settles, Reached}
+use Rattle.cluster_rules.specs.Reached.{at_start, by_event, by_taking, by_handing, by_settling, by_advancing}
 use Rattle.cluster_rules.specs.Requests.{Goes, way_of}
 use Rattle.cluster_rules.specs.Sound.{IsAmong}
 use Rattle.serving_rules.specs.Serving.{Serves, Size}

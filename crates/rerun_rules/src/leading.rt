@@ -91,10 +91,18 @@ pub fn nothing_finds_it_unready()
         ⊎ CameBad number (NotReady term last) c.past }
 {}
 
-/// Empty stores hold nothing in which another is ahead of server 1's, and a store that is ahead is foremost.
+/// Among empty stores server 1's is ahead of all others, in its term and in its log; and where it is so, it is
+/// foremost.
 pub fn empty_stores_are_ahead()
     ensures empty { (stores : List Store) → AreEmpty stores → IsAheadBy nothing_kept stores }
     ensures foremost { (first : Kept) (stores : List Store) → IsAheadBy first stores → IsForemost stores }
+{}
+
+/// Nor is another store ahead of server 1's among those that a cluster leaves that served over such ones.
+pub fn stores_left_are_ahead()
+    ensures { (size : Size) (c : Cluster) (first : Kept) (stores : List Store) → AreSure size.stores →
+        IsAheadBy first size.stores → MayBegin size.stores → Serves size c → HoldAll stores c.world.nodes →
+        (left : Kept) × IsAheadBy left stores }
 {}
 
 /// Server 1 is elected again over stores that were kept, if its own is ahead and its term can still rise. There are
