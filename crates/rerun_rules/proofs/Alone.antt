@@ -10,10 +10,10 @@ use Rattle.cluster_rules.specs.Runs.{drawn, sure_a}
 use Rattle.cluster_rules.specs.Step.{ClusterStep}
 use Rattle.cluster_rules.proofs.ConsistentRead.{consistent_run}
 use Rattle.cluster_rules.proofs.Tools.{both}
-use Rattle.rerun_rules.specs.Leading.{Election}
+use Rattle.rerun_rules.specs.Leading.{Election, LaterElection}
 use Rattle.rerun_rules.proofs.Ahead.{IsAhead}
-use Rattle.rerun_rules.proofs.Beginning.{empty_foremost, start_ahead}
-use Rattle.rerun_rules.proofs.Elected.{event_alone, nothing_done}
+use Rattle.rerun_rules.proofs.Beginning.{empty_ahead, empty_foremost, start_ahead}
+use Rattle.rerun_rules.proofs.Elected.{event_alone, is_later, nothing_done}
 use Rattle.rerun_rules.proofs.Taking.{step_takes}
 
 one_store : List Store
@@ -53,7 +53,7 @@ bag_of whole moves c (by_event {whole = w} {moves = ms} {c = c₀} made all r fi
     let made_is : made ≡ event.Timeout 1 = cc e in
     let none : ms ≡ [] = cc e in
     let same = nothing_done (started (fresh 1) 1) w ms c₀ r none in
-    event_alone one_store (started (fresh 1) 1) c₀.world c.world one_begins (refl, tt) refl same (subst IsAhead (sym same) one_ahead)
+    event_alone one_store (started (fresh 1) 1) c₀.world c.world one_begins nothing_kept (empty_ahead one_store (refl, tt)) (omega arith) refl same (subst IsAhead (sym same) one_ahead)
     (step_takes c₀ c (event.Timeout 1) all tt (both w all t).1 (subst (λ m. ClusterStep c₀ m c all) made_is step))
 bag_of whole moves c (by_taking number out before after r is there) t e = cc e
 bag_of whole moves c (by_handing {whole = w} {moves = ms} {c = c₀} out before after r is there) t e = bag_of w ms c₀ r t e
@@ -86,3 +86,6 @@ of_stood c x = record {
 
 pub there_is_one : Election
 there_is_one = let x = before_it true (Makes (event.Ask 1 sure_a drawn) ∷ Makes (event.Timeout 1) ∷ []) consistent_run.cluster consistent_run.reached refl refl in of_stood x.0 x.1
+
+pub there_is_a_later_one : LaterElection
+there_is_a_later_one = is_later there_is_one

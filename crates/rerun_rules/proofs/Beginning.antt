@@ -13,7 +13,7 @@ use Rattle.cluster_rules.specs.Reached.{AreSure, AreUnarmed, IsBegun}
 use Rattle.cluster_rules.proofs.Boundary.{leading_tells}
 use Rattle.cluster_rules.proofs.Tools.{eq_tells_not, is_node, is_place, there_or_none}
 use Rattle.serving_rules.specs.Serving.{Serves, Size}
-use Rattle.rerun_rules.specs.Leading.{HoldUpTo, IsForemost, OnlyFirstLeads, WasAt}
+use Rattle.rerun_rules.specs.Leading.{HoldBehind, HoldUpTo, IsAheadBy, IsForemost, OnlyFirstLeads, WasAt}
 use Rattle.rerun_rules.proofs.Ahead.{AreAllFirsts, AreBelow, HoldsFirst, IsAhead, IsWell, call_works}
 use Rattle.rerun_rules.proofs.Serving.{run_ahead, run_since}
 
@@ -121,3 +121,20 @@ empty_up (s ∷ ss) e = ((nothing_kept, e.0, omega arith), empty_up ss e.1)
 pub empty_foremost : (ss : List Store) → AreEmpty ss → IsForemost ss
 empty_foremost [] e = tt
 empty_foremost (s ∷ ss) e = (nothing_kept, e.0, empty_up ss e.1)
+
+-- A server that is ahead in both, its term and its log, is so in its term.
+behind_up : (first : Kept) (ss : List Store) → HoldBehind first ss → HoldUpTo first.term ss
+behind_up first [] h = tt
+behind_up first (s ∷ ss) ((kept, told, low, log), more) = ((kept, told, low), behind_up first ss more)
+
+pub ahead_foremost : (ss : List Store) (first : Kept) → IsAheadBy first ss → IsForemost ss
+ahead_foremost [] first a = tt
+ahead_foremost (s ∷ ss) first a = (first, a.0, behind_up first ss a.1)
+
+empty_behind : (ss : List Store) → AreEmpty ss → HoldBehind nothing_kept ss
+empty_behind [] e = tt
+empty_behind (s ∷ ss) e = ((nothing_kept, e.0, omega arith, (omega arith, λ _. omega arith)), empty_behind ss e.1)
+
+pub empty_ahead : (ss : List Store) → AreEmpty ss → IsAheadBy nothing_kept ss
+empty_ahead [] e = tt
+empty_ahead (s ∷ ss) e = (e.0, empty_behind ss e.1)

@@ -12,10 +12,10 @@ use Rattle.cluster_rules.specs.Requests.{Answers, Goes, to_leader, way_of}
 use Rattle.cluster_rules.proofs.Boundary.{leading_tells}
 use Rattle.cluster_rules.proofs.Tools.{eq_tells_not, is_place, there_or_none}
 use Rattle.serving_rules.specs.Serving.{Serves, Size}
-use Rattle.rerun_rules.specs.Leading.{Election, FindsLeader, IsForemost, WasAt}
+use Rattle.rerun_rules.specs.Leading.{Election, FindsLeader, LaterElection, IsForemost, WasAt}
 use Rattle.rerun_rules.proofs.Ahead.{HoldsFirst, IsAhead, StaysAhead}
-use Rattle.rerun_rules.proofs.Beginning.{empty_foremost, runs_on, start_ahead}
-use Rattle.rerun_rules.proofs.Elected.{is_elected, is_held}
+use Rattle.rerun_rules.proofs.Beginning.{ahead_foremost, runs_on, start_ahead}
+use Rattle.rerun_rules.proofs.Elected.{is_later, later_elected, later_held}
 use Rattle.rerun_rules.proofs.Serving.{run_since, was_ahead}
 
 -- the way from a running server that is asked
@@ -85,7 +85,10 @@ finds_leader size c earlier s sure foremost was lead i asked =
     ]
 
 -- After an election each server finds server 1.
-pub finds_elected : (e : Election) (c : Cluster) (s : Serves e.size c) → WasAt e.cluster s.reached → (i : ℕ) → 0 < i → i ≤ length e.cluster.world.nodes → FindsLeader c.world i
-finds_elected e c s was i p l = finds_leader e.size c e.cluster s e.sure (empty_foremost e.size.stores e.are_empty) was (is_elected e) i
+pub finds_again : (e : LaterElection) (c : Cluster) (s : Serves e.size c) → WasAt e.cluster s.reached → (i : ℕ) → 0 < i → i ≤ length e.cluster.world.nodes → FindsLeader c.world i
+finds_again e c s was i p l = finds_leader e.size c e.cluster s e.sure (ahead_foremost e.size.stores e.first e.ahead) was (later_elected e) i
     (at_bool (λ b. (i == 1) ≡ b → (i ≡ 1) ⊎ ((node_of e.cluster.world i).leader ≢ None)) (i == 1) (λ _ q. inl (eq_tells i 1 q))
-    (λ _ q. inr (λ n. let k = is_held e i (let d = eq_tells_not i 1 q in omega arith) l in cc (k, n))) refl)
+    (λ _ q. inr (λ n. let k = later_held e i (let d = eq_tells_not i 1 q in omega arith) l in cc (k, n))) refl)
+
+pub finds_elected : (e : Election) (c : Cluster) (s : Serves e.size c) → WasAt e.cluster s.reached → (i : ℕ) → 0 < i → i ≤ length e.cluster.world.nodes → FindsLeader c.world i
+finds_elected e c s was i p l = finds_again (is_later e) c s was i p l

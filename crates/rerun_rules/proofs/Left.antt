@@ -17,7 +17,7 @@ use Rattle.rerun_rules.proofs.Beginning.{start_ahead}
 use Rattle.rerun_rules.proofs.Serving.{run_ahead}
 
 -- a running server's store holds its term
-holds_it : (servers : ℕ) (h : History) (i : ℕ) (n : Node) → Fits servers h i n → n.halted ≡ false → n.store.contents ≡ Some (kept_of n)
+pub holds_it : (servers : ℕ) (h : History) (i : ℕ) (n : Node) → Fits servers h i n → n.halted ≡ false → n.store.contents ≡ Some (kept_of n)
 holds_it servers h i n (inl x) up = x.0
 holds_it servers h i n (inr x) up = absurd (no_bool n.halted x.0 up)
 

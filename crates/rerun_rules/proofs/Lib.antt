@@ -18,3 +18,12 @@ pub mod Elected
 pub mod Alone
 pub mod Keeping
 pub mod Answering
+pub mod Spreading
+pub mod Reigning
+pub mod Stepping
+pub mod Delivering
+pub mod Ready
+pub mod Unready
+pub mod Longest
+pub mod Following
+pub mod LeftAhead

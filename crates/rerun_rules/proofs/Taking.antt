@@ -21,14 +21,14 @@ did_world i (Holds h) c = refl
 did_world i (Closes number event) c = refl
 did_world i Applies c = refl
 
-works_world : (i : ℕ) (c c' : Cluster) → Works i c c' → c'.world ≡ c.world
+pub works_world : (i : ℕ) (c c' : Cluster) → Works i c c' → c'.world ≡ c.world
 works_world i c c' none = refl
 works_world i c c' (work w e more) = works_world i (did i w c) c' more ∙ did_world i w c
 
 seated_world : (w : World) (i : ℕ) (c : Cluster) → (seated w i c).world ≡ c.world
 seated_world w i c = at_bool (λ b. (cond b (with_office i (office_from (clock_of c.world i)) c) c).world ≡ c.world) (took_office w c.world i) (λ _. refl) (λ _. refl)
 
-marked_world : (made : Event) (c : Cluster) → (marked made c).world ≡ c.world
+pub marked_world : (made : Event) (c : Cluster) → (marked made c).world ≡ c.world
 marked_world (event.Ask agent asked draw) c = refl
 marked_world other c = refl
 

@@ -1,5 +1,5 @@
 -- Who wins its election asks all others to follow, and no limit of the bag stops it.
-use Rattle.std.proofs.Common.{◌≡◌, ℕ, zero, suc, ◌+◌, ◌*◌, ◌-◌, ◌^◌, ◌<◌, ◌≤◌, ◌⊎◌, inl, inr, true, false, cond, List, [], ◌∷◌, ◌++◌, length, drop, Some, None, refl, sym, ◌∙◌, ap, subst, arith}
+use Rattle.std.proofs.Common.{◌≡◌, ℕ, zero, suc, ◌+◌, ◌*◌, ◌-◌, ◌^◌, ◌<◌, ◌≤◌, ◌⊎◌, inl, inr, true, false, cond, List, [], ◌∷◌, ◌++◌, length, drop, replicate, Some, None, refl, sym, ◌∙◌, ap, subst, arith}
 use Rattle.std.specs.Prelude.{nat_le, nat_lt, ◌&&◌, ◌==◌}
 use Rattle.std.specs.List.{AllByRecursion as Each}
 use Rattle.std.proofs.lemmas.List.{append_assoc, length-append}
@@ -19,6 +19,7 @@ use Rattle.cluster_rules.proofs.Tools.{each_append, eq_tells_not}
 use Rattle.rerun_rules.proofs.Bags.{among_last, among_left}
 use Rattle.rerun_rules.proofs.Growing.{appended_log}
 use Rattle.rerun_rules.proofs.Knowing.{offered_knows}
+use Rattle.rerun_rules.proofs.Spreading.{Opens, leads_opens, replicated}
 use Rattle.rerun_rules.proofs.Steady.{appended_role}
 
 abbrev pub IsAppend : Message → Type 0
@@ -26,17 +27,12 @@ IsAppend (Append term prev prev_term entries commit round) = Unit {0}
 IsAppend other = ⊥
 
 -- Messages to all but server 1.
-others_length : (f : ℕ → Message) (k : ℕ) → length (to_others 1 f k) ≤ k
+pub others_length : (f : ℕ → Message) (k : ℕ) → length (to_others 1 f k) ≤ k
 others_length f zero = omega arith
 others_length f (suc k) = at_bool (λ b. length (cond b (to_others 1 f k) (to_others 1 f k ++ record { to = suc k; message = f (suc k) } ∷ [])) ≤ suc k) (suc k == 1)
     (λ _. let n = others_length f k in omega arith) (λ _. let n = others_length f k in omega (arith, length-append (to_others 1 f k) (record { to = suc k; message = f (suc k) } ∷ [])))
 
-others_each : (P : Sent → Type 0) (f : ℕ → Message) → ((p : ℕ) → P (record { to = p; message = f p })) → (k : ℕ) → Each P (to_others 1 f k)
-others_each P f x zero = tt
-others_each P f x (suc k) = at_bool (λ b. Each P (cond b (to_others 1 f k) (to_others 1 f k ++ record { to = suc k; message = f (suc k) } ∷ []))) (suc k == 1)
-    (λ _. others_each P f x k) (λ _. each_append P (to_others 1 f k) (record { to = suc k; message = f (suc k) } ∷ []) (others_each P f x k) (x (suc k), tt))
-
-others_to : (f : ℕ → Message) (j k : ℕ) → 1 < j → j ≤ k → IsAmong (record { to = j; message = f j }) (to_others 1 f k)
+pub others_to : (f : ℕ → Message) (j k : ℕ) → 1 < j → j ≤ k → IsAmong (record { to = j; message = f j }) (to_others 1 f k)
 others_to f j zero l m = absurd (omega arith)
 others_to f j (suc k) l m = at_bool (λ b. (suc k == 1) ≡ b → IsAmong (record { to = j; message = f j }) (cond b (to_others 1 f k) (to_others 1 f k ++ record { to = suc k; message = f (suc k) } ∷ []))) (suc k == 1)
     (λ _ e. absurd (let n = eq_tells (suc k) 1 e in omega arith))
@@ -48,35 +44,48 @@ others_to f j (suc k) l m = at_bool (λ b. (suc k == 1) ≡ b → IsAmong (recor
 abbrev pub IsSmall : Sent → Type 0
 IsSmall s = message_bytes s.message ≤ 1000
 
-pub record Wins (servers : ℕ) (d : Done) : Type 0 where
+pub record Wins (servers term : ℕ) (mine : Log) (d : Done) : Type 0 where
   pub role : d.node.role ≡ Leader
   pub calls : (j : ℕ) → 1 < j → j ≤ servers → (s : Sent) × IsAmong s d.sent × (s.to ≡ j) × IsAppend s.message
   pub small : Each IsSmall d.sent
   pub few : length d.sent ≤ servers
+  pub opens : term ≡ 1 → mine ≡ [] → Opens servers d
 
--- its log has a Noop at most
-small_batch : (prev term : ℕ) → 64 + entries_bytes (batch (drop prev (noop term ∷ []))) ≤ 1000
-small_batch zero term = omega arith
-small_batch (suc prev) term = small_none prev
+-- It sends the Noop, or nothing.
+drop_whole : (xs ys : Log) → drop (length xs) (xs ++ ys) ≡ ys
+drop_whole [] ys = refl
+drop_whole (x ∷ xs) ys = drop_whole xs ys
+
+pub others_within : (P : Sent → Type 0) (servers : ℕ) (f : ℕ → Message) → ((j : ℕ) → 1 < j → j ≤ servers → P (record { to = j; message = f j })) → (k : ℕ) → k ≤ servers → Each P (to_others 1 f k)
+others_within P servers f x zero l = tt
+others_within P servers f x (suc k) l = at_bool (λ b. (suc k == 1) ≡ b → Each P (cond b (to_others 1 f k) (to_others 1 f k ++ record { to = suc k; message = f (suc k) } ∷ []))) (suc k == 1)
+    (λ _ _. others_within P servers f x k (omega arith))
+    (λ _ e. each_append P (to_others 1 f k) (record { to = suc k; message = f (suc k) } ∷ []) (others_within P servers f x k (omega arith)) (x (suc k) (let n = eq_tells_not (suc k) 1 e in omega arith) l, tt)) refl
+
+small_new : (x term : ℕ) (mine log : Log) → x ≡ length mine + 1 → (log ≡ mine) ⊎ (log ≡ mine ++ noop term ∷ []) → 64 + entries_bytes (batch (drop (x - 1) log)) ≤ 1000
+small_new x term mine log e o =
+    let at : x - 1 ≡ length mine = omega arith in
+    subst (λ z. 64 + entries_bytes (batch (drop z log)) ≤ 1000) (sym at)
+    (elim o [
+      | inl q ↦ subst (λ (z : Log). 64 + entries_bytes (batch z) ≤ 1000) (sym (ap (drop (length mine)) q ∙ (let n = append_none mine in ap (drop (length mine)) (sym n) ∙ drop_whole mine []))) (omega arith)
+      | inr q ↦ subst (λ (z : Log). 64 + entries_bytes (batch z) ≤ 1000) (sym (ap (drop (length mine)) q ∙ drop_whole mine (noop term ∷ []))) (omega arith)
+    ])
   where
-    small_none : (prev : ℕ) → 64 + entries_bytes (batch (drop prev [])) ≤ 1000
-    small_none zero = omega arith
-    small_none (suc prev) = omega arith
+    append_none : (xs : Log) → xs ++ [] ≡ xs
+    append_none [] = refl
+    append_none (x ∷ xs) = ap (λ (z : Log). x ∷ z) (append_none xs)
 
-small_log : (prev term : ℕ) (log : Log) → (log ≡ []) ⊎ (log ≡ noop term ∷ []) → 64 + entries_bytes (batch (drop prev log)) ≤ 1000
-small_log zero term log (inl e) = subst (λ (z : Log). 64 + entries_bytes (batch (drop 0 z)) ≤ 1000) (sym e) (omega arith)
-small_log (suc prev) term log (inl e) = subst (λ (z : Log). 64 + entries_bytes (batch (drop (suc prev) z)) ≤ 1000) (sym e) (omega arith)
-small_log prev term log (inr e) = subst (λ (z : Log). 64 + entries_bytes (batch (drop prev z)) ≤ 1000) (sym e) (small_batch prev term)
-
-all_wins : (servers term : ℕ) (m : Node) → m.role ≡ Leader → m.id ≡ 1 → m.servers ≡ servers → (m.log ≡ []) ⊎ (m.log ≡ noop term ∷ []) → Wins servers (append_all m)
-all_wins servers term m r i s l =
-    subst (λ (sent : List Sent). Wins servers (record { node = m; sent = sent })) (sym (ap (λ z. to_others z (append_to m) m.servers) i ∙ ap (to_others 1 (append_to m)) s))
-    (record {
+all_wins : (servers term : ℕ) (mine : Log) (m : Node) → m.role ≡ Leader → m.id ≡ 1 → m.servers ≡ servers → m.next ≡ replicate servers (length mine + 1) → (m.log ≡ mine) ⊎ (m.log ≡ mine ++ noop term ∷ []) → (term ≡ 1 → mine ≡ [] → Opens servers (append_all m)) → Wins servers term mine (append_all m)
+all_wins servers term mine m r i s n l o =
+    let e = ap (λ z. to_others z (append_to m) m.servers) i ∙ ap (to_others 1 (append_to m)) s in
+    subst (λ (sent : List Sent). (term ≡ 1 → mine ≡ [] → Opens servers (record { node = m; sent = sent })) → Wins servers term mine (record { node = m; sent = sent })) (sym e)
+    (λ o. record {
       role = r;
       calls = λ j p q. (record { to = j; message = append_to m j }, others_to (append_to m) j servers p q, refl, tt);
-      small = others_each IsSmall (append_to m) (λ p. small_log (of_server m.next p - 1) term m.log l) servers;
+      small = others_within IsSmall servers (append_to m) (λ j p q. small_new (of_server m.next j) term mine m.log (ap (λ (z : List ℕ). of_server z j) n ∙ replicated servers (length mine + 1) j (omega arith) q) l) servers (omega arith);
       few = others_length (append_to m) servers;
-    })
+      opens = o;
+    }) o
 
 appended_id : (n : Node) (e : Entry) → (appended n e).id ≡ n.id
 appended_id n e = at_bool (λ c. (cond c (record n { log = n.log ++ e ∷ []; commit = length (n.log ++ e ∷ []) }) (record n { log = n.log ++ e ∷ [] })).id ≡ n.id) (n.servers == 1) (λ _. refl) (λ _. refl)
@@ -84,12 +93,19 @@ appended_id n e = at_bool (λ c. (cond c (record n { log = n.log ++ e ∷ []; co
 appended_servers : (n : Node) (e : Entry) → (appended n e).servers ≡ n.servers
 appended_servers n e = at_bool (λ c. (cond c (record n { log = n.log ++ e ∷ []; commit = length (n.log ++ e ∷ []) }) (record n { log = n.log ++ e ∷ [] })).servers ≡ n.servers) (n.servers == 1) (λ _. refl) (λ _. refl)
 
-pub leads_wins : (servers : ℕ) (n : Node) → n.id ≡ 1 → n.servers ≡ servers → n.log ≡ [] → Wins servers (leads n)
+appended_next : (n : Node) (e : Entry) → (appended n e).next ≡ n.next
+appended_next n e = at_bool (λ c. (cond c (record n { log = n.log ++ e ∷ []; commit = length (n.log ++ e ∷ []) }) (record n { log = n.log ++ e ∷ [] })).next ≡ n.next) (n.servers == 1) (λ _. refl) (λ _. refl)
+
+pub leads_wins : (servers term : ℕ) (mine : Log) (n : Node) → 0 < servers → n.id ≡ 1 → n.servers ≡ servers → n.term ≡ term → n.log ≡ mine → n.commit ≡ 0 → Wins servers term mine (leads n)
 unfolding leads
-leads_wins servers n i s l = at_bool (λ b. Wins servers (append_all (cond b (leading n) (appended (leading n) (noop n.term))))) (is_full n.log)
-    (λ _. all_wins servers n.term (leading n) refl i s (inl l))
-    (λ _. all_wins servers n.term (appended (leading n) (noop n.term)) (appended_role (leading n) (noop n.term)) (appended_id (leading n) (noop n.term) ∙ i) (appended_servers (leading n) (noop n.term) ∙ s)
-    (inr (appended_log (leading n) (noop n.term) ∙ ap (λ (z : Log). z ++ noop n.term ∷ []) l)))
+leads_wins servers term mine n some i s t l c = at_bool (λ b. (term ≡ 1 → mine ≡ [] → Opens servers (append_all (cond b (leading n) (appended (leading n) (noop n.term))))) → Wins servers term mine (append_all (cond b (leading n) (appended (leading n) (noop n.term))))) (is_full n.log)
+    (λ _. all_wins servers term mine (leading n) refl i s next (inl l))
+    (λ _. all_wins servers term mine (appended (leading n) (noop n.term)) (appended_role (leading n) (noop n.term)) (appended_id (leading n) (noop n.term) ∙ i) (appended_servers (leading n) (noop n.term) ∙ s) (appended_next (leading n) (noop n.term) ∙ next)
+    (inr (appended_log (leading n) (noop n.term) ∙ ap (λ (z : Log). z ++ noop n.term ∷ []) l ∙ ap (λ z. mine ++ noop z ∷ []) t)))
+    (λ one none. leads_opens servers n some i s (t ∙ one) (l ∙ none) c)
+  where
+    next : replicate n.servers (length n.log + 1) ≡ replicate servers (length mine + 1)
+    next = ap (λ z. replicate z (length n.log + 1)) s ∙ ap (λ (z : Log). replicate servers (length z + 1)) l
 
 -- The bag. What is in it stays in front.
 pub record Behind (bag bag' : Bag) : Type 0 where
@@ -125,10 +141,11 @@ pub record HasRoom (bag : Bag) (n : ℕ) : Type 0 where
   pub bytes : packets_bytes bag.packets + 1000 * n ≤ 67108864
   pub numbers : bag.last + n < 2 ^ 64
 
-pub all_posted_in : (from : ℕ) (ss : List Sent) (bag : Bag) → Each IsSmall ss → HasRoom bag (length ss) → (s : Sent) → IsAmong s ss → (p : Packet) × IsAmong p (posted_all from ss bag).packets × (p.to ≡ s.to) × (p.message ≡ s.message)
-all_posted_in from [] bag a r s m = absurd m
-all_posted_in from (x ∷ ss) bag a r s m = subst (λ (b : Bag). (p : Packet) × IsAmong p (posted_all from ss b).packets × (p.to ≡ s.to) × (p.message ≡ s.message)) (sym is)
-    (elim m [ inl e ↦ itself e | inr z ↦ all_posted_in from ss next a.1 room s z ])
+-- the bag takes a small message where it has room, and has room for those behind it
+pub bag_takes_it : (from : ℕ) (x : Sent) (ss : List Sent) (bag : Bag) → IsSmall x → HasRoom bag (suc (length ss)) →
+    (posted from x bag ≡ record { packets = bag.packets ++ record { number = suc bag.last; from = from; to = x.to; message = x.message } ∷ []; last = suc bag.last })
+    × HasRoom (record { packets = bag.packets ++ record { number = suc bag.last; from = from; to = x.to; message = x.message } ∷ []; last = suc bag.last }) (length ss)
+bag_takes_it from x ss bag a r = (ap (λ b. cond b next bag) taken, room)
   where
     packet : Packet
     packet = record { number = suc bag.last; from = from; to = x.to; message = x.message }
@@ -137,20 +154,31 @@ all_posted_in from (x ∷ ss) bag a r s m = subst (λ (b : Bag). (p : Packet) ×
     next = record { packets = bag.packets ++ packet ∷ []; last = suc bag.last }
 
     taken : takes bag x.message ≡ true
-    taken = let c = r.count in let b = r.bytes in let n = r.numbers in let k = a.0 in
+    taken = let c = r.count in let b = r.bytes in let n = r.numbers in let k = a in
         and_is (nat_lt (length bag.packets) 4096 && nat_le (packets_bytes bag.packets + message_bytes x.message) 67108864) (nat_lt bag.last (2 ^ 64 - 1))
         (and_is (nat_lt (length bag.packets) 4096) (nat_le (packets_bytes bag.packets + message_bytes x.message) 67108864) (lt_is (length bag.packets) 4096 (omega arith)) (le_is (packets_bytes bag.packets + message_bytes x.message) 67108864 (omega arith)))
         (lt_is bag.last (2 ^ 64 - 1) (omega arith))
 
-    is : posted from x bag ≡ next
-    is = ap (λ b. cond b next bag) taken
-
     room : HasRoom next (length ss)
     room = record {
       count = let c = r.count in omega (arith, length-append bag.packets (packet ∷ []));
-      bytes = let b = r.bytes in let k = a.0 in let z = bytes_append bag.packets (packet ∷ []) in omega arith;
+      bytes = let b = r.bytes in let k = a in let z = bytes_append bag.packets (packet ∷ []) in omega arith;
       numbers = let n = r.numbers in omega arith;
     }
+
+pub all_posted_in : (from : ℕ) (ss : List Sent) (bag : Bag) → Each IsSmall ss → HasRoom bag (length ss) → (s : Sent) → IsAmong s ss → (p : Packet) × IsAmong p (posted_all from ss bag).packets × (p.to ≡ s.to) × (p.message ≡ s.message)
+all_posted_in from [] bag a r s m = absurd m
+all_posted_in from (x ∷ ss) bag a r s m = subst (λ (b : Bag). (p : Packet) × IsAmong p (posted_all from ss b).packets × (p.to ≡ s.to) × (p.message ≡ s.message)) (sym takes_it.0)
+    (elim m [ inl e ↦ itself e | inr z ↦ all_posted_in from ss next a.1 takes_it.1 s z ])
+  where
+    packet : Packet
+    packet = record { number = suc bag.last; from = from; to = x.to; message = x.message }
+
+    next : Bag
+    next = record { packets = bag.packets ++ packet ∷ []; last = suc bag.last }
+
+    takes_it : (posted from x bag ≡ next) × HasRoom next (length ss)
+    takes_it = bag_takes_it from x ss bag a.0 r
 
     itself : s ≡ x → (p : Packet) × IsAmong p (posted_all from ss next).packets × (p.to ≡ s.to) × (p.message ≡ s.message)
     itself e =

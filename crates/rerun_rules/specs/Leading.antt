@@ -1,5 +1,5 @@
 -- Who leads in a cluster that serves: server 1, and nobody else.
-use Rattle.std.specs.Prelude.{◌≡◌, ◌≢◌, ℕ, ◌≤◌, ◌⊎◌, Bool, true, false, List, [], ◌∷◌, Some}
+use Rattle.std.specs.Prelude.{◌≡◌, ◌≢◌, ℕ, ◌-◌, ◌^◌, ◌<◌, ◌≤◌, ◌⊎◌, length, Bool, true, false, List, [], ◌∷◌, Some}
 use Rattle.std.specs.List.{AllByRecursion as Each}
 use Rattle.cat_model.specs.declared.request.Asked.TheVariants.{Bad}
 use Rattle.cat_model.specs.declared.request.Draw.{Draw}
@@ -9,11 +9,13 @@ use Rattle.cat_model.specs.declared.reply.Mark.TheVariants as mark
 use Rattle.cat_model.specs.declared.reply.Refusal.{Refusal}
 use Rattle.cat_model.specs.declared.reply.Refusal.TheVariants as refusal
 use Rattle.cat_model.specs.declared.reply.Role.TheVariants.{Follower}
+use Rattle.raft_model.specs.Log.{IsUpToDate, last_term}
 use Rattle.raft_model.specs.Node.{Kept, Node, Store}
 use Rattle.raft_model.specs.Rules.{term_of}
 use Rattle.raft_model.specs.World.{AreEmpty, IsServer, Packet, World}
 use Rattle.cluster_rules.specs.Cluster.{Cluster, node_of}
-use Rattle.cluster_rules.specs.Reached.{AreSure, Move, Makes, Settles, Reached, at_start, by_event, by_taking, by_handing, by_settling, by_advancing}
+use Rattle.cluster_rules.specs.Reached.{AreSure, Move, Makes, Settles, Reached}
+use Rattle.cluster_rules.specs.Reached.{at_start, by_event, by_taking, by_handing, by_settling, by_advancing}
 use Rattle.cluster_rules.specs.Requests.{Goes, way_of}
 use Rattle.cluster_rules.specs.Sound.{IsAmong}
 use Rattle.serving_rules.specs.Serving.{Serves, Size}
@@ -28,6 +30,18 @@ HoldUpTo term (s ∷ ss) = ((kept : Kept) × (s.contents ≡ Some kept) × (kept
 abbrev pub IsForemost : List Store → Type 0
 IsForemost [] = Unit {0}
 IsForemost (first ∷ others) = (kept : Kept) × (first.contents ≡ Some kept) × HoldUpTo kept.term others
+
+-- each of these stores tells what it holds, with no higher term than this and no more up to date a log
+abbrev pub HoldBehind : Kept → List Store → Type 0
+HoldBehind first [] = Unit {0}
+HoldBehind first (s ∷ ss) =
+    ((kept : Kept) × (s.contents ≡ Some kept) × (kept.term ≤ first.term)
+    × IsUpToDate (last_term first.log) (length first.log) kept.log) × HoldBehind first ss
+
+-- Server 1's store holds this, and it is ahead of all others in both, its term and its log.
+abbrev pub IsAheadBy : Kept → List Store → Type 0
+IsAheadBy first [] = Unit {0}
+IsAheadBy first (s ∷ others) = (s.contents ≡ Some first) × HoldBehind first others
 
 -- All servers run. Each one but server 1 is a follower, and neither its term nor that of a message on its way is above
 -- server 1's.
@@ -75,6 +89,19 @@ pub record Election : Type 0 where
   pub cluster : Cluster
   pub serves : Serves size cluster
   pub are_empty : AreEmpty size.stores
+  pub sure : AreSure size.stores
+  pub whole : serves.whole ≡ true
+  pub delivered : OnlyDelivered serves.moves
+  pub settled : cluster.world.bag.packets ≡ []
+
+-- The same over stores that were kept, of which server 1's is ahead, and its term can still rise.
+pub record LaterElection : Type 0 where
+  pub size : Size
+  pub cluster : Cluster
+  pub serves : Serves size cluster
+  pub first : Kept
+  pub ahead : IsAheadBy first size.stores
+  pub can_rise : first.term < 2 ^ 64 - 1
   pub sure : AreSure size.stores
   pub whole : serves.whole ≡ true
   pub delivered : OnlyDelivered serves.moves

@@ -14,7 +14,11 @@
 //! halted or lost its leadership. Empty stores are such, and so are those that such a cluster leaves. Over empty
 //! stores server 1 is elected: once nothing is on its way any more it leads, and requests find it from each server
 //! then and for ever after, where every event was whole and nothing was done behind its timeout but deliveries, each
-//! followed by that message's loss; and there are such runs. Carried by: `leading::*`.
+//! followed by that message's loss; and there are such runs. Then and for ever after it is ready: it has committed an
+//! entry of its own term, and where nothing is due there it has applied one; and no request is refused because it is
+//! not. Over stores that were kept server 1 is elected in the same way, if its own store has the highest term and a log
+//! that is as up to date as every other, and its term can still rise; empty stores are such, and so are those that a
+//! cluster leaves that served over such ones. Carried by: `leading::*`.
 #![tactic(auto)]
 
 pub mod laws;
