@@ -39,7 +39,7 @@ impl Bytes {
         self.vec.as_slice()
     }
 
-    /// Puts more bytes last. After want of memory these are as before.
+    /// Puts more bytes last. After running out of memory these are as before.
     pub fn extend(&mut self, more: &[u8]) -> Result<(), Memory>
         ensures ok { OnOk result (self.new ≡ self.old ++ more.now) }
         ensures err { OnErr result (self.new ≡ self.old) }

@@ -1,5 +1,12 @@
 //! The plain values of the catalog: its rows, commands, queries, requests and replies, and in `specs/` the
 //! definitions that speak of them.
+//!
+//! # What is proved
+//!
+//! The laws of the catalog machine, for all seventeen commands and all sixteen queries: the index law, the covering law
+//! of channels, the lock law, key order, one spelling for each command, what a view of tables gives, the sync law. A
+//! list made of lists has just the items that the test or the function says, in their order. Carried by: `laws::*`,
+//! `spelling_laws::*`, the functions of `lists`.
 #![tactic(auto)]
 
 mod applied;

@@ -1,11 +1,11 @@
 //! Lists that are made of lists, joined, copied and compared, with the items told by functions.
 
-mod comparing;
-mod copying;
-mod joining;
-mod making;
+mod comparisons;
+mod copies;
+mod joins;
+mod maps;
 
-pub use comparing::all_same;
-pub use copying::{copied, copy_if_any, copy_of};
-pub use joining::{around, joined, one, two};
-pub use making::{chosen, gathered, kept, made};
+pub use comparisons::all_same;
+pub use copies::{copied, copy_if_any, copy_of};
+pub use joins::{around, joined, one, two};
+pub use maps::{chosen, gathered, kept, made};

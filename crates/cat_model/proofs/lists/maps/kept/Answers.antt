@@ -3,8 +3,8 @@ use Rattle.std.proofs.lemmas.Fn.{says_at}
 use Rattle.std.proofs.lemmas.List.{take_all}
 use Rattle.std.proofs.Common.{refl}
 use Rattle.cat_model.proofs.Items.{next_kept}
-use Rattle.cat_model.proofs.lists.making.kept.Goals as goal
-use Rattle.cat_model.proofs.lists.making.kept.Goals.{then-test+in_ok-clone+in_ok-push, else-test}
+use Rattle.cat_model.proofs.lists.maps.kept.Goals as goal
+use Rattle.cat_model.proofs.lists.maps.kept.Goals.{then-test+in_ok-clone+in_ok-push, else-test}
 
 pub loop-item-preserved : goal.loop-item-preserved
 loop-item-preserved g c = λ p h.

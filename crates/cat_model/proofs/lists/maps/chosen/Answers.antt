@@ -3,8 +3,8 @@ use Rattle.std.specs.List.{filter_map, cons_option}
 use Rattle.std.proofs.lemmas.Fn.{says_at}
 use Rattle.std.proofs.lemmas.List.{take_all}
 use Rattle.cat_model.proofs.Items.{next_chosen}
-use Rattle.cat_model.proofs.lists.making.chosen.Goals as goal
-use Rattle.cat_model.proofs.lists.making.chosen.Goals.{in-Some+in_ok-push, in_default}
+use Rattle.cat_model.proofs.lists.maps.chosen.Goals as goal
+use Rattle.cat_model.proofs.lists.maps.chosen.Goals.{in-Some+in_ok-push, in_default}
 
 pub loop-item-preserved : goal.loop-item-preserved
 loop-item-preserved g c = λ f h.

@@ -1,6 +1,6 @@
 use Rattle.std.proofs.Common.{◌≡◌, Ok, map, take}
 use Rattle.std.specs.Fn.{FnReturnsAt}
-use Rattle.cat_model.proofs.lists.making.made.Given as goal
+use Rattle.cat_model.proofs.lists.maps.made.Given as goal
 
 abbrev pub invariant-loop-item : goal.invariant-loop-item
 invariant-loop-item g l =

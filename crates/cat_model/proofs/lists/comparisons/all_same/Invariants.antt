@@ -1,7 +1,7 @@
 use Rattle.std.proofs.Common.{◌≡◌, Bool, length}
 use Rattle.std.specs.Fn.{FnReturnsAtPair}
 use Rattle.std.specs.Cmp.Lexicographic.{pointwise}
-use Rattle.cat_model.proofs.lists.comparing.all_same.Given as goal
+use Rattle.cat_model.proofs.lists.comparisons.all_same.Given as goal
 
 abbrev pub invariant-loop-x : goal.invariant-loop-x
 invariant-loop-x g l =

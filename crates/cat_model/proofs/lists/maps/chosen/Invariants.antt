@@ -1,7 +1,7 @@
 use Rattle.std.proofs.Common.{◌≡◌, Ok, Option, take}
 use Rattle.std.specs.List.{filter_map}
 use Rattle.std.specs.Fn.{FnReturnsAt}
-use Rattle.cat_model.proofs.lists.making.chosen.Given as goal
+use Rattle.cat_model.proofs.lists.maps.chosen.Given as goal
 
 abbrev pub invariant-loop-item : goal.invariant-loop-item
 invariant-loop-item g l =

@@ -1,7 +1,7 @@
 use Rattle.std.proofs.Common.{◌≡◌, ◌∙◌, ◌&&◌, refl, sym, ap}
 use Rattle.std.proofs.lemmas.Fn.{says_at_two}
 use Rattle.std.specs.Cmp.Lexicographic.{pointwise}
-use Rattle.cat_model.proofs.lists.comparing.all_same.Goals as goal
+use Rattle.cat_model.proofs.lists.comparisons.all_same.Goals as goal
 
 pub returns-then-not-same : goal.returns-then-not-same
 returns-then-not-same g c = λ e h.

@@ -1,6 +1,6 @@
 use Rattle.std.proofs.Common.{◌≡◌, Bool, filter, take}
 use Rattle.std.specs.Fn.{FnReturnsAt}
-use Rattle.cat_model.proofs.lists.making.kept.Given as goal
+use Rattle.cat_model.proofs.lists.maps.kept.Given as goal
 
 abbrev pub invariant-loop-item : goal.invariant-loop-item
 invariant-loop-item g l =

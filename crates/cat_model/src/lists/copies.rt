@@ -4,7 +4,7 @@ ghost use Rattle.std.specs.Prelude.{◌≡◌, [], IfOk};
 ghost use Rattle.std.specs.List.{cons_option};
 ghost use Rattle.std.specs.Option.{option_copied};
 
-use crate::lists::joining::one;
+use crate::lists::joins::one;
 use crate::{List, Memory};
 use std::alloc::Global;
 

@@ -3,7 +3,7 @@ use Rattle.std.proofs.lemmas.Fn.{says_at}
 use Rattle.std.proofs.lemmas.List.{take_all}
 use Rattle.cat_model.specs.Lists.{flat}
 use Rattle.cat_model.proofs.Items.{next_gathered}
-use Rattle.cat_model.proofs.lists.making.gathered.Goals as goal
+use Rattle.cat_model.proofs.lists.maps.gathered.Goals as goal
 
 pub loop-item-preserved : goal.loop-item-preserved
 loop-item-preserved g c = λ f h.

@@ -1,7 +1,7 @@
 use Rattle.std.proofs.Common.{◌≡◌, List, Ok, take}
 use Rattle.std.specs.Fn.{FnReturnsAt}
 use Rattle.cat_model.specs.Lists.{flat}
-use Rattle.cat_model.proofs.lists.making.gathered.Given as goal
+use Rattle.cat_model.proofs.lists.maps.gathered.Given as goal
 
 abbrev pub invariant-loop-item : goal.invariant-loop-item
 invariant-loop-item g l =
