@@ -12,7 +12,7 @@ use crate::checks::{
     drop_checks, drop_checks_of, has_check, has_own, is_own, marked, place_checks, watched_rows,
 };
 use crate::fault::ChangeFault;
-use crate::replacing::{replace_all, replacements};
+use crate::replacements::{replace_all, replacements};
 use crate::services::{drop_services, has_service, service_row};
 use crate::watched::watched_row;
 use cat_model::{AgentOp, Memory, ServiceDef, Status, Text, TtlDef};

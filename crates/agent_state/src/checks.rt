@@ -13,7 +13,7 @@ ghost use Rattle.agent_state.specs.Order.{ChecksAscend, all_put};
 ghost use Rattle.agent_state.specs.Replacing.{other_or};
 
 use crate::names::compare_own;
-use crate::replacing::{replace_all, replacements};
+use crate::replacements::{replace_all, replacements};
 use crate::watched::{Watched, watched_row};
 use cat_model::lists::{copy_of, made};
 use cat_model::{Memory, Status, Text, TtlDef};

@@ -11,9 +11,9 @@ mod checks;
 mod commands;
 mod differences;
 mod ordered;
-mod planning;
+mod plan;
 mod same;
 mod services;
 mod tags;
 
-pub use planning::{RowPlan, plan_rows};
+pub use plan::{RowPlan, plan_rows};

@@ -1,6 +1,6 @@
 //! A cluster over what an earlier one's stores held, and one over stores that no run left.
 
-use crate::asking::{elect, reads, setting, writes};
+use crate::requests::{elect, reads, setting, writes};
 use crate::stores::{Servers, journal_of, one_server, three_servers};
 use cat_model::{Bytes, Entry, List, Memory};
 use cluster_interface::ClusterInterface;

@@ -2,7 +2,7 @@
 #![tactic(auto)]
 
 #[cfg(test)]
-mod asking;
+mod requests;
 #[cfg(test)]
 mod begun;
 #[cfg(test)]

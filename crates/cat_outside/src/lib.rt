@@ -9,7 +9,7 @@
 #![tactic(auto)]
 
 mod copies;
-mod failing;
+mod failures;
 mod faults;
 mod keeper;
 mod mem_keeper;
@@ -20,7 +20,7 @@ mod source;
 #[cfg(test)]
 mod tests;
 
-pub use failing::is_listed;
+pub use failures::is_listed;
 pub use faults::{Failed, KeepFail};
 pub use keeper::Keeper;
 pub use mem_keeper::{MemKeeper, SureKeeper};

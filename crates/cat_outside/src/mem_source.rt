@@ -4,7 +4,7 @@ ghost use Rattle.std.specs.Io.KnownBytes.{ReadConsumes};
 ghost use Rattle.cat_outside.specs.Causes.{counted, HasCause, CountsEnd};
 ghost use Rattle.cat_outside.specs.InMemory.{is_listed};
 
-use crate::failing::is_listed;
+use crate::failures::is_listed;
 use crate::{Failed, Source};
 use cat_model::{Bytes, List};
 use std::marker::Model;

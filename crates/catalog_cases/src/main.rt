@@ -9,12 +9,12 @@
 
 mod commands;
 mod line;
-mod playing;
+mod cases;
 mod queries;
 mod shown;
 mod words;
 
-use crate::playing::{Difference, play};
+use crate::cases::{Difference, play};
 use anyhow::{Context, Result};
 use std::fs;
 use std::process::ExitCode;

@@ -22,7 +22,7 @@ use Rattle.health_view.specs.Rows.{rows_with}
 use Rattle.health_view.proofs.Joining as joining
 use Rattle.cat_model.specs.Lists.{flat}
 use Rattle.catalog_query.specs.Placing.{counts_for, placed}
-use Rattle.catalog_query.proofs.Filters.{filter_weaker, map_alike, each_found, both_hold, flat_is}
+use Rattle.catalog_query.proofs.Filtering.{filter_weaker, map_alike, each_found, both_hold, flat_is}
 
 abbrev shown_as : CheckRow → List ℕ → CheckView
 shown_as c name = record { row = c; service_name = name }

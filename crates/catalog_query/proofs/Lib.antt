@@ -1,4 +1,4 @@
-pub mod Filters
+pub mod Filtering
 pub mod Gathering
 pub mod Naming
 pub mod OneKey

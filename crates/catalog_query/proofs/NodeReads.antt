@@ -14,7 +14,7 @@ use Rattle.cat_model.specs.declared.query.Query.TheVariants as q
 use Rattle.cat_model.proofs.Pairs.{pair_cmp_total}
 use Rattle.cat_model.proofs.SameLemmas.{text_decides}
 use Rattle.cat_model.proofs.TableLemmas.{row_at-filter}
-use Rattle.catalog_query.proofs.Filters.{filter_weaker, map_alike}
+use Rattle.catalog_query.proofs.Filtering.{filter_weaker, map_alike}
 
 module _ (node : List ℕ) (k : Catalog) where
   abbrev on_node : ServiceRow → Bool

@@ -12,7 +12,7 @@ mod answers;
 mod checks;
 mod executions;
 mod fault;
-mod hanging;
+mod channels;
 mod indexes;
 mod instances;
 mod keys;

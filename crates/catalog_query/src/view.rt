@@ -9,7 +9,7 @@ ghost use Rattle.cat_model.specs.Views.{kept_index};
 ghost use Rattle.catalog_query.specs.Executing.{Executes};
 ghost use Rattle.catalog_query.specs.Standing.{view_index, NamesFit, Stands};
 
-use crate::{ExecuteFault, answers, executions, hanging, indexes};
+use crate::{ExecuteFault, answers, channels, executions, indexes};
 use cat_model::{Answer, Chan, List, Memory, Query, Ran, Steps};
 use catalog_table::CatalogTable;
 use kv_table::KvTable;
@@ -77,7 +77,7 @@ pub fn chans(alloc: Global, view: &View, query: &Query) -> Result<List<Chan>, Me
     ensures chans { IfOk result (λ l. l ≡ chans query.now view.now.rows) }
     ensures stands { (log : List Command) → Stands view.now log → IfOk result (λ l. l ≡ chans query.now (catalog_at log)) }
 {
-    hanging::of_query(alloc, view.kv, view.catalog, query)
+    channels::of_query(alloc, view.kv, view.catalog, query)
 }
 
 /// Executes the prepared query that the name names: the one of the identifier that it spells, if it spells one and there

@@ -1,4 +1,4 @@
-use crate::playing::Played;
+use crate::scripts::Played;
 use std::fmt;
 use std::fmt::{Display, Formatter, Write};
 

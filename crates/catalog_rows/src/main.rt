@@ -17,14 +17,14 @@
 mod difference;
 mod files;
 mod in_full;
-mod playing;
+mod scripts;
 mod row;
 mod served_row;
-mod serving;
+mod servers;
 mod ways;
 
 use crate::difference::{Difference, first_difference};
-use crate::playing::play;
+use crate::scripts::play;
 use crate::row::{Row, read_long_row, read_row};
 use crate::ways::is_served_as_written;
 use anyhow::{Context, Result};

@@ -1,7 +1,7 @@
 //! The ways in which a row is served.
 
 use crate::served_row::{ServedRow, read_served};
-use crate::serving::{Ended, serve, serve_at_once};
+use crate::servers::{Ended, serve, serve_at_once};
 use anyhow::{Context, Result, bail};
 use std::alloc::Global;
 use std::sync::Wait;

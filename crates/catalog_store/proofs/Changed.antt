@@ -12,7 +12,7 @@ use Rattle.catalog_table.specs.Names.{is_among}
 use Rattle.catalog_table.specs.declared.changed.Changed.{Changed}
 use Rattle.catalog_store.specs.Firing.{Once, FiresJust}
 use Rattle.catalog_store.specs.Registering.{has_some, one_if, all_chans, goes}
-use Rattle.catalog_store.specs.declared.registering.NodeChange.{NodeChange}
+use Rattle.catalog_store.specs.declared.registrations.NodeChange.{NodeChange}
 
 -- channels of smaller kinds are others
 kind : Chan → ℕ

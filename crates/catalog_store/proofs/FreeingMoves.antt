@@ -24,7 +24,7 @@ use Rattle.cat_model.proofs.TableLemmas.{All-weaker, eq_is, Ascends-filter_map}
 use Rattle.cat_model.proofs.Lookups.{row_at-filter_map, row_then}
 use Rattle.cat_model.proofs.InOrder.{own_rows}
 use Rattle.kv_table.specs.States.{KvVersions}
-use Rattle.catalog_store.specs.declared.key_commands.freeing.Holding.{Holding}
+use Rattle.catalog_store.specs.declared.key_commands.freed_keys.Holding.{Holding}
 use Rattle.catalog_store.specs.Firing.{Once, keys_fire}
 use Rattle.catalog_store.specs.Steps.{Moves}
 use Rattle.catalog_store.specs.Freeing.{freed_rows, freed_keys, freed_holding, holding_key, holding_at, holdings, row_holding, found_holding, left, left_of, deletes, any_deleted, any_released, Frees}

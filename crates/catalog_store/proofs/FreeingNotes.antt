@@ -19,7 +19,7 @@ use Rattle.cat_model.proofs.Lookups.{row_at-put, row_at-append}
 use Rattle.cat_model.proofs.Elements.{Ascends-filter_map}
 use Rattle.cat_model.proofs.InOrder.{key_of_found}
 use Rattle.kv_table.specs.States.{is_held_by}
-use Rattle.catalog_store.specs.declared.key_commands.freeing.Holding.{Holding}
+use Rattle.catalog_store.specs.declared.key_commands.freed_keys.Holding.{Holding}
 use Rattle.catalog_store.specs.Freeing.{holding, holding_key, holding_at, holdings, row_holding, found_holding, is_among, Notes, NotesOf}
 use Rattle.catalog_store.proofs.FreeingTables.{same_table, row_at-made, or_row, made_of}
 

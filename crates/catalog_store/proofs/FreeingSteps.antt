@@ -16,7 +16,7 @@ use Rattle.cat_model.proofs.TableLemmas.{eq_is, Ascends-filter, Ascends-put}
 use Rattle.cat_model.proofs.Lookups.{row_at-put, row_at-append}
 use Rattle.cat_model.proofs.InOrder.{key_of_found}
 use Rattle.kv_table.specs.States.{KvVersions, SetsRow, TombsUnder}
-use Rattle.catalog_store.specs.declared.key_commands.freeing.Holding.{Holding}
+use Rattle.catalog_store.specs.declared.key_commands.freed_keys.Holding.{Holding}
 use Rattle.catalog_store.specs.Steps.{Buries}
 use Rattle.catalog_store.specs.Freeing.{holding_key, holding_at, released, put_released, left, left_of, deletes, any_deleted, any_released, Releases, Frees}
 use Rattle.catalog_store.proofs.FreeingTables.{or_row}

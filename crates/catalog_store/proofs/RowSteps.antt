@@ -38,7 +38,7 @@ use Rattle.cat_model.specs.declared.applied.Refuse.TheVariants.{MissingService}
 use Rattle.catalog_store.specs.States.{State, whole}
 use Rattle.catalog_store.specs.Standing.{Ready}
 use Rattle.catalog_store.specs.Registering.{node_of, has_some, change_of, goes, host_after, checks_after, Marks, all_chans, RowStep, with_rows}
-use Rattle.catalog_store.specs.declared.registering.NodeChange.{NodeChange}
+use Rattle.catalog_store.specs.declared.registrations.NodeChange.{NodeChange}
 use Rattle.catalog_store.proofs.Quiet.{fit_later, same_keys, same_sessions, same_queries, still_row}
 use Rattle.catalog_store.proofs.Marking.{own_or_first}
 use Rattle.catalog_store.proofs.Changed.{FiresChanged, changed_just}

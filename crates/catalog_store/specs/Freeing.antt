@@ -15,7 +15,7 @@ use Rattle.cat_model.specs.declared.row.SessionRow.{SessionRow}
 use Rattle.cat_model.specs.declared.row.Behavior.{Behavior}
 use Rattle.cat_model.specs.declared.row.Behavior.TheVariants.{Release, Delete}
 use Rattle.kv_table.specs.States.{KvVersions, TombsUnder}
-use Rattle.catalog_store.specs.declared.key_commands.freeing.Holding.{Holding}
+use Rattle.catalog_store.specs.declared.key_commands.freed_keys.Holding.{Holding}
 
 -- the rows after these sessions ended
 abbrev pub freed_rows : ℕ → List SessionRow → List KvRow → List KvRow

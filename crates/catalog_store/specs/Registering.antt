@@ -16,7 +16,7 @@ use Rattle.table_index.specs.States.{IndexState, SameTables, SameHosts, with_tab
 use Rattle.table_index.specs.declared.positions.Table.{Table}
 use Rattle.catalog_store.specs.States.{State}
 use Rattle.catalog_store.specs.Whole.{Acts}
-use Rattle.catalog_store.specs.declared.registering.NodeChange.{NodeChange}
+use Rattle.catalog_store.specs.declared.registrations.NodeChange.{NodeChange}
 
 -- the node that a registration or its undoing names
 abbrev pub node_of : Command → List ℕ

@@ -1,12 +1,12 @@
 //! The commands on keys: what each does to the table of the keys, what it answers, and the channels that it fires.
 
-mod applying;
-mod freeing;
+mod commands;
+mod freed_keys;
 mod keys;
-mod locking;
-mod transacting;
+mod locks;
+mod transactions;
 mod transaction;
 
-pub use applying::apply;
-pub use freeing::free;
-pub use transacting::apply_txn;
+pub use commands::apply;
+pub use freed_keys::free;
+pub use transactions::apply_txn;

@@ -9,11 +9,11 @@
 #![tactic(auto)]
 
 mod channels;
-mod ending;
+mod session_ends;
 mod key_commands;
 mod lost;
 mod queries;
-mod registering;
+mod registrations;
 mod sessions;
 mod steps;
 mod store;

@@ -11,10 +11,10 @@ ghost use Rattle.catalog_store.specs.Registering.{RowStep, node_of, with_rows};
 ghost use Rattle.catalog_table.specs.Steps.{IsRegistration};
 ghost use Rattle.catalog_store.specs.Making.{ends_none};
 
-use crate::ending::end;
+use crate::session_ends::end;
 use crate::lost::lost_checks;
 use crate::tables::Tables;
-use crate::{key_commands, queries, registering, sessions};
+use crate::{key_commands, queries, registrations, sessions};
 use cat_model::lists::joined;
 use cat_model::{Applied, Chan, Command, Fired, List, Memory, Text, TxnOp};
 use std::alloc::Global;
@@ -128,8 +128,8 @@ fn change_rows(
             node,
             service,
             check,
-        } => registering::deregister(alloc, tables, position, node, service, check),
-        _ => registering::register(alloc, tables, position, command, node),
+        } => registrations::deregister(alloc, tables, position, node, service, check),
+        _ => registrations::register(alloc, tables, position, command, node),
     }
 }
 

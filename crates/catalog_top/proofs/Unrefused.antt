@@ -11,7 +11,7 @@ use Rattle.cluster_rules.proofs.Starting.{begun_servers}
 use Rattle.script_runs.specs.Holds.{IsFirstStart}
 use Rattle.script_runs.specs.Lines.{Makes, misfit}
 use Rattle.script_runs.specs.Plays.{Ending, Refused, Plays}
-use Rattle.script_player.specs.declared.opening.Opening.{Opening}
+use Rattle.script_player.specs.declared.openings.Opening.{Opening}
 use Rattle.script_player.specs.Script.{Script, Opened, said, script_of}
 use Rattle.script_player.specs.Run.{Played, Writes, closed, played}
 use Rattle.catalog_top.specs.Limits.{is_too_long}

@@ -33,7 +33,7 @@ use Rattle.cluster_parts.specs.Standing as standing
 use Rattle.cluster_parts.specs.Standing.{IsAwaited}
 use Rattle.office_rules.specs.Offices.{Office, renew_in}
 use Rattle.cluster_servers.specs.Servers.{Servers, officed}
-use Rattle.cluster_parts.proofs.Acts.{stands_officed}
+use Rattle.cluster_parts.proofs.Acting.{stands_officed}
 use Rattle.cluster_parts.proofs.Kept.{answer_stands}
 use Rattle.cluster.proofs.Notes.{come_made, numbers_by}
 use Rattle.cluster.proofs.Results.{stands_alike, stands_more}

@@ -13,5 +13,5 @@ pub mod Taken
 pub mod Clocks
 pub mod Notes
 pub mod AgentParts
-pub mod Syncs
+pub mod Syncing
 pub mod Results

@@ -30,8 +30,8 @@ use Rattle.cluster_rules.proofs.Tools.{is_node}
 use Rattle.cluster_turns.specs.Turns.{HandlesNewest, IsCome, newest, numbered}
 use Rattle.cluster_servers.specs.Servers.{IsBehind, Servers}
 use Rattle.open_requests.specs.Requests.{Requests, answered_with, cluster_of as whole_of, holding_with, numbered_with, used}
-use Rattle.cluster_parts.specs.declared.writing.Write.{Write}
-use Rattle.cluster_parts.specs.declared.moving.Seen.{Seen}
+use Rattle.cluster_parts.specs.declared.writes.Write.{Write}
+use Rattle.cluster_parts.specs.declared.moves.Seen.{Seen}
 use Rattle.cluster_parts.specs.Asking.{EndsWrite, IsCopied, IsTakenWrite}
 use Rattle.cluster_parts.specs.Moving.{MarksStep, seen_of}
 use Rattle.cluster_parts.specs.Standing as standing

@@ -20,7 +20,7 @@ use Rattle.cluster_rules.proofs.Tools.{is_node, one_of}
 use Rattle.cluster_turns.specs.Turns.{HandlesNewest, IsCome, newest, numbered}
 use Rattle.cluster_servers.specs.Servers.{Servers}
 use Rattle.open_requests.specs.Requests.{Requests, cluster_of as whole_of, holding_with, numbered_with, used}
-use Rattle.cluster_parts.specs.declared.moving.Seen.{Seen}
+use Rattle.cluster_parts.specs.declared.moves.Seen.{Seen}
 use Rattle.cluster_parts.specs.Asking.{EndsProbe, IsNewRead}
 use Rattle.cluster_parts.specs.Moving.{MarksStep, seen_of}
 use Rattle.cluster_parts.specs.Standing as standing

@@ -16,7 +16,7 @@ use Rattle.agent_rules.specs.Agents.{Agent}
 use Rattle.cluster_servers.specs.Servers.{Servers, officed}
 use Rattle.open_requests.specs.Requests.{Requests, cluster_of}
 use Rattle.session_ttl.specs.Endings.{ending_of}
-use Rattle.session_ttl.specs.declared.ending.Ending.{Ending}
+use Rattle.session_ttl.specs.declared.ends.Ending.{Ending}
 use Rattle.cluster_turns.specs.Turns.{TendsInPart}
 use Rattle.cluster.specs.Tending.{EndsProposed, ReapsProposed, is_reap_due}
 use Rattle.cluster_parts.specs.Ending.{end_command}

@@ -5,7 +5,7 @@ use Rattle.cat_model.specs.Syncs.{plan}
 use Rattle.node_rows.specs.Tags.{all_tagged}
 use Rattle.node_rows.specs.declared.tags.Retag.{Retag}
 use Rattle.agent_rules.specs.Agents.{Agent}
-use Rattle.anti_entropy.specs.declared.planning.RowPlan.{RowPlan}
+use Rattle.anti_entropy.specs.declared.plan.RowPlan.{RowPlan}
 use Rattle.cluster_rules.specs.Cluster.{Cluster, agent_of}
 use Rattle.cluster_rules.specs.Proposals.{Proposals, adopted, agent_did, did_own, merged_at, remote_at, synced}
 use Rattle.cluster_turns.specs.AgentEvents.{agent_in, event_of_agent, with_number}

@@ -20,25 +20,25 @@
 //! which is `Parts` of `cluster_turns` and a `ClusterInterface`.
 #![tactic(auto)]
 
-mod acting;
+mod acts;
 mod agent_parts;
 mod cluster;
-mod delaying;
-mod fitting;
-mod handling;
-mod noting;
+mod delays;
+mod misfits;
+mod handlers;
+mod idle_events;
 mod parts;
-mod playing;
-mod probing;
+mod front;
+mod probes;
 mod proposals;
 mod remote_rows;
-mod renewing;
-mod starting;
-mod stepping;
-mod syncing;
-mod taking;
-mod ticking;
-mod turning;
+mod renewals;
+mod start;
+mod steps;
+mod syncs;
+mod takings;
+mod ticks;
+mod turns;
 mod uncounted;
 
 pub use cluster::Cluster;

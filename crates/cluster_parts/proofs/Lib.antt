@@ -1,4 +1,4 @@
-pub mod Acts
+pub mod Acting
 pub mod AgentPlaces
 pub mod Awake
 pub mod Carried
@@ -22,6 +22,6 @@ pub mod Restarts
 pub mod Rounds
 pub mod Slept
 pub mod Slots
-pub mod Turns
+pub mod Turning
 pub mod Watched
 pub mod Woken

@@ -17,7 +17,7 @@ use Rattle.cluster_rules.proofs.Boundary.{acts_greatest, acts_server, leader_the
 use Rattle.cluster_rules.proofs.Tools.{is_node}
 use Rattle.cluster_servers.specs.Servers.{Servers}
 use Rattle.open_requests.specs.Requests.{Requests, cluster_of as whole_of}
-use Rattle.cluster_parts.specs.declared.moving.Seen.{Seen}
+use Rattle.cluster_parts.specs.declared.moves.Seen.{Seen}
 use Rattle.cluster_parts.specs.Moving.{MarksStep, seen_of}
 use Rattle.cluster_parts.specs.Proposing.{EndedOne, EndsProposal, OneProposed}
 use Rattle.cluster_parts.specs.Standing as standing

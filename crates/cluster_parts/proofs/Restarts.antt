@@ -17,7 +17,7 @@ use Rattle.cluster_rules.proofs.Tools.{eq_tells_not, item_other, length_set_serv
 use Rattle.open_requests.proofs.Numbering.{entries_uncounted}
 use Rattle.open_requests.specs.Held.{NumbersAll}
 use Rattle.open_requests.specs.Requests.{Requests, cluster_of as whole_of, ended_all}
-use Rattle.cluster_parts.specs.declared.moving.Seen.{Seen}
+use Rattle.cluster_parts.specs.declared.moves.Seen.{Seen}
 use Rattle.cluster_parts.specs.Acting.{Acted, AreAwake}
 use Rattle.cluster_parts.specs.Moving.{IsMarked, seen_of}
 use Rattle.cluster_parts.specs.Standing as standing

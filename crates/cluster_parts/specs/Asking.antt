@@ -22,8 +22,8 @@ use Rattle.cluster_rules.specs.Replies.{Question, Says, entered}
 use Rattle.cluster_rules.specs.Cluster.{Cluster, AtPlace, InRound, Proposed, Probed, clock_of, node_of}
 use Rattle.cluster_rules.specs.Requests.{look_of, wait_of}
 use Rattle.open_requests.specs.Requests.{Requests, answered_with, holding_with, numbered_with, used}
-use Rattle.cluster_parts.specs.declared.writing.Write.{Write}
-use Rattle.cluster_parts.specs.declared.moving.Seen.{Seen}
+use Rattle.cluster_parts.specs.declared.writes.Write.{Write}
+use Rattle.cluster_parts.specs.declared.moves.Seen.{Seen}
 use Rattle.cluster_parts.specs.Moving.{MarksStep}
 
 -- the copies of a write that asks for this command, with its entry, and what the log of server i would have with that

@@ -9,7 +9,7 @@ use Rattle.cluster_servers.specs.Servers.{Servers, officed}
 use Rattle.cluster_turns.specs.declared.cut.Cut.{Cut}
 use Rattle.cluster_turns.specs.declared.cut.Cut.TheVariants.{Before, Within}
 use Rattle.open_requests.specs.Requests.{Requests, halted_with, joining}
-use Rattle.cluster_parts.specs.declared.moving.Seen.{Seen}
+use Rattle.cluster_parts.specs.declared.moves.Seen.{Seen}
 
 -- what is seen of server i in this world
 abbrev pub seen_of : World → ℕ → Seen

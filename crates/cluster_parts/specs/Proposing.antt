@@ -14,8 +14,8 @@ use Rattle.cluster_rules.specs.Proposals.{Proposals}
 use Rattle.cluster_rules.specs.Requests.{moved}
 use Rattle.cluster_servers.specs.Servers.{Servers}
 use Rattle.open_requests.specs.Requests.{Requests, cluster_of}
-use Rattle.cluster_parts.specs.declared.moving.Seen.{Seen}
-use Rattle.cluster_parts.specs.declared.proposing.Proposed.{Proposed}
+use Rattle.cluster_parts.specs.declared.moves.Seen.{Seen}
+use Rattle.cluster_parts.specs.declared.proposals.Proposed.{Proposed}
 use Rattle.cluster_parts.specs.Moving.{MarksStep}
 use Rattle.cluster_parts.specs.Standing.{Stands}
 use Rattle.cluster_parts.specs.Watching.{Watching}

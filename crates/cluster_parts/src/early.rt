@@ -11,7 +11,7 @@ ghost use Rattle.open_requests.specs.Held.{held_in, pending_of};
 ghost use Rattle.cluster_parts.specs.Looking.{OnlyAwakeIsDue, is_early, is_look_due, is_number_early, is_read_due, is_stand_due, test_held};
 ghost use Rattle.cluster_parts.specs.Standing.{Stands};
 
-use crate::watching::Watching;
+use crate::watch::Watching;
 use cat_model::{Asked, Query, Request};
 use cat_outside::Keeper;
 use cluster_servers::Servers;

@@ -15,7 +15,7 @@ ghost use Rattle.cluster_parts.specs.Working.{Finds, whole};
 
 use crate::duties::past_round;
 use crate::early::is_halted;
-use crate::watching::Watching;
+use crate::watch::Watching;
 use crate::work::Work;
 use cat_outside::Keeper;
 use cluster_servers::Servers;

@@ -14,8 +14,8 @@ ghost use Rattle.cluster_parts.specs.Agents.{IsThere, agent_at, agents_with, own
 ghost use Rattle.cluster_parts.specs.Newest.{DiffersInRoom, GivesRenewal, answered_newest, held_newest, numbered_newest, refused_newest, renewed_in, renewed_newest};
 
 use crate::agents::Agents;
-use crate::copying::copied_question;
-use crate::replying::{own_reply, renewed};
+use crate::copies::copied_question;
+use crate::replies::{own_reply, renewed};
 use cat_model::{AgentOp, Asked, Draw, Memory, Shared};
 use cat_outside::Keeper;
 use cluster_servers::Servers;

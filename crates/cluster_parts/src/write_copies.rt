@@ -4,8 +4,8 @@ ghost use Rattle.std.specs.Prelude.{◌≡◌, ◌+◌, IfOk};
 ghost use Rattle.cat_model.specs.LogLimits.{command_bytes as bytes_of_command};
 ghost use Rattle.cluster_rules.specs.Replies.{entered};
 
-use crate::entering::entered;
-use crate::writing::Write;
+use crate::entries::entered;
+use crate::writes::Write;
 use cat_model::{Command, Entry, Memory, Shared};
 use command_codec::encoded_len;
 use open_requests::Question;

@@ -11,12 +11,12 @@
 //! which that server has applied nothing; the terms of what is applied. Carried by: clauses of `Servers`.
 #![tactic(auto)]
 
-mod deciding;
-mod ending;
+mod decisions;
+mod session_ends;
 mod messages;
 mod remote;
 mod servers;
-mod starting;
+mod start;
 mod steps;
 mod terms;
 

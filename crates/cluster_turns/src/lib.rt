@@ -11,24 +11,24 @@
 #![tactic(auto)]
 
 mod agent_event;
-mod asking;
+mod requests;
 mod cut;
 mod events;
 mod impulse;
-mod making;
+mod any_event;
 mod parts;
-mod settling;
-mod syncing;
-mod ticking;
+mod deliveries;
+mod syncs;
+mod ticks;
 mod turns;
 
 pub use agent_event::AgentEvent;
-pub use asking::ask;
+pub use requests::ask;
 pub use cut::Cut;
 pub use events::{beat, deliver, fail_keep, lose, restart, timeout};
 pub use impulse::Impulse;
-pub use making::make;
+pub use any_event::make;
 pub use parts::{Parts, Way};
-pub use settling::settle;
-pub use ticking::tick;
+pub use deliveries::settle;
+pub use ticks::tick;
 pub use turns::make_up;

@@ -11,4 +11,4 @@ pub mod CommandReads
 pub mod Whole
 pub mod Answering
 pub mod Taking
-pub mod Lengths
+pub mod Counting

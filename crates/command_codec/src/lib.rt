@@ -9,20 +9,20 @@
 #![tactic(auto)]
 
 mod commands;
-mod counting;
-mod decoding;
-mod encoding;
+mod lengths;
+mod decoder;
+mod encoder;
 mod fault;
 mod fields;
 mod lists;
 mod out;
-mod putting;
+mod parts;
 mod records;
 mod texts;
 
 pub use commands::read_command;
-pub use counting::encoded_len;
-pub use decoding::decode;
-pub use encoding::encode;
+pub use lengths::encoded_len;
+pub use decoder::decode;
+pub use encoder::encode;
 pub use fault::{DecodeFault, Fault, ReadError};
 pub use fields::{bad, cut, read_flag, read_number};

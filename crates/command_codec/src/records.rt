@@ -5,7 +5,7 @@ ghost use Rattle.std.specs.List.{fold};
 ghost use Rattle.cat_model.specs.Spelling.{check_bytes, list_bytes, op_bytes, option_bytes, service_bytes, status_bytes, verb_bytes};
 
 use crate::out::Out;
-use crate::putting::{put_flag, put_number, put_session, put_text, put_texts, put_value};
+use crate::parts::{put_flag, put_number, put_session, put_text, put_texts, put_value};
 use cat_model::{List, NewCheck, NewService, Status, TxnOp, Verb};
 
 fn status_byte(status: Status) -> u8

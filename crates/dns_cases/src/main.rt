@@ -5,12 +5,12 @@
 //! or is a packet, ` => ` and its reply, both in hexadecimal digits, where `-` is nothing; a line after `#` is a comment.
 #![tactic(auto)]
 
-mod playing;
-mod registering;
+mod cases;
+mod registrations;
 mod store_reader;
 mod words;
 
-use crate::playing::{Difference, play};
+use crate::cases::{Difference, play};
 use anyhow::{Context, Result};
 use std::fs;
 use std::process::ExitCode;

@@ -2,7 +2,7 @@
 use Rattle.std.specs.Prelude.{ℕ, List}
 use Rattle.cat_model.specs.declared.command.Command.{Command}
 use Rattle.datagram_outside.specs.Ports.{PortState}
-use Rattle.dns_server.specs.declared.serving.DnsEnded.{DnsEnded}
+use Rattle.dns_server.specs.declared.packets.DnsEnded.{DnsEnded}
 use Rattle.dns_server.specs.Served.{HasReason, Served}
 
 -- Between these states of its port it took packets and sent their replies, of so many that it was to answer. What its

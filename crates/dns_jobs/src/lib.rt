@@ -9,10 +9,10 @@
 
 mod job;
 mod reader;
-mod starting;
+mod start;
 #[cfg(test)]
 mod tests;
 
 pub use job::{DnsDone, DnsJob, answer_names};
 pub use reader::ViewReader;
-pub use starting::{NamesTask, finish_names, start_names};
+pub use start::{NamesTask, finish_names, start_names};

@@ -5,7 +5,7 @@ use Rattle.cat_model.specs.declared.command.Command.{Command}
 use Rattle.cat_outside.specs.declared.faults.KeepFail.{KeepFail}
 use Rattle.cat_outside.specs.declared.faults.KeepFail.TheVariants as k
 use Rattle.datagram_outside.specs.Ports.{Datagram, PortState, append_told, Came, Waited}
-use Rattle.dns_server.specs.declared.serving.DnsCause.TheVariants as c
+use Rattle.dns_server.specs.declared.packets.DnsCause.TheVariants as c
 use Rattle.dns_server.specs.Served.{Answered, AllButLast, Passed, Served, cause_of, reply_by}
 
 pub prefix_self : (a : List Command) → IsPrefix a a

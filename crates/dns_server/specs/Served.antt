@@ -8,8 +8,8 @@ use Rattle.cat_outside.specs.declared.faults.KeepFail.TheVariants as k
 use Rattle.datagram_outside.specs.Ports.{Datagram, PortState, append_told}
 use Rattle.dns_service.specs.Reading.{answers_at}
 use Rattle.dns_service.specs.Replies.{dns_reply}
-use Rattle.dns_server.specs.declared.serving.DnsCause.{DnsCause}
-use Rattle.dns_server.specs.declared.serving.DnsCause.TheVariants as c
+use Rattle.dns_server.specs.declared.packets.DnsCause.{DnsCause}
+use Rattle.dns_server.specs.declared.packets.DnsCause.TheVariants as c
 
 -- to the peer, if there is a reply
 abbrev pub sent_to : ℕ → Option (List ℕ) → List Datagram

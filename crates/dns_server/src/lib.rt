@@ -7,9 +7,9 @@
 #![tactic(auto)]
 
 mod cache;
-mod counting;
-mod replying;
-mod serving;
+mod reader;
+mod replies;
+mod packets;
 
-pub use counting::CountedReader;
-pub use serving::{DnsCause, DnsEnded, serve_datagrams};
+pub use reader::CountedReader;
+pub use packets::{DnsCause, DnsEnded, serve_datagrams};

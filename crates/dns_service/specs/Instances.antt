@@ -13,8 +13,8 @@ use Rattle.cat_model.specs.declared.query.Answer.{Answer}
 use Rattle.cat_model.specs.declared.query.Answer.TheVariants as a
 use Rattle.dns_service.specs.declared.sought.Sought.{Sought}
 use Rattle.dns_service.specs.declared.sought.Sought.TheVariants as s
-use Rattle.dns_service.specs.declared.finding.Found.{Found}
-use Rattle.dns_service.specs.declared.finding.Found.TheVariants as f
+use Rattle.dns_service.specs.declared.matches.Found.{Found}
+use Rattle.dns_service.specs.declared.matches.Found.TheVariants as f
 use Rattle.dns_service.specs.Sought.{same_letters, four}
 
 -- ---- what there is, where each query has such an answer

@@ -4,7 +4,7 @@ use Rattle.cat_model.specs.Lists.{flat}
 use Rattle.cat_model.specs.declared.query.Query.{Query}
 use Rattle.cat_model.specs.declared.query.Answer.{Answer}
 use Rattle.dns_service.specs.declared.question.Question.{Question}
-use Rattle.dns_service.specs.declared.finding.Found.{Found}
+use Rattle.dns_service.specs.declared.matches.Found.{Found}
 use Rattle.dns_service.specs.Names.{number_at, question_in}
 use Rattle.dns_service.specs.Sought.{same_letters, sought_of}
 use Rattle.dns_service.specs.Instances.{found_at, records_of, two_bytes}

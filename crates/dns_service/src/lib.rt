@@ -15,13 +15,13 @@
 //! one query a packet. Carried by: `answer_packet`.
 #![tactic(auto)]
 
-mod answering;
-mod finding;
+mod answers;
+mod matches;
 mod question;
 mod reader;
 mod records;
 mod reply;
 mod sought;
 
-pub use answering::answer_packet;
+pub use answers::answer_packet;
 pub use reader::CatalogReader;

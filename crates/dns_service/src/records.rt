@@ -7,7 +7,7 @@ ghost use Rattle.std.specs.List.{list_any};
 ghost use Rattle.dns_service.specs.Instances as spec;
 ghost use Rattle.dns_service.specs.Instances.{address_record, addresses_of, distinct_after, hex_text, host_of, ipv4_of, is_label, record_of, records_of, service_record, service_record_of, services_of, target_named, target_of};
 
-use crate::finding::Found;
+use crate::matches::Found;
 use cat_model::lists::{chosen, copy_of, made};
 use cat_model::{Bytes, Instance, List, Memory, Text};
 use memchr::memchr;

@@ -8,7 +8,7 @@ ghost use Rattle.store_records.specs.declared.records.Record.TheVariants as call
 ghost use Rattle.store_records.specs.Records.{HasSpelling, IsEntry, IsServer};
 ghost use Rattle.file_keeper.specs.Journal.{FileStore, IsWhole, MayFail, MayFailToLoad, MayPut, faults_of, kept_of, made, held_by};
 
-use crate::reading::open_journal;
+use crate::reader::open_journal;
 use crate::window::Unread;
 use cat_model::{Entry, Kept, List};
 use cat_outside::{KeepFail, Keeper};

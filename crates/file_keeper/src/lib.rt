@@ -11,7 +11,7 @@
 
 mod file_keeper;
 mod laws;
-mod reading;
+mod reader;
 mod rebuilt;
 #[cfg(test)]
 mod tests;

@@ -1,6 +1,6 @@
 -- Tokens that are neither three nor four are no test.
 use Rattle.std.proofs.Common.{◌≡◌, List, [], ◌∷◌, length, refl, None}
-use Rattle.filter_expr.specs.declared.lexing.Token.{Token}
+use Rattle.filter_expr.specs.declared.lexer.Token.{Token}
 use Rattle.filter_expr.specs.declared.selectors.Shape.{Shape}
 use Rattle.filter_expr.specs.Tests.{test_of}
 

@@ -1,6 +1,6 @@
 -- The pieces of a list of tokens go on token by token.
 use Rattle.std.proofs.Common.{◌≡◌, Bool, true, false, cond, List, [], ◌∷◌, ◌++◌, Some, None, option_map, refl, ap, ◌∙◌, append_assoc}
-use Rattle.filter_expr.specs.declared.lexing.Token.{Token}
+use Rattle.filter_expr.specs.declared.lexer.Token.{Token}
 use Rattle.filter_expr.specs.Grammar.{put_first, put_front, is_close, inside}
 
 pub front_more : (ts : List Token) (t : Token) (ps : List (List Token)) → put_front (ts ++ t ∷ []) ps ≡ put_front ts (put_first t ps)

@@ -2,7 +2,7 @@
 use Rattle.std.proofs.Common.{◌≡◌, ℕ, ◌+◌, ◌-◌, ◌<◌, true, List, [], ◌∷◌, ◌++◌, length, take, drop, get_or, refl, sym, ap, subst, ◌∙◌, Option, Some, None, arith, append_assoc, suc}
 use Rattle.std.proofs.lemmas.Bool.{cond-true}
 use Rattle.std.proofs.lemmas.List.{take_rest}
-use Rattle.filter_expr.specs.declared.lexing.Token.{Token}
+use Rattle.filter_expr.specs.declared.lexer.Token.{Token}
 use Rattle.filter_expr.specs.Tokens.{between, in_word, read, before, with_front, word_token, is_word_byte}
 
 -- from the first byte on

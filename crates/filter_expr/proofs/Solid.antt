@@ -2,10 +2,10 @@
 -- each that it opens, so it is all of one piece.
 use Rattle.std.proofs.Common.{◌≡◌, ℕ, suc, ◌-◌, ◌==◌, ◌&&◌, false, List, [], ◌∷◌, ◌++◌, refl, sym, ap, ◌∙◌, append_assoc, arith}
 use Rattle.std.proofs.lemmas.Bool.{cond-false, and_right, ne_eqb}
-use Rattle.filter_expr.specs.declared.lexing.Token.{Token}
-use Rattle.filter_expr.specs.declared.lexing.Token.TheVariants as k
-use Rattle.filter_expr.specs.declared.parsing.Joint.{Joint}
-use Rattle.filter_expr.specs.declared.parsing.Joint.TheVariants as j
+use Rattle.filter_expr.specs.declared.lexer.Token.{Token}
+use Rattle.filter_expr.specs.declared.lexer.Token.TheVariants as k
+use Rattle.filter_expr.specs.declared.parser.Joint.{Joint}
+use Rattle.filter_expr.specs.declared.parser.Joint.TheVariants as j
 use Rattle.filter_expr.specs.declared.selectors.Shape.{Shape}
 use Rattle.filter_expr.specs.Expressions.{Expression}
 use Rattle.filter_expr.specs.Grammar.{is_joint, open_behind, put_first, put_front, pieces}

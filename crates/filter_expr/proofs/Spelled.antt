@@ -5,8 +5,8 @@ use Rattle.std.proofs.lemmas.List.{append-nil}
 use Rattle.std.proofs.lemmas.List.Folds.{list_all-append}
 use Rattle.std.proofs.lemmas.Bool.{cond-true, cond-false, and_parts, and_from, not-true, not_from_false, eqb-true}
 use Rattle.std.proofs.lemmas.Option.{none-some, same_Some}
-use Rattle.filter_expr.specs.declared.lexing.Token.{Token}
-use Rattle.filter_expr.specs.declared.lexing.Token.TheVariants as k
+use Rattle.filter_expr.specs.declared.lexer.Token.{Token}
+use Rattle.filter_expr.specs.declared.lexer.Token.TheVariants as k
 use Rattle.filter_expr.specs.Tokens.{is_word_byte, word_token, before, Place, between, in_sign, in_word, in_quotes, begun, signed, worded, quoted, read, tokens_of}
 use Rattle.filter_expr.specs.Spelling.{begins_word, is_inner, AreTokens, no_more, space, opening, closing, equality, difference, word, quotation}
 use Rattle.filter_expr.proofs.TestTable.{map_some}

@@ -4,10 +4,10 @@ use Rattle.std.specs.Option.{option_map, option_and_then}
 use Rattle.std.proofs.lemmas.List.{append-nil}
 use Rattle.std.proofs.lemmas.Bool.{cond_both, and_parts, leb-true, le-leb}
 use Rattle.std.proofs.lemmas.Option.{none-some, same_Some, cond_some, option_and_then_some}
-use Rattle.filter_expr.specs.declared.lexing.Token.{Token}
-use Rattle.filter_expr.specs.declared.lexing.Token.TheVariants as k
-use Rattle.filter_expr.specs.declared.parsing.Joint.{Joint}
-use Rattle.filter_expr.specs.declared.parsing.Joint.TheVariants as j
+use Rattle.filter_expr.specs.declared.lexer.Token.{Token}
+use Rattle.filter_expr.specs.declared.lexer.Token.TheVariants as k
+use Rattle.filter_expr.specs.declared.parser.Joint.{Joint}
+use Rattle.filter_expr.specs.declared.parser.Joint.TheVariants as j
 use Rattle.filter_expr.specs.declared.selectors.Shape.{Shape}
 use Rattle.filter_expr.specs.Expressions.{Expression, Not}
 use Rattle.filter_expr.specs.Tests.{test_of}

@@ -3,10 +3,10 @@
 -- expression in parentheses, or a test of one member. What is in parentheses is parted by none of the signs outside.
 -- Each `not` and each parenthesis is one level deeper than what is around it.
 use Rattle.std.specs.Prelude.{ℕ, zero, suc, ◌-◌, ◌==◌, Bool, true, false, ◌&&◌, nat_le, if◌then◌else◌, List, [], ◌∷◌, ◌++◌, length, map, Option, None, Some, option_map, option_and_then}
-use Rattle.filter_expr.specs.declared.lexing.Token.{Token}
-use Rattle.filter_expr.specs.declared.lexing.Token.TheVariants as k
-use Rattle.filter_expr.specs.declared.parsing.Joint.{Joint}
-use Rattle.filter_expr.specs.declared.parsing.Joint.TheVariants as j
+use Rattle.filter_expr.specs.declared.lexer.Token.{Token}
+use Rattle.filter_expr.specs.declared.lexer.Token.TheVariants as k
+use Rattle.filter_expr.specs.declared.parser.Joint.{Joint}
+use Rattle.filter_expr.specs.declared.parser.Joint.TheVariants as j
 use Rattle.filter_expr.specs.declared.selectors.Shape.{Shape}
 use Rattle.filter_expr.specs.Expressions.{Expression, Not, And, Or}
 use Rattle.filter_expr.specs.Tests.{test_of}

@@ -5,8 +5,8 @@
 -- So `not` binds closest and `or` weakest, and what has no parentheses is joined from the left. Each `not` and each
 -- parenthesis is a level deeper than what is around it, and so many levels are left at most.
 use Rattle.std.specs.Prelude.{◌≡◌, ◌⊎◌, ◌≤◌, ℕ, suc, List, [], ◌∷◌, ◌++◌, length, Some}
-use Rattle.filter_expr.specs.declared.lexing.Token.{Token}
-use Rattle.filter_expr.specs.declared.lexing.Token.TheVariants as k
+use Rattle.filter_expr.specs.declared.lexer.Token.{Token}
+use Rattle.filter_expr.specs.declared.lexer.Token.TheVariants as k
 use Rattle.filter_expr.specs.declared.selectors.Shape.{Shape}
 use Rattle.filter_expr.specs.declared.selectors.Selector.{Selector}
 use Rattle.filter_expr.specs.declared.selectors.Sort.TheVariants as sorts

@@ -1,8 +1,8 @@
 -- How tokens are written: one after another, with spaces between them where one likes, and at least one between two words.
 use Rattle.std.specs.Prelude.{◌≡◌, ℕ, ◌==◌, Bool, true, false, not, ◌&&◌, List, [], ◌∷◌, ◌++◌}
 use Rattle.std.specs.List.{list_all}
-use Rattle.filter_expr.specs.declared.lexing.Token.{Token}
-use Rattle.filter_expr.specs.declared.lexing.Token.TheVariants as k
+use Rattle.filter_expr.specs.declared.lexer.Token.{Token}
+use Rattle.filter_expr.specs.declared.lexer.Token.TheVariants as k
 use Rattle.filter_expr.specs.Tokens.{is_word_byte, word_token}
 
 abbrev pub begins_word : List ℕ → Bool

@@ -9,11 +9,11 @@
 
 mod expression;
 mod fault;
-mod keeping;
+mod predicates;
 mod laws;
-mod lexing;
+mod lexer;
 mod members;
-mod parsing;
+mod parser;
 mod selectors;
 mod tests_of;
 
@@ -21,5 +21,5 @@ pub use expression::{Filter, Literal, Test};
 pub use fault::FilterFault;
 pub use laws::grammar_law;
 pub use members::{Element, Listed, Member};
-pub use parsing::parse;
+pub use parser::parse;
 pub use selectors::{NodeMember, Selector, ServiceMember, Shape, TopMember};

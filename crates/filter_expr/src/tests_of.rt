@@ -10,7 +10,7 @@ ghost use Rattle.filter_expr.specs.Expressions.{Expression, expression_of};
 ghost use Rattle.filter_expr.specs.Tests as spec;
 
 use crate::expression::negated;
-use crate::lexing::Token;
+use crate::lexer::Token;
 use crate::selectors::{Sort, selector_at};
 use crate::{Filter, FilterFault, Literal, Selector, Shape, Test};
 use cat_model::Bytes;

@@ -7,7 +7,7 @@
 #![tactic(auto)]
 
 mod filters;
-mod instances;
+mod joins;
 
 pub use filters::{meeting_tags, not_critical, only_passing, with_tags};
-pub use instances::{join, name_or_blank};
+pub use joins::{join, name_or_blank};

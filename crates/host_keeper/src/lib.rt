@@ -17,8 +17,8 @@ mod gauge;
 mod host_keeper;
 mod host_keepers;
 mod mem_files;
-mod opening;
-mod scanning;
+mod stores;
+mod scan;
 mod tally;
 mod watched;
 

@@ -20,12 +20,12 @@ mod method;
 mod params;
 mod query;
 mod router;
-mod routing;
-mod sending;
+mod route_requests;
+mod thread_safety;
 mod session;
 mod table;
 mod target;
 
 pub use error::{Allow, Parameter, RouteError};
-pub use routing::{Routed, Routes, route};
-pub use sending::routes_cross;
+pub use route_requests::{Routed, Routes, route};
+pub use thread_safety::routes_cross;

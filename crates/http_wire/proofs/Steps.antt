@@ -4,13 +4,13 @@ use Rattle.std.specs.Prelude.{Option, Some, None, is_some}
 use Rattle.std.proofs.lemmas.List.{take-append-drop, take_at, length-drop, length-take-le}
 use Rattle.std.proofs.Math.Seq.{take-append-add}
 use Rattle.http_wire.specs.declared.judge.Head.{Head}
-use Rattle.http_wire.specs.declared.feeding.RawRequest.{RawRequest}
-use Rattle.http_wire.specs.declared.feeding.Got.{Got}
-use Rattle.http_wire.specs.declared.feeding.Got.TheVariants as gots
+use Rattle.http_wire.specs.declared.partial.RawRequest.{RawRequest}
+use Rattle.http_wire.specs.declared.partial.Got.{Got}
+use Rattle.http_wire.specs.declared.partial.Got.TheVariants as gots
 use Rattle.http_wire.specs.Judge.{Facts}
 use Rattle.http_wire.specs.Stream.{go_on, no_head, no_body, Refuses, IsTail, continues}
 use Rattle.http_wire.specs.Reader.{facts_of, raw, IsTop, FoundHead, AreHeld, IsHeld, Behind, Waits, GoesOn, Gives, Moves, AddsBody, KeepsOf, MovesBodyOf, IsBodyOf}
-use Rattle.http_wire.specs.declared.feeding.Fed.{Fed}
+use Rattle.http_wire.specs.declared.partial.Fed.{Fed}
 use Rattle.http_wire.specs.declared.reader.Stop.{Stop}
 use Rattle.http_wire.specs.declared.reader.RequestReader.TheInside.{Inside}
 use Rattle.http_wire.specs.State.{GoesOnHeld}

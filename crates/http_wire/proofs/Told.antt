@@ -3,11 +3,11 @@ use Rattle.std.proofs.Common.{◌≡◌, ◌≢◌, ℕ, ◌<◌, ◌≤◌, Lis
 use Rattle.std.specs.Prelude.{Option, Some, None}
 use Rattle.std.proofs.lemmas.List.{take-append-drop, length-drop}
 use Rattle.http_wire.specs.declared.rejection.Rejection.{Rejection}
-use Rattle.http_wire.specs.declared.feeding.Got.{Got}
-use Rattle.http_wire.specs.declared.feeding.Got.TheVariants as gots
+use Rattle.http_wire.specs.declared.partial.Got.{Got}
+use Rattle.http_wire.specs.declared.partial.Got.TheVariants as gots
 use Rattle.http_wire.specs.declared.reader.Stop.{Stop}
 use Rattle.http_wire.specs.declared.reader.Stop.TheVariants as stops
-use Rattle.http_wire.specs.declared.feeding.RawRequest.{RawRequest}
+use Rattle.http_wire.specs.declared.partial.RawRequest.{RawRequest}
 use Rattle.http_wire.specs.Stream.{Given, go_on, whole, Tail, no_head, refused, Messages, rejection_of}
 use Rattle.http_wire.specs.Reader.{raw, Takes}
 use Rattle.http_wire.specs.State.{Reader, Read, Told, FeedsFrom, Follows, Taking, GivesAll, rejection_in, seen_by, given_by}

@@ -2,16 +2,16 @@
 use Rattle.std.specs.Prelude.{◌≡◌, ℕ, ◌-◌, ◌<◌, ◌≤◌, List, [], ◌∷◌, ◌++◌, length, take, Option, Some, None, Result, Ok, Err}
 use Rattle.httparse.specs.Grammar.{RequestHead, print_request}
 use Rattle.http_wire.specs.declared.rejection.Rejection.{Rejection}
-use Rattle.http_wire.specs.declared.feeding.RawRequest.{RawRequest}
+use Rattle.http_wire.specs.declared.partial.RawRequest.{RawRequest}
 use Rattle.http_wire.specs.declared.judge.Head.{Head}
 use Rattle.http_wire.specs.declared.judge.Judged.{Judged}
 use Rattle.http_wire.specs.declared.judge.Judged.TheVariants as judgeds
-use Rattle.http_wire.specs.declared.seeking.Look.{Look}
-use Rattle.http_wire.specs.declared.seeking.Look.TheVariants as looks
-use Rattle.http_wire.specs.declared.feeding.Got.{Got}
-use Rattle.http_wire.specs.declared.feeding.Got.TheVariants as gots
-use Rattle.http_wire.specs.declared.feeding.Partial.{Partial}
-use Rattle.http_wire.specs.declared.feeding.Fed.{Fed}
+use Rattle.http_wire.specs.declared.search.Look.{Look}
+use Rattle.http_wire.specs.declared.search.Look.TheVariants as looks
+use Rattle.http_wire.specs.declared.partial.Got.{Got}
+use Rattle.http_wire.specs.declared.partial.Got.TheVariants as gots
+use Rattle.http_wire.specs.declared.partial.Partial.{Partial}
+use Rattle.http_wire.specs.declared.partial.Fed.{Fed}
 use Rattle.http_wire.specs.Judge.{Facts, judge}
 use Rattle.http_wire.specs.Stream.{Raw, Given, go_on, Sent, frame, IsHead, IsSent, Tail, no_head, Refuses, IsTail, continues, raw_of, given_behind, rejection_of}
 

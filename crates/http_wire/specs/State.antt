@@ -2,9 +2,9 @@
 use Rattle.std.specs.Prelude.{◌≡◌, ◌≢◌, ℕ, ◌+◌, ◌≤◌, List, [], ◌∷◌, ◌++◌, length, take, flat_map, Option, Some, None}
 use Rattle.http_wire.specs.declared.reader.Stop.{Stop}
 use Rattle.http_wire.specs.declared.reader.Stop.TheVariants as stops
-use Rattle.http_wire.specs.declared.feeding.Got.{Got}
-use Rattle.http_wire.specs.declared.feeding.Got.TheVariants as gots
-use Rattle.http_wire.specs.declared.feeding.Fed.{Fed}
+use Rattle.http_wire.specs.declared.partial.Got.{Got}
+use Rattle.http_wire.specs.declared.partial.Got.TheVariants as gots
+use Rattle.http_wire.specs.declared.partial.Fed.{Fed}
 use Rattle.http_wire.specs.declared.reader.RequestReader.TheInside.{Inside}
 use Rattle.http_wire.specs.Reader.{held, IsHeld, Moves, raw}
 use Rattle.http_wire.specs.declared.stream.Item.{Item}

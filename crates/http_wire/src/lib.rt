@@ -7,7 +7,7 @@
 //! its lines and its body. Carried by: clauses of `RequestReader`, `decode` and `write_reply`.
 #![tactic(auto)]
 
-mod feeding;
+mod partial;
 mod head;
 mod judge;
 mod limits;
@@ -15,10 +15,10 @@ mod lines;
 mod reader;
 mod rejection;
 mod reply;
-mod seeking;
+mod search;
 mod stream;
 
-pub use feeding::{Fed, Got, RawRequest};
+pub use partial::{Fed, Got, RawRequest};
 pub use reader::RequestReader;
 pub use rejection::Rejection;
 pub use reply::{write_continue, write_head, write_reply};

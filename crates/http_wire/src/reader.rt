@@ -4,9 +4,9 @@ ghost use Rattle.std.specs.Prelude.{◌≡◌, ◌≤◌, [], length, IfOk, None
 ghost use Rattle.http_wire.specs.Reader.{Takes};
 ghost use Rattle.http_wire.specs.State.{Feeds, Tells, Told, rejection_in};
 
-use crate::feeding::{Fed, Got, Partial, advance};
+use crate::partial::{Fed, Got, Partial, advance};
 use crate::rejection::Rejection;
-use crate::seeking::size;
+use crate::search::size;
 use cat_model::Memory;
 use std::alloc::Global;
 use std::marker::Model;

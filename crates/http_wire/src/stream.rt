@@ -4,10 +4,10 @@ ghost use Rattle.std.specs.Prelude.{◌≡◌, List, map, flat_map, IfOk, OnOk};
 ghost use Rattle.http_wire.specs.Stream.{Given, Tail, Messages, rejection_of};
 ghost use Rattle.http_wire.specs.State.{given, Follows, GivesAll};
 
-use crate::feeding::{Got, RawRequest};
+use crate::partial::{Got, RawRequest};
 use crate::reader::RequestReader;
 use crate::rejection::Rejection;
-use crate::seeking::rest_of;
+use crate::search::rest_of;
 use cat_model::Memory;
 use std::alloc::Global;
 

@@ -7,7 +7,7 @@ use Rattle.cat_model.specs.declared.request.Event.TheVariants.{Ask, Timeout}
 use Rattle.cluster_rules.specs.Replies.{Out}
 use Rattle.cluster_rules.specs.Cluster.{Cluster}
 use Rattle.cluster_rules.specs.Reached.{Settling, none, pair}
-use Rattle.load_script.specs.Load.{load_script, requests_from, drawn}
+use Rattle.load_script.specs.LoadScript.{load_script, requests_from, drawn}
 use Rattle.script_runs.specs.Lines.{Said, Nothing, Makes, Settles, Refuses, misfit}
 use Rattle.script_runs.specs.Plays.{Refused, Plays, skips, makes, settles, refuses, misfits}
 use Rattle.script_player.specs.Run.{IsRefused, closed, played}

@@ -9,7 +9,7 @@
 #![tactic(auto)]
 
 mod load;
-mod playing;
+mod player;
 
 pub use load::{Load, load_of};
-pub use playing::play_load;
+pub use player::play_load;

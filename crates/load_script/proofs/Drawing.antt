@@ -8,7 +8,7 @@ use Rattle.rand_pcg.specs.Pcg.{pcg32, pcg32_of_seed}
 use Rattle.load_script.specs.declared.method.Method.{Method}
 use Rattle.load_script.specs.declared.method.Method.TheVariants.{Put, Get, Delete}
 use Rattle.load_script.specs.Summary.{is_put, is_get, is_delete}
-use Rattle.load_script.specs.Load.{drawn, method_of, key_of, request, requests_from, text_of, load_script}
+use Rattle.load_script.specs.LoadScript.{drawn, method_of, key_of, request, requests_from, text_of, load_script}
 
 -- the words that are left of so many
 abbrev pub left : ℕ → ℕ → Lcg → List ℕ

@@ -4,7 +4,7 @@ use Rattle.std.specs.Fmt.{decimal}
 use Rattle.std.proofs.lemmas.Fmt.{length-decimal-le}
 use Rattle.load_script.specs.declared.method.Method.{Method}
 use Rattle.load_script.specs.declared.method.Method.TheVariants.{Put, Get, Delete}
-use Rattle.load_script.specs.Load.{key_of, request}
+use Rattle.load_script.specs.LoadScript.{key_of, request}
 
 pub opening_short : (seed : ℕ) (text : List ℕ) → seed < 2 ^ 64 → text ≡ codes "cluster 3 1 " ++ decimal seed ++ codes "\ntimeout 1\nsettle 64\n" → length text ≤ 64
 opening_short seed text is opened =

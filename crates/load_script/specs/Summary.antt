@@ -3,7 +3,7 @@ use Rattle.std.specs.Prelude.{ℕ, Bool, true, false, List, ◌++◌, count_by, 
 use Rattle.std.specs.Fmt.{decimal}
 use Rattle.load_script.specs.declared.method.Method.{Method}
 use Rattle.load_script.specs.declared.method.Method.TheVariants.{Put, Get, Delete}
-use Rattle.load_script.specs.Load.{drawn, method_of}
+use Rattle.load_script.specs.LoadScript.{drawn, method_of}
 
 abbrev pub is_put : Method → Bool
 is_put Put = true

@@ -1,5 +1,5 @@
 ghost use Rattle.std.specs.Prelude.{◌≡◌};
-ghost use Rattle.load_script.specs.Load as spec;
+ghost use Rattle.load_script.specs.LoadScript as spec;
 
 /// The method of a load's request.
 #[derive(Clone, Copy, Debug, PartialEq, Eq)]

@@ -1,6 +1,6 @@
 ghost use Rattle.std.specs.Prelude.{◌≡◌, ◌+◌, ◌*◌, ◌≤◌, ◌++◌, IfOk, OnOk, codes, length};
 ghost use Rattle.std.specs.Fmt.{decimal};
-ghost use Rattle.load_script.specs.Load as spec;
+ghost use Rattle.load_script.specs.LoadScript as spec;
 
 use crate::method::{Method, method_of};
 use cat_model::Memory;

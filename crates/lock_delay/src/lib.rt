@@ -6,9 +6,9 @@
 //! `LockDelay`.
 #![tactic(auto)]
 
-mod delay;
-mod table;
+mod key_delay;
+mod lock_delay;
 #[cfg(test)]
 mod tests;
 
-pub use table::LockDelay;
+pub use lock_delay::LockDelay;

@@ -14,10 +14,10 @@ mod alarm;
 mod answers;
 mod dialer;
 mod mem_dialer;
-mod sending;
+mod outbox;
 
 pub use alarm::Alarm;
 pub use answers::answer;
 pub use dialer::{Dialer, Piece};
 pub use mem_dialer::MemDialer;
-pub use sending::send_all;
+pub use outbox::send_all;

@@ -16,7 +16,7 @@ ghost use Rattle.open_requests.specs.Taking.{IsCollected, IsNumberAt, TakesAt, T
 
 use crate::collected::Collected;
 use crate::events::{one_less, one_more};
-use crate::giving;
+use crate::outs;
 use crate::held::HeldRequests;
 use crate::out::{Given, Out};
 use crate::past::{Happened, Past};
@@ -305,14 +305,14 @@ impl Requests {
     pub fn shelve(&mut self)
         ensures { self.new ≡ shelved_all self.old }
     {
-        giving::shelve(&mut self.tray, &mut self.fresh);
+        outs::shelve(&mut self.tray, &mut self.fresh);
     }
 
     /// Lets go of the outs of syncs in the tray, which no request waits for. It takes no memory.
     pub fn drop_syncs(&mut self)
         ensures { self.new ≡ record self.old { tray = filter (λ o. is_some (number_of o)) self.old.tray } }
     {
-        giving::drop_syncs(&mut self.tray);
+        outs::drop_syncs(&mut self.tray);
     }
 
     /// Takes the first out of the tray, if there is one.
@@ -363,7 +363,7 @@ impl Requests {
     pub fn collect(&mut self, number: u64) -> Collected
         ensures { IsCollected number result self.old self.new }
     {
-        match giving::find(&self.tray, number) {
+        match outs::find(&self.tray, number) {
             Some(at) => self.collect_at(at, number),
             None => self.awaited(number),
         }

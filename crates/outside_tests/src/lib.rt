@@ -15,6 +15,6 @@ mod links;
 #[cfg(test)]
 mod machine;
 #[cfg(test)]
-mod starting;
+mod starts;
 #[cfg(test)]
 mod turns;

@@ -8,19 +8,19 @@
 //! `write_message`, `FrameReader::feed`, the law `stuck_begins_no_frames`.
 #![tactic(auto)]
 
-mod allowing;
+mod limits;
 mod bodies;
 mod fields;
 mod frame;
-mod gathering;
-mod judging;
+mod pieces;
+mod verdicts;
 pub mod laws;
 mod lengths;
 mod reader;
 #[cfg(test)]
 mod tests;
-mod writing;
+mod writer;
 
 pub use frame::{Frame, Peers, Why};
 pub use reader::{FrameFed, FrameReader, GotFrame, Stop};
-pub use writing::{write_frame, write_message};
+pub use writer::{write_frame, write_message};

@@ -1,6 +1,6 @@
 //! How runs end, and what they write.
 
-use crate::playing::{Failing, NONE_FAILS, Played, play, play_with};
+use crate::plays::{Failing, NONE_FAILS, Played, play, play_with};
 use cat_model::{Bytes, List, Memory};
 use catalog_top::status_of;
 use serve_outside::{MadeStore, Script};

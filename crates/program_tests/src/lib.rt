@@ -11,20 +11,20 @@ mod crowds;
 #[cfg(test)]
 mod endings;
 #[cfg(test)]
-mod keeping;
+mod restarts;
 #[cfg(test)]
-mod looking;
+mod looks;
 #[cfg(test)]
 mod names;
 #[cfg(test)]
 mod over_tcp;
 #[cfg(test)]
-mod playing;
+mod plays;
 #[cfg(test)]
 mod reports;
 #[cfg(test)]
-mod serving;
+mod servers;
 #[cfg(test)]
 mod stale;
 #[cfg(test)]
-mod waiting;
+mod waits;

@@ -1,6 +1,6 @@
 //! The numbers of reports.
 
-use crate::playing::{NONE_FAILS, Played, play};
+use crate::plays::{NONE_FAILS, Played, play};
 use cat_model::Bytes;
 use catalog_top::Report;
 use std::alloc::Global;

@@ -9,13 +9,13 @@ mod functions;
 mod logs;
 mod messages;
 mod numbers;
-mod playing;
+mod cases;
 mod servers;
 mod shown;
 mod words;
 mod worlds;
 
-use crate::playing::{Stage, differing};
+use crate::cases::{Stage, differing};
 use anyhow::{Context, Result};
 use std::fs;
 use std::process::ExitCode;

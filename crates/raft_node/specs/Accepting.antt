@@ -4,8 +4,8 @@ use Rattle.cat_model.specs.declared.command.Entry.{Entry}
 use Rattle.raft_model.specs.Log.{Log, accepted}
 use Rattle.raft_model.specs.Limits.{command_bytes, is_noop, keeps_limits}
 use Rattle.raft_model.specs.Rules.{keeps_front}
-use Rattle.raft_node.specs.declared.accepting.Fit.{Fit}
-use Rattle.raft_node.specs.declared.accepting.Fit.TheVariants.{Refused, Stands, Changes}
+use Rattle.raft_node.specs.declared.appends.Fit.{Fit}
+use Rattle.raft_node.specs.declared.appends.Fit.TheVariants.{Refused, Stands, Changes}
 
 -- how many bytes of an entry count for the limit of a log
 abbrev pub counted_bytes : Entry → ℕ

@@ -11,12 +11,12 @@ ghost use Rattle.raft_node.specs.Nodes.{may_stand};
 ghost use Rattle.raft_node.specs.Steps.{FindsNoMemory, MayPropose, Proposes, Steps};
 
 use crate::counted::{bytes_in_log, counted_at, fits};
-use crate::electing::elects;
+use crate::elections::elects;
 use crate::fault::{ProbeFault, ProposeFault};
-use crate::leading::appends;
+use crate::leader::appends;
 use crate::node::Node;
 use crate::quorum::have_reached;
-use crate::sending::append_all;
+use crate::outbox::append_all;
 use cat_model::{Command, Entry, List, Memory, Role, Shared};
 use cat_outside::Keeper;
 use raft_model::{Place, Round, Sent};

@@ -6,7 +6,7 @@ ghost use Rattle.raft_node.specs.Receiving.{IsOther, CarriesAllowed};
 ghost use Rattle.raft_node.specs.Steps.{Steps, FindsNoMemory};
 
 use crate::node::Node;
-use crate::receiving::received;
+use crate::messages::received;
 use cat_model::{List, Memory};
 use cat_outside::Keeper;
 use raft_model::{Message, Sent};

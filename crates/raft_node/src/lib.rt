@@ -8,24 +8,24 @@
 //! by: clauses of `Node`.
 #![tactic(auto)]
 
-pub mod accepting;
-pub mod acking;
+pub mod appends;
+pub mod acks;
 pub mod batch;
 mod calls;
 mod counted;
 mod delivery;
-mod electing;
+mod elections;
 mod fault;
-mod leading;
+mod leader;
 pub mod log;
 mod node;
 pub mod quorum;
-mod receiving;
-mod saving;
-mod sending;
-mod starting;
+mod messages;
+mod saves;
+mod outbox;
+mod start;
 mod state;
-pub mod voting;
+pub mod votes;
 
 pub use fault::{ProbeFault, ProposeFault};
 pub use node::Node;

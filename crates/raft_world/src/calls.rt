@@ -6,7 +6,7 @@ ghost use Rattle.raft_model.specs.Rules.{Beat, Timeout};
 ghost use Rattle.raft_model.specs.World.{Arms, Drops, Restarts, Ticks, WorldStep, numbered};
 ghost use Rattle.raft_world.specs.Steps.{Delivers, FindsNoMemory, IsNumber, KeepsAgreement, StepsWhole, StepsWorking};
 
-use crate::settling::{place, settle};
+use crate::steps::{place, settle};
 use crate::world::World;
 use cat_model::Memory;
 use cat_outside::Keeper;

@@ -15,9 +15,9 @@ pub mod agreed;
 pub mod bag;
 mod calls;
 pub mod laws;
-mod leading;
-mod settling;
-mod starting;
+mod leader;
+mod steps;
+mod start;
 pub mod weight;
 mod world;
 

@@ -9,7 +9,7 @@ ghost use Rattle.raft_world.specs.Steps.{CommitsWithin, IsNumber, contact_of};
 
 use crate::agreed::Agreed;
 use crate::bag::{Bag, Packet};
-use crate::settling::place;
+use crate::steps::place;
 use cat_model::Entry;
 use cat_outside::Keeper;
 use raft_node::Node;

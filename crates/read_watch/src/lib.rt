@@ -12,10 +12,10 @@
 #![tactic(auto)]
 
 mod awake;
-mod entering;
-mod leaving;
+mod entries;
+mod exits;
 mod lines;
-mod sleeping;
-mod watching;
+mod sleepers;
+mod watch;
 
-pub use watching::Watch;
+pub use watch::Watch;

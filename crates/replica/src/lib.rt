@@ -13,11 +13,11 @@
 mod copies;
 mod delays;
 pub mod laws;
-mod locking;
+mod locks;
 mod office;
 mod remote;
-mod removing;
+mod removals;
 mod replica;
-mod timing;
+mod timers;
 
 pub use replica::Replica;

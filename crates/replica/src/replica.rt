@@ -16,7 +16,7 @@ ghost use Rattle.replica.specs.States.{nothing_applied, applied_at, last_reply};
 
 use crate::delays::Delays;
 use crate::remote::rows_of_node;
-use crate::{copies, removing, timing};
+use crate::{copies, removals, timers};
 use cat_model::{
     Answer, Applied, Chan, Command, Fired, List, Memory, Query, Ran, SessionRow, Shared, Steps,
 };
@@ -142,14 +142,14 @@ impl Replica {
         match self.store.apply(alloc, position, command) {
             Ok((reply, Fired { chans, freed })) => {
                 self.reply = Some(reply);
-                self.removed = removing::has_removed(
+                self.removed = removals::has_removed(
                     self.removed,
                     command,
                     chans.as_slice(),
                     &self.store,
                 );
                 self.delays.note(freed, now);
-                timing::applied(
+                timers::applied(
                     &mut self.timers,
                     &self.office,
                     self.clocks.as_slice(),

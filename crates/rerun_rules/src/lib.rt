@@ -22,4 +22,4 @@
 #![tactic(auto)]
 
 pub mod laws;
-pub mod leading;
+pub mod leader;

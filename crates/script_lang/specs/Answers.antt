@@ -5,7 +5,7 @@ use Rattle.script_lang.specs.declared.bad_line.BadLine.TheVariants.{Memory}
 use Rattle.script_lang.specs.declared.line.Line.{Line}
 use Rattle.script_lang.specs.declared.line.ReadLine.{ReadLine}
 use Rattle.cat_model.specs.declared.request.Asked.{Asked}
-use Rattle.http_routes.specs.declared.routing.Routed.{Routed}
+use Rattle.http_routes.specs.declared.route_requests.Routed.{Routed}
 
 -- the next step, where there is a value, and else the reason
 infixl 10 ◌>>=◌

@@ -5,7 +5,7 @@ use Rattle.cluster_rules.specs.Cluster.{Cluster}
 use Rattle.script_lang.specs.Text.{reason_text}
 use Rattle.script_runs.specs.Plays.{Refused as RefusedEnd}
 use Rattle.script_runs.specs.Holds.{IsFirstStart}
-use Rattle.script_player.specs.declared.opening.Opening.{Opening}
+use Rattle.script_player.specs.declared.openings.Opening.{Opening}
 use Rattle.script_player.specs.declared.refused.Refused.{Refused}
 use Rattle.script_player.specs.declared.report.Report.{Report}
 use Rattle.script_player.specs.Script.{Script, Opened, said}

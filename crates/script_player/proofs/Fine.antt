@@ -24,7 +24,7 @@ use Rattle.script_lang.specs.Words.{words_of, is_nothing, rest_of}
 use Rattle.script_lang.specs.Lines.{form_of, opening, asking, said, formed, worded, line_of, servers, agents, any32, any64, tick_ms, messages, calls}
 use Rattle.script_lang.specs.Text.{reason_text}
 use Rattle.script_runs.specs.Lines.{Said, Makes, Refuses, misfit, misfit_text}
-use Rattle.script_player.specs.declared.reading.Says.{Says}
+use Rattle.script_player.specs.declared.reader.Says.{Says}
 use Rattle.script_player.specs.Script.{bad_of, said as said_by_line}
 use Rattle.filter_expr.specs.Expressions.{Expression}
 use Rattle.script_player.specs.Stage.{filter_said, IsFine, IsMisfit, IsWorded, IsRead}

@@ -5,6 +5,6 @@ pub mod Progress
 pub mod Filtering
 pub mod Turning
 pub mod Runs
-pub mod Openings
+pub mod Beginning
 pub mod Endings
 pub mod FirstStart

@@ -11,7 +11,7 @@ use Rattle.script_runs.specs.Holds.{IsFirstStart}
 use Rattle.script_runs.proofs.Holding.{a_start, run_is_sound, start_run, run_holds}
 use Rattle.script_runs.proofs.Reaching.{plays_run}
 use Rattle.script_runs.proofs.Legality.{first_run_legal}
-use Rattle.script_player.specs.declared.opening.Opening.{Opening}
+use Rattle.script_player.specs.declared.openings.Opening.{Opening}
 use Rattle.script_player.specs.declared.report.Report.{Report}
 use Rattle.script_player.specs.Script.{Script, Opened, Closed, said}
 use Rattle.script_player.specs.Text.{outs_text, line_of_out, last_text, refused_text}

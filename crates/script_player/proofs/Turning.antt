@@ -15,7 +15,7 @@ use Rattle.script_player.specs.declared.stage.Turn.TheVariants as turn
 use Rattle.cluster_interface.specs.Interface.{SettlesTo}
 use Rattle.filter_expr.specs.Expressions.{Expression}
 use Rattle.script_player.specs.Filters.{Filters}
-use Rattle.script_player.specs.declared.reading.Says.{Says}
+use Rattle.script_player.specs.declared.reader.Says.{Says}
 use Rattle.script_player.specs.Stage.{AreFor, AreForAll, IsMisfit, IsRead, MakesTo, SettlesAll, Turns, GoesOn, TakesAll, TakesFirst, through}
 use Rattle.script_player.specs.Run.{WritesPart}
 use Rattle.script_player.proofs.Filtering.{for_same}

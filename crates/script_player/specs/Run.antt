@@ -10,7 +10,7 @@ use Rattle.script_runs.specs.Lines.{Said}
 use Rattle.script_runs.specs.Plays.{Ending, Whole, Refused, Plays, over, breaks, skips, makes, settles, refuses, misfits, emptied, settled}
 use Rattle.script_runs.specs.Holds.{IsFirstStart, Holds}
 use Rattle.script_runs.specs.Legal.{RunIsLegal}
-use Rattle.script_player.specs.declared.opening.Opening.{Opening}
+use Rattle.script_player.specs.declared.openings.Opening.{Opening}
 use Rattle.script_player.specs.declared.report.Report.{Report}
 use Rattle.script_player.specs.Script.{Script, Opened, Closed, said, filters_of}
 use Rattle.cluster_interface.specs.Interface.{held_numbers, applied_lengths}

@@ -9,7 +9,7 @@ use Rattle.script_lang.specs.declared.line.Line.TheVariants as line
 use Rattle.script_lang.specs.Lines.{line_of, opens_cluster}
 use Rattle.script_lang.specs.Text.{reason_text}
 use Rattle.script_runs.specs.Lines.{Said, Nothing, Makes, Settles, Refuses}
-use Rattle.script_player.specs.declared.opening.Opening.{Opening}
+use Rattle.script_player.specs.declared.openings.Opening.{Opening}
 use Rattle.script_player.specs.Line.{lines_of, is_nothing}
 use Rattle.script_player.specs.Filters.{Filters, filter_in}
 

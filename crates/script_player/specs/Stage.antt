@@ -23,11 +23,11 @@ use Rattle.cat_model.specs.declared.reply.Mark.{Mark}
 use Rattle.cluster_rules.specs.Sound.{out_times, taken_times}
 use Rattle.script_runs.specs.Lines.{Said, Nothing, Makes, Settles, Refuses, misfit, misfit_text}
 use Rattle.script_runs.specs.Plays.{Ending, Whole, Refused, Broken, Plays, emptied, settled}
-use Rattle.script_player.specs.declared.opening.Opening.{Opening}
-use Rattle.script_player.specs.declared.opening.NotOpened.{NotOpened}
-use Rattle.script_player.specs.declared.opening.NotOpened.TheVariants as not_opened
-use Rattle.script_player.specs.declared.reading.Says.{Says}
-use Rattle.script_player.specs.declared.reading.Says.TheVariants as says
+use Rattle.script_player.specs.declared.openings.Opening.{Opening}
+use Rattle.script_player.specs.declared.openings.NotOpened.{NotOpened}
+use Rattle.script_player.specs.declared.openings.NotOpened.TheVariants as not_opened
+use Rattle.script_player.specs.declared.reader.Says.{Says}
+use Rattle.script_player.specs.declared.reader.Says.TheVariants as says
 use Rattle.script_player.specs.declared.stage.Turn.{Turn}
 use Rattle.script_player.specs.declared.stage.Turn.TheVariants as turn
 use Rattle.script_player.specs.declared.refused.Refused as refused

@@ -14,23 +14,23 @@
 #![tactic(auto)]
 
 mod filters;
-mod finding;
+mod finds;
 mod found;
 mod line;
-mod opening;
+mod openings;
 mod output;
-mod playing;
-mod reading;
+mod player;
+mod reader;
 mod refused;
 mod report;
 mod stage;
-mod starting;
+mod start;
 mod taker;
 mod text;
 
-pub use finding::play_finding;
+pub use finds::play_finding;
 pub use found::Found;
 pub use line::split_at_byte;
 pub use output::write_all;
-pub use playing::{play_script, write_report};
+pub use player::{play_script, write_report};
 pub use report::Report;

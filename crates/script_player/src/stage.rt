@@ -14,7 +14,7 @@ ghost use Rattle.script_player.specs.Run.{WritesPart};
 
 use crate::filters::Filters;
 use crate::line::split_at_byte;
-use crate::reading::{SaidLine, Says, next_number, said_by};
+use crate::reader::{SaidLine, Says, next_number, said_by};
 use crate::refused::Refused;
 use crate::taker::Taker;
 use cat_model::{Event, Memory};

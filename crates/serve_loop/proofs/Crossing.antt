@@ -5,7 +5,7 @@ use denote.Param.Send.{IsSend, IsSync, recorded_send, sendable, struct_send}
 use denote.Struct.Declared as declared
 use Rattle.std.proofs.Crossing.{Arc-send}
 use Rattle.std.proofs.sync.atomic.AtomicBool.TheSendSync as flag
-use Rattle.http_routes.specs.contracts.routing.Routes as routes
+use Rattle.http_routes.specs.contracts.route_requests.Routes as routes
 use Rattle.http_wire.proofs.reader.RequestReader.TheSendSync as reader
 use Rattle.crossbeam_utils.proofs.cache_padded.CachePadded.TheSendSync as padded
 use Rattle.turn_lock.specs.declared.history.History.{Ghosts}
@@ -14,7 +14,7 @@ use Rattle.turn_lock.specs.contracts.lock.HistoryLock as shared
 use Rattle.turn_lock.proofs.lock.Pass.TheSendSync as pass
 use Rattle.serve_loop.specs.contracts.job.ServeJob as job
 use Rattle.serve_loop.specs.contracts.run.Server as server
-use Rattle.serve_loop.specs.contracts.timekeeping.Timekeeper as keeper
+use Rattle.serve_loop.specs.contracts.timekeeper.Timekeeper as keeper
 
 module _ (R S Cl G L V M : RattleType) (H : Ghosts S.Denot M.Denot) where
   pub job_sends : IsSend R → IsSend S → IsSend Cl → IsSend G → IsSync G → IsSend L → IsSend V → IsSend routes.the_row → IsSync routes.the_row → IsSend (job.the_row R S Cl G L V M H)

@@ -9,9 +9,9 @@ use Rattle.cat_model.specs.declared.reply.Mark.{Mark}
 use Rattle.cat_model.specs.declared.reply.Refusal.{Refusal}
 use Rattle.cat_outside.specs.declared.faults.Failed.{Failed}
 use Rattle.cluster_rules.specs.Replies.{Reply}
-use Rattle.http_wire.specs.declared.feeding.Fed.{Fed}
-use Rattle.http_wire.specs.declared.feeding.Got.{Got}
-use Rattle.http_wire.specs.declared.feeding.Got.TheVariants as gots
+use Rattle.http_wire.specs.declared.partial.Fed.{Fed}
+use Rattle.http_wire.specs.declared.partial.Got.{Got}
+use Rattle.http_wire.specs.declared.partial.Got.TheVariants as gots
 use Rattle.http_wire.specs.declared.reader.Stop.{Stop}
 use Rattle.http_wire.specs.declared.rejection.Rejection.{Rejection}
 use Rattle.http_wire.specs.Reader.{raw, Takes, Moves}
@@ -22,8 +22,8 @@ use Rattle.serve_outside.specs.Links.{Leaves, LinkState, Reads}
 use Rattle.serve_loop.specs.declared.cluster.Ask.{Ask}
 use Rattle.serve_loop.specs.declared.cause.Cause.{Cause}
 use Rattle.serve_loop.specs.declared.cause.Cause.TheVariants as cause
-use Rattle.serve_loop.specs.declared.turning.NoReply.{NoReply}
-use Rattle.serve_loop.specs.declared.turning.NoReply.TheVariants as no_reply
+use Rattle.serve_loop.specs.declared.turns.NoReply.{NoReply}
+use Rattle.serve_loop.specs.declared.turns.NoReply.TheVariants as no_reply
 use Rattle.serve_loop.specs.Knowing.{HasLearned, Known}
 use Rattle.serve_loop.specs.Replies.{IsViewed, is_viewed, refusing}
 use Rattle.serve_loop.specs.Waiting.{Grows, IsAnswered, IsHeld}

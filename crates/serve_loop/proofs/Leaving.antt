@@ -3,8 +3,8 @@ use Rattle.std.proofs.Common.{◌≡◌, Bool, true, false, refl, sym, ap, ◌�
 use Rattle.std.specs.Prelude.{IfErr}
 use Rattle.cluster_rules.specs.Replies.{Reply}
 use Rattle.serve_outside.specs.Links.{Leaves, LinkState}
-use Rattle.serve_loop.specs.declared.turning.NoReply.{NoReply}
-use Rattle.serve_loop.specs.declared.turning.NoReply.TheVariants as no_reply
+use Rattle.serve_loop.specs.declared.turns.NoReply.{NoReply}
+use Rattle.serve_loop.specs.declared.turns.NoReply.TheVariants as no_reply
 use Rattle.serve_loop.specs.Waiting.{IsAfterAsk}
 
 -- nothing has changed

@@ -7,8 +7,8 @@ use Rattle.turn_lock.specs.declared.history.History.{Ghosts}
 use Rattle.serve_loop.specs.Knowing.{known_by}
 use Rattle.serve_loop.specs.Serving.{Connection}
 use Rattle.serve_loop.specs.Stages.{Stage}
-use Rattle.serve_loop.specs.declared.serving.Service.{Service}
-use Rattle.serve_loop.specs.declared.serving.Serving.{Serving}
+use Rattle.serve_loop.specs.declared.service.Service.{Service}
+use Rattle.serve_loop.specs.declared.service.Serving.{Serving}
 
 module _ {R S Cl G L : Type 0} {H : Ghosts S Mark} where
   -- the connection that is served

@@ -9,8 +9,8 @@ use Rattle.turn_lock.specs.Lists.{Among, EachOnce, numbers}
 use Rattle.serve_loop.specs.declared.cluster.Ask.{Ask}
 use Rattle.serve_loop.specs.declared.cluster.Collected.{Collected}
 use Rattle.serve_loop.specs.declared.cluster.Collected.TheVariants as collected
-use Rattle.serve_loop.specs.declared.turning.NoReply.{NoReply}
-use Rattle.serve_loop.specs.declared.turning.NoReply.TheVariants as no_reply
+use Rattle.serve_loop.specs.declared.turns.NoReply.{NoReply}
+use Rattle.serve_loop.specs.declared.turns.NoReply.TheVariants as no_reply
 use Rattle.serve_loop.specs.Knowing.{Known}
 use Rattle.serve_loop.specs.Marks.{answered_mark, answers, asked_mark, opens, takes}
 

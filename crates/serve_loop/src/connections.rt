@@ -10,11 +10,11 @@ ghost use Rattle.serve_loop.specs.Runs.{HandsBack, HasDrawn, most_of, outcome_of
 ghost use Rattle.turn_lock.specs.Lists.{AreFronts, IsFront};
 
 use crate::cluster::SharedCluster;
-use crate::finishing::finish_tasks;
+use crate::finish::finish_tasks;
 use crate::run::{Jobs, Server, Stop, TaskOf};
 use crate::served::Served;
-use crate::starting::start_tasks;
-use crate::timekeeping::{finish_timekeeper, start_timekeeper};
+use crate::start::start_tasks;
+use crate::timekeeper::{finish_timekeeper, start_timekeeper};
 use serve_outside::{Clock, Gate, Listener, Spawner, Words};
 use stale_view::Viewer;
 use std::alloc::Global;

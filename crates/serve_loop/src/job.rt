@@ -13,9 +13,9 @@ ghost use Rattle.serve_loop.specs.Waiting.{Grows, IsHeld};
 
 use crate::cause::Cause;
 use crate::cluster::SharedCluster;
-use crate::finishing::lacked_memory;
+use crate::finish::lacked_memory;
 use crate::served::Served;
-use crate::serving::{Board, Service, Serving};
+use crate::service::{Board, Service, Serving};
 use cat_model::{Draw, Memory};
 use http_routes::Routes;
 use http_wire::RequestReader;

@@ -7,7 +7,7 @@ ghost use Rattle.serve_loop.specs.Boards.{IsOurs, known};
 use crate::cluster::SharedCluster;
 use crate::job::{Finished, ServeJob};
 use crate::served::Served;
-use crate::serving::Board;
+use crate::service::Board;
 use http_routes::Routes;
 use serve_outside::{NoteOf, Task};
 use stale_view::Viewer;

@@ -4,7 +4,7 @@ ghost use Rattle.std.specs.Prelude.{◌≡◌, ◌≤◌};
 ghost use Rattle.std.specs.Io.{ReadsAtMost, WritesAtMost};
 ghost use Rattle.cat_outside.specs.Causes.{counted};
 
-use crate::lingering::linger;
+use crate::linger::linger;
 use crate::{Awaited, Limits, Link};
 use cat_outside::{Failed, KeepFail};
 use std::io;

@@ -29,7 +29,7 @@ use Rattle.serve_outside.specs.Stores.{AddsMade, Made, made_from}
 use Rattle.serve_loop.specs.declared.run.Stop as loop
 use Rattle.serve_loop.specs.Runs.{Back, HaveRead, IsBack, most_of}
 use Rattle.serving_rules.specs.Serving.{Size, Serves}
-use Rattle.serving_rules.proofs.Holding.{holds}
+use Rattle.serving_rules.proofs.ServingHolds.{holds}
 use Rattle.server.specs.declared.options.Options.{Options}
 use Rattle.server.specs.declared.stop.Stop.{Stop}
 use Rattle.server.specs.declared.stop.Stop.TheVariants as stops

@@ -4,8 +4,8 @@ use mathlib.Core.List.{IsPrefix}
 use Rattle.cat_model.specs.declared.command.Command.{Command}
 use Rattle.cat_outside.specs.Causes.{Rose}
 use Rattle.datagram_outside.specs.Ports.{IsNew, PortState}
-use Rattle.dns_server.specs.declared.serving.DnsCause.TheVariants as cause
-use Rattle.dns_server.specs.declared.serving.DnsEnded.{DnsEnded}
+use Rattle.dns_server.specs.declared.packets.DnsCause.TheVariants as cause
+use Rattle.dns_server.specs.declared.packets.DnsEnded.{DnsEnded}
 use Rattle.dns_jobs.specs.Answered.{HasAnswered}
 use Rattle.serve_loop.specs.Runs.{most_of}
 use Rattle.server.specs.declared.names.Answering.{Answering}

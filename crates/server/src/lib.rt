@@ -12,18 +12,18 @@
 //! any run that meets the clauses `served`, `cause`, `keepers` and `binds` of `serve`.
 #![tactic(auto)]
 
-mod beginning;
+mod start;
 mod connections;
 pub mod laws;
-mod listening;
+mod ports;
 mod machine;
 mod names;
 mod options;
-mod running;
+mod run;
 mod stop;
 mod stores;
 
 pub use machine::Machine;
 pub use options::{Dns, Options, options_of};
-pub use running::serve;
+pub use run::serve;
 pub use stop::Stop;

@@ -3,7 +3,7 @@
 ghost use Rattle.std.specs.Prelude.{◌≡◌, ◌≢◌, ◌≤◌, ◌++◌, [], Some, false, IfErr, IfOk, IfSome, OnErr};
 ghost use mathlib.Core.List.{IsPrefix};
 ghost use Rattle.cat_outside.specs.Causes.{HasCause, Rose};
-ghost use Rattle.dns_server.specs.declared.serving.DnsCause.TheVariants as dns_cause;
+ghost use Rattle.dns_server.specs.declared.packets.DnsCause.TheVariants as dns_cause;
 ghost use Rattle.serve_outside.specs.Tasks.{IsKept, note_of};
 ghost use Rattle.serve_loop.specs.Marks.{agreed_by};
 ghost use Rattle.serve_loop.specs.Runs.{most_of};

@@ -4,13 +4,13 @@ use denote.Param.Send.{IsSend, sendable, view_send, recorded_send, struct_send}
 use denote.Struct.Declared as declared
 use Rattle.cat_outside.specs.declared.keeper.Keeper as keeping
 use Rattle.cluster_interface.specs.declared.interface.ClusterInterface as interface
-use Rattle.stale_view.specs.declared.naming.PairName as naming
+use Rattle.stale_view.specs.declared.names.PairName as naming
 use Rattle.stale_view.specs.contracts.publisher.Publisher as publisher
-use Rattle.serving_cluster.specs.declared.serving.ClusterSize as sizing
-use Rattle.serving_cluster.specs.contracts.serving.ServingCluster as serving
-use Rattle.serving_cluster.specs.contracts.serving.ServingCluster.TheInside as held
-use Rattle.serving_cluster.specs.contracts.showing.ViewedCluster as viewed
-use Rattle.serving_cluster.specs.contracts.showing.ViewedCluster.TheInside as inside
+use Rattle.serving_cluster.specs.declared.cluster.ClusterSize as sizing
+use Rattle.serving_cluster.specs.contracts.cluster.ServingCluster as serving
+use Rattle.serving_cluster.specs.contracts.cluster.ServingCluster.TheInside as held
+use Rattle.serving_cluster.specs.contracts.views.ViewedCluster as viewed
+use Rattle.serving_cluster.specs.contracts.views.ViewedCluster.TheInside as inside
 
 module _ (J S R K : RattleType) (Z : sizing.Ghosts J.Denot) (P : naming.Ghosts J.Denot) (C : interface.Ghosts S.Denot K.Denot) (D : keeping.Ghosts K.Denot) where
   pub serving_sends : IsSend S → IsSend (serving.the_row J S K Z C D)

@@ -13,11 +13,11 @@
 //! `ServingCluster`.
 #![tactic(auto)]
 
-mod sending;
-mod serving;
-mod sharing;
-mod showing;
+mod thread_safety;
+mod cluster;
+mod turns;
+mod views;
 
-pub use sending::clusters_send;
-pub use serving::{ClusterSize, NotBegun, ServingCluster};
-pub use showing::ViewedCluster;
+pub use thread_safety::clusters_send;
+pub use cluster::{ClusterSize, NotBegun, ServingCluster};
+pub use views::ViewedCluster;

@@ -1,4 +1,4 @@
 pub mod Moves
 pub mod Keeping
 pub mod Serving
-pub mod Holding
+pub mod ServingHolds

@@ -9,4 +9,4 @@
 //! has each request at most once, and at whose prefixes indexes tell answers apart. Carried by: `laws::*`.
 #![tactic(auto)]
 
-pub mod laws;
+pub mod serving_laws;

@@ -1,5 +1,5 @@
 pub mod Starts
 pub mod Sorting
-pub mod Ends
+pub mod TimesOver
 pub mod Among
 pub mod Timing

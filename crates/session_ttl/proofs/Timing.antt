@@ -23,10 +23,10 @@ use Rattle.timer_wheel.specs.Dues.{AreDue}
 use Rattle.timer_wheel.proofs.Dues.{due_has}
 use Rattle.timer_wheel.proofs.Keeps.{at_itself, key_same}
 use Rattle.timer_wheel.proofs.Lookups.{found_beside, found_new, found_passing}
-use Rattle.session_ttl.specs.declared.ending.Ending.{Ending}
+use Rattle.session_ttl.specs.declared.ends.Ending.{Ending}
 use Rattle.session_ttl.specs.Endings.{ending_of}
 use Rattle.session_ttl.specs.Timed.{AreTimed, AreTimedBut, HasTimer, Timers, is_one_of}
-use Rattle.session_ttl.proofs.Ends.{ends_are, row_of}
+use Rattle.session_ttl.proofs.TimesOver.{ends_are, row_of}
 use Rattle.session_ttl.proofs.Starts.{latest, start_is}
 
 -- what a session has of timers

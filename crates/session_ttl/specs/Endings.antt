@@ -2,8 +2,8 @@
 use Rattle.std.specs.Prelude.{ℕ, List}
 use Rattle.cat_model.specs.declared.row.SessionRow.{SessionRow}
 use Rattle.office_rules.specs.Offices.{Office, over_at}
-use Rattle.session_ttl.specs.declared.ending.Ending.{Ending}
-use Rattle.session_ttl.specs.declared.ending.Overdue.{Overdue}
+use Rattle.session_ttl.specs.declared.ends.Ending.{Ending}
+use Rattle.session_ttl.specs.declared.ends.Overdue.{Overdue}
 
 abbrev pub ending_of : SessionRow → Ending
 ending_of s = record { id = s.id; create = s.create }

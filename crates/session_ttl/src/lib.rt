@@ -10,12 +10,12 @@
 //! `SessionTimers`.
 #![tactic(auto)]
 
-mod ending;
+mod ends;
 mod office;
 mod over;
 mod renewal;
 mod timers;
 
-pub use ending::Ending;
+pub use ends::Ending;
 pub use office::Office;
 pub use timers::SessionTimers;

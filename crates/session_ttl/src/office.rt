@@ -5,7 +5,7 @@ ghost use Rattle.cat_model.specs.Tables.{Ascends};
 ghost use Rattle.std.specs.Ordering.{nat_cmp};
 ghost use Rattle.session_ttl.specs.Endings.{ending_of};
 
-use crate::ending::{Ending, positions};
+use crate::ends::{Ending, positions};
 use crate::renewal::{Renewal, renew};
 use cat_model::{Memory, SessionRow};
 use row_table::RowTable;

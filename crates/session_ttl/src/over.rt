@@ -9,7 +9,7 @@ ghost use Rattle.office_rules.specs.Offices.{applied_at, is_over, over_at, sorte
 ghost use Rattle.session_ttl.specs.Endings.{ending_in, ending_of, over_in, overdue_of};
 ghost use Rattle.session_ttl.specs.Timed.{is_one_of};
 
-use crate::ending::{Ending, Overdue, endings, sort};
+use crate::ends::{Ending, Overdue, endings, sort};
 use crate::office::Office;
 use crate::renewal::start;
 use cat_model::{Memory, SessionRow};

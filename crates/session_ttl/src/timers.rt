@@ -11,7 +11,7 @@ ghost use Rattle.office_rules.specs.Offices.{is_over, is_pending, over_at, sorte
 ghost use Rattle.session_ttl.specs.Endings.{ending_of};
 ghost use Rattle.session_ttl.specs.Timed.{AreTimed, AreTimedBut, HasTimer, is_one_of};
 
-use crate::ending::Ending;
+use crate::ends::Ending;
 use crate::office::Office;
 use cat_model::{Memory, SessionRow};
 use session_table::SessionTable;

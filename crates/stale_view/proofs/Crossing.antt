@@ -17,7 +17,7 @@ use Rattle.crossbeam_queue.specs.contracts.array_queue.TurnsTableRuleOptionDoing
 use Rattle.crossbeam_queue.specs.contracts.protocol.Free as free
 use Rattle.crossbeam_queue.specs.contracts.protocol.FreeProtocolUnit.TheImpl as freeing
 use Rattle.cat_model.specs.contracts.command.Command as command
-use Rattle.stale_view.specs.declared.naming.PairName.{Ghosts}
+use Rattle.stale_view.specs.declared.names.PairName.{Ghosts}
 use Rattle.stale_view.specs.contracts.history.Front as front
 use Rattle.stale_view.specs.contracts.publisher.Publisher as publisher
 use Rattle.stale_view.specs.contracts.publisher.Publisher.TheInside as inside

@@ -13,18 +13,18 @@
 #![tactic(auto)]
 
 mod history;
-mod naming;
+mod names;
 mod pair;
 mod publisher;
 mod readers;
 mod rule;
-mod sending;
+mod thread_safety;
 mod side;
 mod viewer;
 
 pub use history::{Front, Opened};
-pub use naming::PairName;
+pub use names::PairName;
 pub use pair::stale_pair;
 pub use publisher::Publisher;
-pub use sending::{parts_cross, publishers_send, viewers_send};
+pub use thread_safety::{parts_cross, publishers_send, viewers_send};
 pub use viewer::{Unseen, Viewed, Viewer};

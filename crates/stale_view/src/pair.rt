@@ -4,7 +4,7 @@ ghost use Rattle.std.specs.Prelude.{◌≡◌, ◌<◌, [], IfOk};
 ghost use Rattle.stale_view.specs.Published.{nothing_published};
 
 use crate::history::Opened;
-use crate::naming::PairName;
+use crate::names::PairName;
 use crate::publisher::Publisher;
 use crate::readers::Readers;
 use crate::rule::SideWriter;

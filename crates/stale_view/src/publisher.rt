@@ -8,7 +8,7 @@ ghost use Rattle.stale_view.specs.Sides.{Stands, all_of, after_op};
 ghost use Rattle.left_right.specs.Sides.{view as view_of};
 
 use crate::history::{Front, Head};
-use crate::naming::PairName;
+use crate::names::PairName;
 use crate::rule::{Shows, SideWriter};
 use crate::side::Op;
 use cat_model::{Command, Entry, Memory, Shared};

@@ -4,7 +4,7 @@ ghost use Rattle.std.specs.Prelude.{◌≡◌, [], IfOk};
 ghost use Rattle.std.specs.Arc.{arc_value};
 
 use crate::history::Front;
-use crate::naming::PairName;
+use crate::names::PairName;
 use crate::rule::{SideReader, SideWriter};
 use cat_model::Memory;
 use crossbeam_queue::RuledArrayQueue;

@@ -5,7 +5,7 @@ ghost use mathlib.Core.List.{IsPrefix};
 ghost use Rattle.stale_view.specs.Sides.{Stands};
 ghost use Rattle.stale_view.specs.Rule.{IsShown};
 
-use crate::naming::PairName;
+use crate::names::PairName;
 use crate::side::{Op, Side};
 use cat_model::Command;
 use crossbeam_utils::rule::{Outcome, Protocol};

@@ -11,7 +11,7 @@ ghost use Rattle.stale_view.specs.Sides.{Stands};
 ghost use Rattle.stale_view.specs.declared.viewer.Unseen.TheVariants as unseen;
 
 use crate::history::Front;
-use crate::naming::PairName;
+use crate::names::PairName;
 use crate::publisher::Publisher;
 use crate::readers::Readers;
 use crate::rule::{Reads, SideReader};

@@ -12,14 +12,14 @@ mod fault;
 mod fields;
 mod laws;
 mod numbers;
-mod reading;
+mod reader;
 mod records;
-mod writing;
+mod writer;
 
 pub use fault::RecordFault;
 pub use fields::read_some_entries;
 pub use laws::{fronts_are_cut, written_is_read};
 pub use numbers::{put_byte, put_number};
-pub use reading::read_record;
+pub use reader::read_record;
 pub use records::Record;
-pub use writing::{put_entries, store_record, vote_record, write_record};
+pub use writer::{put_entries, store_record, vote_record, write_record};

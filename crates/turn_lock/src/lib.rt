@@ -16,7 +16,7 @@ mod knowledge;
 mod lock;
 mod plays;
 mod turn;
-mod waiting;
+mod rooms;
 
 pub use history::History;
 pub use knowledge::Knowledge;

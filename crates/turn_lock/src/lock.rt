@@ -3,7 +3,7 @@ ghost use Rattle.std.specs.Prelude.{◌≡◌, ℕ, ◌<◌, ◌≤◌, ◌-◌,
 use crate::history::History;
 use crate::knowledge::Knowledge;
 use crate::plays::{AwaitTurn, DrawTicket, JoinPasses, Leave, SplitPass, Turns};
-use crate::waiting::WaitingRooms;
+use crate::rooms::WaitingRooms;
 use atomic_table::{Refused, Seat, Table};
 use std::alloc::{AllocError, AllocFailed, Global};
 use std::hint::spin_loop;

@@ -13,7 +13,7 @@ use Rattle.index_list.specs.Nodes.{Nodes, item_at}
 use Rattle.index_list.specs.Places.{has}
 use Rattle.index_list.specs.Walks.{shown}
 use Rattle.index_list.proofs.Frames.{equal_or_not}
-use Rattle.watch_registry.specs.declared.waiting.Waiting.{Waiting}
+use Rattle.watch_registry.specs.declared.waiters.Waiting.{Waiting}
 use Rattle.watch_registry.specs.Buckets.{mixed, bucket_of}
 use Rattle.watch_registry.specs.Held.{Stands}
 use Rattle.watch_registry.specs.Hits.{IsFound, IsHit, AllHit, AllKept, IsNoted, FamilyNoted, ListNoted, ChanNoted}

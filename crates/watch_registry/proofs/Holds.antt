@@ -15,7 +15,7 @@ use Rattle.cat_model.specs.declared.query.Chan.{Chan}
 use Rattle.index_list.specs.Nodes.{Nodes, item_at, live, linked, unlinked}
 use Rattle.index_list.specs.Places.{has, without}
 use Rattle.index_list.proofs.Callers.{item_left, live_left, has_left, item_new, item_other, live_new, has_new, has_still}
-use Rattle.watch_registry.specs.declared.waiting.Waiting.{Waiting}
+use Rattle.watch_registry.specs.declared.waiters.Waiting.{Waiting}
 use Rattle.watch_registry.specs.Buckets.{first_list, second_list}
 use Rattle.watch_registry.specs.Held.{Held, Stands, shown}
 

@@ -15,7 +15,7 @@ use Rattle.cat_model.specs.declared.query.Chan.{Chan}
 use Rattle.index_list.specs.Nodes.{Nodes}
 use Rattle.index_list.specs.Places.{has}
 use Rattle.index_list.proofs.Keeping.{has_more}
-use Rattle.watch_registry.specs.declared.waiting.Waiting.{Waiting}
+use Rattle.watch_registry.specs.declared.waiters.Waiting.{Waiting}
 use Rattle.watch_registry.specs.Held.{Held, shown, is_off}
 use Rattle.watch_registry.specs.Hits.{IsFound, AllHit, ChanNoted}
 use Rattle.watch_registry.proofs.Holds.{at_itself, is_equal, key_same}

@@ -7,7 +7,7 @@ use Rattle.std.specs.BTreeMap.{is_at}
 use Rattle.cat_model.specs.declared.query.Chan.{Chan}
 use Rattle.index_list.specs.Nodes.{Nodes, item_at, live}
 use Rattle.index_list.specs.Places.{has}
-use Rattle.watch_registry.specs.declared.waiting.Waiting.{Waiting}
+use Rattle.watch_registry.specs.declared.waiters.Waiting.{Waiting}
 use Rattle.watch_registry.specs.Buckets.{first_list, second_list}
 
 -- a waiter with its channels

@@ -10,7 +10,7 @@ use Rattle.index_list.specs.declared.family.Family.{Family}
 use Rattle.index_list.specs.declared.family.Family.TheVariants.{First, Second}
 use Rattle.index_list.specs.Nodes.{Nodes, item_at, family_of}
 use Rattle.index_list.specs.Places.{has}
-use Rattle.watch_registry.specs.declared.waiting.Waiting.{Waiting}
+use Rattle.watch_registry.specs.declared.waiters.Waiting.{Waiting}
 use Rattle.watch_registry.specs.Buckets.{bucket_of}
 
 abbrev pub IsFound : List ℕ → ℕ → Type 0

@@ -9,7 +9,7 @@ ghost use Rattle.watch_registry.specs.Hits.{AllHit, AllKept, IsNoted, FamilyNote
 
 use crate::bucket::{PREFIX, bucket, mixed};
 use crate::reach::on;
-use crate::waiting::{Index, Waiters};
+use crate::waiters::{Index, Waiters};
 use cat_model::{Chan, Memory};
 use index_list::Family;
 use std::alloc::Global;

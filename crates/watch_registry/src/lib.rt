@@ -11,7 +11,7 @@ mod bucket;
 mod hit;
 mod reach;
 mod registry;
-mod waiting;
+mod waiters;
 
 pub use reach::on;
 pub use registry::WatchRegistry;

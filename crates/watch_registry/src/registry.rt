@@ -8,7 +8,7 @@ ghost use Rattle.std.specs.Ordering.{nat_cmp};
 ghost use Rattle.cat_model.specs.Reach.{is_on};
 
 use crate::hit::find_hit;
-use crate::waiting::{Index, Waiters, empty_lists, hold, release, release_all};
+use crate::waiters::{Index, Waiters, empty_lists, hold, release, release_all};
 use cat_model::lists::copied;
 use cat_model::{Chan, List, Memory};
 use std::alloc::Global;

@@ -1,7 +1,7 @@
 use Rattle.std.proofs.Common.{◌∙◌, sym, ap, filter}
 use Rattle.std.proofs.lemmas.Result.{IfOk-weaker}
 use Rattle.cat_model.specs.Queries.{has_status}
-use Rattle.catalog_query.proofs.Filters.{filter_true}
+use Rattle.catalog_query.proofs.Filtering.{filter_true}
 use Rattle.catalog_query.proofs.checks.with_status.Goals as goal
 
 pub returns-in-None : goal.returns-in-None

@@ -1,5 +1,5 @@
 use Rattle.std.proofs.Common.{◌∙◌, sym}
-use Rattle.catalog_query.proofs.Filters.{empty_is}
+use Rattle.catalog_query.proofs.Filtering.{empty_is}
 use Rattle.catalog_query.proofs.Naming.{none_named}
 use Rattle.catalog_query.proofs.executions.find_named.Goals as goal
 

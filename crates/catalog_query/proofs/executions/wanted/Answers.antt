@@ -1,7 +1,7 @@
 use Rattle.std.proofs.Common.{◌∙◌, cond, ap, filter}
 use Rattle.cat_model.specs.Queries.{all_pass}
 use Rattle.cat_model.specs.Executions.{none_critical, meets_all_tags}
-use Rattle.catalog_query.proofs.Filters.{filter_both}
+use Rattle.catalog_query.proofs.Filtering.{filter_both}
 use Rattle.catalog_query.proofs.executions.wanted.Goals as goal
 
 pub returns : goal.returns

@@ -1,7 +1,7 @@
 use Rattle.std.proofs.Common.{◌∙◌, ◌||◌, not, ap, filter}
 use Rattle.cat_model.specs.Queries.{has_all_tags, all_pass, instances, service_rows}
 use Rattle.catalog_table.specs.Rows.{catalog_of}
-use Rattle.catalog_query.proofs.Filters.{filter_both}
+use Rattle.catalog_query.proofs.Filtering.{filter_both}
 use Rattle.catalog_query.proofs.instances.healthy.Goals as goal
 
 pub returns : goal.returns

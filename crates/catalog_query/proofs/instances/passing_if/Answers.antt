@@ -1,6 +1,6 @@
 use Rattle.std.proofs.Common.{◌∙◌, ◌||◌, not, sym, ap, filter}
 use Rattle.cat_model.specs.Queries.{all_pass}
-use Rattle.catalog_query.proofs.Filters.{filter_true}
+use Rattle.catalog_query.proofs.Filtering.{filter_true}
 use Rattle.catalog_query.proofs.instances.passing_if.Goals as goal
 
 pub returns-else-passing : goal.returns-else-passing

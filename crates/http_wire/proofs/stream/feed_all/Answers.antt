@@ -1,7 +1,7 @@
 use Rattle.std.proofs.Common.{◌≡◌, ℕ, ◌∙◌, ap, sym, refl, List, [], ◌∷◌, ◌++◌, length, map, subst, append-nil, ◌<◌}
 use Rattle.std.proofs.lemmas.List.{map-append}
 use Rattle.http_wire.specs.Stream.{Given, go_on, whole}
-use Rattle.http_wire.specs.declared.feeding.RawRequest.{RawRequest}
+use Rattle.http_wire.specs.declared.partial.RawRequest.{RawRequest}
 use Rattle.http_wire.specs.Reader.{raw}
 use Rattle.http_wire.specs.State.{given, Taking, Told}
 use Rattle.http_wire.proofs.Told as told

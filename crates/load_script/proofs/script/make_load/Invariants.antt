@@ -1,5 +1,5 @@
 use Rattle.std.proofs.Common.{◌-◌, ◌≡◌, ◌+◌, ◌*◌, ◌≤◌, ◌++◌, length}
-use Rattle.load_script.specs.Load.{load_script, requests_from, text_of}
+use Rattle.load_script.specs.LoadScript.{load_script, requests_from, text_of}
 use Rattle.load_script.proofs.Drawing.{left}
 use Rattle.load_script.proofs.script.make_load.Given as goal
 

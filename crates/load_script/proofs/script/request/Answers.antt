@@ -1,5 +1,5 @@
 use Rattle.std.proofs.Common.{ap, ◌∙◌, sym}
-use Rattle.load_script.specs.Load.{request}
+use Rattle.load_script.specs.LoadScript.{request}
 use Rattle.load_script.proofs.Texts.{put_text}
 use Rattle.load_script.proofs.script.request.Goals as goal
 

@@ -2,7 +2,7 @@ use Rattle.std.proofs.Common.{◌≡◌, ◌<◌, List, Some, subst, sym, ◌∙
 use Rattle.cat_model.specs.declared.command.Command.{Command}
 use Rattle.cluster_rules.specs.Proposals.{Proposals}
 use Rattle.cluster.proofs.AgentParts.{when_ok}
-use Rattle.cluster.proofs.Syncs.{agent_back, agent_there, plans_part, plans_whole, still_told}
+use Rattle.cluster.proofs.Syncing.{agent_back, agent_there, plans_part, plans_whole, still_told}
 use Rattle.cluster.proofs.cluster.Cluster.carry_plan.Goals as goal
 
 pub count_proposed-requires : goal.count_proposed-requires

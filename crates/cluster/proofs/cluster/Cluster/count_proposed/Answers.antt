@@ -1,7 +1,7 @@
 use Rattle.std.proofs.Common.{Some, ◌∙◌}
 use Rattle.cluster_rules.specs.Due.{put_out}
 use Rattle.cluster_rules.specs.Replies.{Synced}
-use Rattle.cluster.proofs.Syncs.{counted, fresh_stands, told_there}
+use Rattle.cluster.proofs.Syncing.{counted, fresh_stands, told_there}
 use Rattle.cluster.proofs.cluster.Cluster.count_proposed.Goals as goal
 
 pub count_sync-requires : goal.count_sync-requires

@@ -4,7 +4,7 @@ use Rattle.cluster_rules.specs.Cluster.{office_of, server_of}
 use Rattle.cluster_rules.specs.Proposals.{over_rows}
 use Rattle.cluster_servers.specs.Servers.{Servers}
 use Rattle.cluster_parts.specs.Standing.{Stands}
-use Rattle.cluster_parts.proofs.Acts.{stands_officed}
+use Rattle.cluster_parts.proofs.Acting.{stands_officed}
 use Rattle.cluster.proofs.Tending.{ends_done, proposed_office}
 use Rattle.cluster.proofs.cluster.Cluster.propose_ends.Goals as goal
 

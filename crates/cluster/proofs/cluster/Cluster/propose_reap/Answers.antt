@@ -3,7 +3,7 @@ use Rattle.office_rules.specs.Offices.{looks_on}
 use Rattle.cluster_rules.specs.Cluster.{clock_of, server_of}
 use Rattle.cluster_servers.specs.Servers.{Servers}
 use Rattle.cluster_parts.specs.Standing.{Stands}
-use Rattle.cluster_parts.proofs.Acts.{stands_officed}
+use Rattle.cluster_parts.proofs.Acting.{stands_officed}
 use Rattle.cluster.proofs.cluster.Cluster.propose_reap.Goals as goal
 
 pub invariant_of-self : goal.invariant_of-self

@@ -5,7 +5,7 @@ use Rattle.cluster_rules.specs.Cluster.{clock_of, server_of}
 use Rattle.cluster_rules.specs.Proposals.{Proposals, looked}
 use Rattle.cluster_servers.specs.Servers.{Servers}
 use Rattle.cluster_parts.specs.Standing.{Stands}
-use Rattle.cluster_parts.proofs.Acts.{stands_officed}
+use Rattle.cluster_parts.proofs.Acting.{stands_officed}
 use Rattle.cluster.proofs.Tending.{looked_is, reaps_none, reaps_told}
 use Rattle.cluster.proofs.cluster.Cluster.reap.Goals as goal
 

@@ -1,5 +1,5 @@
 use Rattle.std.proofs.Common.{◌∙◌}
-use Rattle.cluster.proofs.Syncs.{fresh_stands, taken_back, told_there}
+use Rattle.cluster.proofs.Syncing.{fresh_stands, taken_back, told_there}
 use Rattle.cluster.proofs.cluster.Cluster.take_back.Goals as goal
 
 pub take_sync_back-requires : goal.take_sync_back-requires

@@ -1,5 +1,5 @@
 use Rattle.std.proofs.Common.{ap, length, map, sym, arith}
-use Rattle.session_ttl.proofs.Ends.{ends_are, row_of}
+use Rattle.session_ttl.proofs.TimesOver.{ends_are, row_of}
 use Rattle.cluster_servers.specs.Servers.{Servers}
 use Rattle.cluster_servers.proofs.Following.{same_length}
 use Rattle.cluster_servers.proofs.Leading.{end_it}

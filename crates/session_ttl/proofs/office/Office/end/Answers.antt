@@ -1,6 +1,6 @@
 use Rattle.std.proofs.Common.{ℕ, List, map, reverse, ◌∙◌, ap, ◌++◌}
 use Rattle.office_rules.specs.Offices.{Office}
-use Rattle.session_ttl.proofs.Ends.{ends_more}
+use Rattle.session_ttl.proofs.TimesOver.{ends_more}
 use Rattle.session_ttl.proofs.office.Office.end.Goals as goal
 
 pub returns-clause-ok : goal.returns-clause-ok

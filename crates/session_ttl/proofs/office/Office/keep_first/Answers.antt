@@ -1,6 +1,6 @@
 use Rattle.std.proofs.Common.{◌≡◌, ℕ, arith, List, ◌++◌, length, map, reverse, take, ◌+◌, ◌-◌, ◌∙◌, ap}
 use Rattle.office_rules.specs.Offices.{Office}
-use Rattle.session_ttl.proofs.Ends.{ends_kept}
+use Rattle.session_ttl.proofs.TimesOver.{ends_kept}
 use Rattle.session_ttl.proofs.office.Office.keep_first.Goals as goal
 
 pub returns : goal.returns

@@ -3,7 +3,7 @@ use Rattle.std.proofs.lemmas.Result.{IfOk-weaker}
 use Rattle.office_rules.specs.Offices.{is_over, sorted_by}
 use Rattle.session_ttl.specs.Endings.{ending_in, over_in, overdue_of}
 use Rattle.session_ttl.proofs.Among.{passing_among}
-use Rattle.session_ttl.proofs.Ends.{in_turn}
+use Rattle.session_ttl.proofs.TimesOver.{in_turn}
 use Rattle.session_ttl.proofs.office.Office.over_among.Goals as goal
 
 pub returns : goal.returns

@@ -1,0 +1,4 @@
+use Rattle.cluster.proofs.front.ClusterClusterInterface.ask.Given as goal
+
+abbrev pub ghosts-ask : goal.ghosts-ask
+ghosts-ask g a = record { name = a.blank.name; parts = a.blank.parts }

@@ -1,4 +1,0 @@
-use Rattle.cluster.proofs.playing.ClusterClusterInterface.ask.Given as goal
-
-abbrev pub ghosts-ask : goal.ghosts-ask
-ghosts-ask g a = record { name = a.blank.name; parts = a.blank.parts }

@@ -1,4 +1,0 @@
-use Rattle.cluster.proofs.playing.ClusterClusterInterface.step.Given as goal
-
-abbrev pub ghosts-step : goal.ghosts-step
-ghosts-step g a = record { name = a.blank.name; parts = a.blank.parts }

@@ -1,5 +1,0 @@
-use Rattle.std.proofs.Common.{length}
-use Rattle.node_service.proofs.sending.+count_bytes.Given as goal
-
-abbrev pub decreases-count_bytes : goal.decreases-count_bytes
-decreases-count_bytes l = length l.entries.now

@@ -1,5 +1,0 @@
-use Rattle.rerun_rules.proofs.Answering.{none_lost}
-use Rattle.rerun_rules.proofs.leading.nothing_is_lost.Goals as goal
-
-pub returns : goal.returns
-returns c = none_lost

@@ -1,5 +1,0 @@
-use Rattle.rerun_rules.proofs.Finding.{finds_again}
-use Rattle.rerun_rules.proofs.leading.requests_find_it_again.Goals as goal
-
-pub returns : goal.returns
-returns c = finds_again

@@ -1,5 +1,0 @@
-use Rattle.rerun_rules.proofs.Finding.{finds_leader}
-use Rattle.rerun_rules.proofs.leading.requests_find_the_leader.Goals as goal
-
-pub returns : goal.returns
-returns c = finds_leader

@@ -1,0 +1,9 @@
+use denote.Param.{param}
+use denote.Param.Send.{arg_send, param_send}
+use denote.Exit.{no}
+use Rattle.stale_view.proofs.Crossing.{publisher_sends}
+use Rattle.stale_view.proofs.thread_safety.publishers_send.Goals as goal
+
+pub sends-requires-send-T : goal.sends-requires-send-T
+sends-requires-send-T g c κs within =
+    param_send 0 _ (arg_send _ no _ (publisher_sends (param 0 g.row.J) g.J.PairName (param 1 g.row.R) (param_send 1 _ c.type_bounds.send-R) c.parts_cross.ensures.side c.parts_cross.ensures.shared c.parts_cross.ensures.op c.parts_cross.ensures.front))
