@@ -4,7 +4,7 @@ use Rattle.std.specs.Prelude.{◌/◌, ◌%◌, nat_lt, if◌then◌else◌, cod
 use Rattle.std.specs.Fmt.{decimal}
 use Rattle.std.proofs.lemmas.Fmt.{decimal_digit, decimal_step}
 use Rattle.std.proofs.lemmas.Bool.Decides.{nat_tests}
-use Rattle.agent_rules.specs.Agents.{agent_node}
+use Rattle.cluster_rules.specs.Agents.{agent_node}
 
 -- a number of one digit or two
 digits_of : (agent : ℕ) → agent < 100 → (b : Bool) → nat_lt agent 10 ≡ b → decimal agent ≡ (if b then (48 + agent) ∷ [] else (48 + agent / 10) ∷ (48 + agent % 10) ∷ [])

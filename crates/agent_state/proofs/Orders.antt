@@ -13,7 +13,7 @@ use Rattle.cat_model.specs.declared.request.TtlDef.{TtlDef}
 use Rattle.node_rows.specs.Tags.{all_tagged, tagged_at}
 use Rattle.node_rows.specs.declared.tags.Retag.{Retag}
 use Rattle.std.specs.Prelude.{◌+◌, nat_le, codes}
-use Rattle.agent_rules.specs.Agents.{Agent, Watched, expired, noted_check, watch, watch_all, watched, watched_key}
+use Rattle.cluster_rules.specs.Agents.{Agent, Watched, expired, noted_check, watch, watch_all, watched, watched_key}
 use Rattle.agent_state.specs.Order.{ChecksAscend, ServicesAscend, all_put}
 
 module _ {K R : Type 0} (cmp : K → K → Ordering) (key : R → K) (f : R → R) (keeps : (r : R) → key (f r) ≡ key r) where

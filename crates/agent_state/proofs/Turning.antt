@@ -4,7 +4,7 @@ use Rattle.std.specs.Prelude.{◌&&◌, nat_le, codes}
 use Rattle.std.proofs.lemmas.Bool.{and_parts}
 use Rattle.cat_model.specs.declared.row.Status.TheVariants.{Critical}
 use Rattle.cat_model.proofs.SameLemmas.{status_decides, text_decides}
-use Rattle.agent_rules.specs.Agents.{Watched, expired}
+use Rattle.cluster_rules.specs.Agents.{Watched, expired}
 use Rattle.agent_state.specs.Expiring.{says_expired, turns}
 
 told : (b : Bool) → not b ≡ false → b ≡ true

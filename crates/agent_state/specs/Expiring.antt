@@ -3,7 +3,7 @@ use Rattle.std.specs.Prelude.{ℕ, ◌+◌, ◌&&◌, Bool, not, nat_le, codes}
 use Rattle.cat_model.specs.Keys.{same_text}
 use Rattle.cat_model.specs.Same.{same_status}
 use Rattle.cat_model.specs.declared.row.Status.TheVariants.{Critical}
-use Rattle.agent_rules.specs.Agents.{Watched}
+use Rattle.cluster_rules.specs.Agents.{Watched}
 
 -- the check says already that its TTL is over
 abbrev pub says_expired : Watched → Bool

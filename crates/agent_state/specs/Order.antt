@@ -4,7 +4,7 @@ use Rattle.cat_model.specs.Catalog.{service_key}
 use Rattle.cat_model.specs.Keys.{pair_cmp}
 use Rattle.cat_model.specs.Tables.{Ascends, put}
 use Rattle.cat_model.specs.declared.row.ServiceRow.{ServiceRow}
-use Rattle.agent_rules.specs.Agents.{Watched, watched_key}
+use Rattle.cluster_rules.specs.Agents.{Watched, watched_key}
 
 abbrev pub ServicesAscend : List ServiceRow → Type 0
 ServicesAscend = Ascends pair_cmp service_key

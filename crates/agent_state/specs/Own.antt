@@ -1,6 +1,6 @@
 -- The rows that each agent has without being asked for them.
 use Rattle.std.specs.Prelude.{◌≡◌, ℕ}
-use Rattle.agent_rules.specs.Agents.{node_row, serf_row}
+use Rattle.cluster_rules.specs.Agents.{node_row, serf_row}
 use Rattle.agent_state.specs.declared.looks.OwnParts.{OwnParts}
 
 -- agent a's row of its node, and its check of it

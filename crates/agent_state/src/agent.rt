@@ -1,6 +1,6 @@
 ghost use Rattle.std.specs.Prelude.{◌≡◌, ◌+◌, ◌<◌, ◌^◌, OnErr, OnOk, IfOk};
 ghost use Rattle.node_rows.specs.Tags.{all_tagged};
-ghost use Rattle.agent_rules.specs.Agents as rules;
+ghost use Rattle.cluster_rules.specs.Agents as rules;
 
 use crate::checks::expire_checks;
 use crate::watched::Watched;
@@ -25,7 +25,7 @@ pub struct Agent {
 
 impl Model for Agent {
     ghost use Rattle.std.specs.Prelude.{◌+◌};
-    ghost use Rattle.agent_rules.specs.Agents as rules;
+    ghost use Rattle.cluster_rules.specs.Agents as rules;
     ghost use Rattle.agent_state.specs.Order.{ChecksAscend, ServicesAscend};
 
     ghost Value = { rules.Agent };

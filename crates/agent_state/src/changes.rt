@@ -4,7 +4,7 @@ ghost use Rattle.std.specs.Prelude.{◌≡◌, ◌<◌, ◌↔◌, IfOk, OnErr, 
 ghost use Rattle.cat_model.specs.Keys.{pair_cmp, same_text};
 ghost use Rattle.cat_model.specs.Tables.{put, without};
 ghost use Rattle.cat_model.specs.Catalog.{service_key};
-ghost use Rattle.agent_rules.specs.Agents as rules;
+ghost use Rattle.cluster_rules.specs.Agents as rules;
 ghost use Rattle.cat_model.specs.declared.request.AgentOp.TheVariants as op;
 
 use crate::agent::Agent;

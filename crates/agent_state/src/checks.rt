@@ -7,7 +7,7 @@ ghost use Rattle.std.specs.Vec.{vec_capacity};
 ghost use Rattle.cat_model.specs.Keys.{pair_cmp, same_text};
 ghost use Rattle.cat_model.specs.Tables.{row_at, without};
 ghost use Rattle.cat_model.specs.Syncs.{serf_id};
-ghost use Rattle.agent_rules.specs.Agents.{agent_node, expired, noted_check, watched, watched_key};
+ghost use Rattle.cluster_rules.specs.Agents.{agent_node, expired, noted_check, watched, watched_key};
 ghost use Rattle.agent_state.specs.Expiring.{says_expired, turns};
 ghost use Rattle.agent_state.specs.Order.{ChecksAscend, all_put};
 ghost use Rattle.agent_state.specs.Replacing.{other_or};

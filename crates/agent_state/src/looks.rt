@@ -1,7 +1,7 @@
 //! An agent's rows, looked at where they stand.
 
 ghost use Rattle.std.specs.Prelude.{◌≡◌, ◌∷◌, ◌<◌, ◌++◌, ℕ, IfOk, OnOk, map};
-ghost use Rattle.agent_rules.specs.Agents as rules;
+ghost use Rattle.cluster_rules.specs.Agents as rules;
 ghost use Rattle.agent_state.specs.Own.{AreOwn};
 
 use crate::agent::Agent;

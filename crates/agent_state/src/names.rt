@@ -2,7 +2,7 @@
 
 ghost use Rattle.std.specs.Prelude.{◌≡◌, ◌<◌, IfOk};
 ghost use Rattle.cat_model.specs.Keys.{pair_cmp, text_cmp};
-ghost use Rattle.agent_rules.specs.Agents.{agent_node};
+ghost use Rattle.cluster_rules.specs.Agents.{agent_node};
 
 use cat_model::{Memory, Text};
 use node_rows::compare;

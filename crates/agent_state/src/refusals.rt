@@ -1,5 +1,5 @@
 ghost use Rattle.std.specs.Prelude.{◌≡◌};
-ghost use Rattle.agent_rules.specs.Agents.{unknown};
+ghost use Rattle.cluster_rules.specs.Agents.{unknown};
 
 use crate::checks::is_own;
 use cat_model::AgentOp;

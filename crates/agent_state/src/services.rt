@@ -5,7 +5,7 @@ ghost use Rattle.std.specs.Option.{option_copied};
 ghost use Rattle.cat_model.specs.Keys.{pair_cmp, same_text};
 ghost use Rattle.cat_model.specs.Tables.{without};
 ghost use Rattle.cat_model.specs.Catalog.{service_at};
-ghost use Rattle.agent_rules.specs.Agents.{agent_node, service_row};
+ghost use Rattle.cluster_rules.specs.Agents.{agent_node, service_row};
 ghost use Rattle.agent_state.specs.Order.{ServicesAscend};
 
 use crate::names::{agent_node, compare_own};

@@ -2,14 +2,14 @@
 
 ghost use Rattle.std.specs.Prelude.{◌≡◌, ◌∷◌, ◌<◌, IfOk, map};
 ghost use Rattle.std.specs.Option.{option_copied};
-ghost use Rattle.agent_rules.specs.Agents as rules;
+ghost use Rattle.cluster_rules.specs.Agents as rules;
 ghost use Rattle.agent_state.specs.Order.{ServicesAscend};
 ghost use Rattle.cat_model.specs.declared.request.AgentOp.TheVariants as op;
 
 use crate::agent::Agent;
+use crate::bodies::{checks_body, services_body};
 use crate::looks::serf_row;
 use crate::watched::Watched;
-use agent_bodies::{checks_body, services_body};
 use cat_model::lists::{copy_of, joined, made, one};
 use cat_model::{AgentOp, Bytes, CheckRow, CheckView, List, Memory, ServiceRow, Text};
 use node_rows::{find_row, is_blank};

@@ -3,7 +3,7 @@
 ghost use Rattle.std.specs.Prelude.{◌≡◌, ◌+◌, ◌<◌, IfOk};
 ghost use Rattle.cat_model.proofs.Pairs.{exact_pair, pair_cmp_total};
 ghost use Rattle.cat_model.specs.Keys.{pair_cmp};
-ghost use Rattle.agent_rules.specs.Agents as rules;
+ghost use Rattle.cluster_rules.specs.Agents as rules;
 
 use crate::names::agent_node;
 use cat_model::{CheckRow, Memory, Status, Text, TtlDef};
@@ -21,7 +21,7 @@ pub(crate) struct Watched {
 }
 
 impl Model for Watched {
-    ghost use Rattle.agent_rules.specs.Agents as rules;
+    ghost use Rattle.cluster_rules.specs.Agents as rules;
 
     ghost Value = { rules.Watched };
 

@@ -2,8 +2,8 @@
 #![tactic(auto)]
 
 #[cfg(test)]
-mod requests;
-#[cfg(test)]
 mod begun;
+#[cfg(test)]
+mod requests;
 #[cfg(test)]
 mod stores;

@@ -9,7 +9,7 @@ use cat_model::{
     Answer, Asked, Bytes, Command, Draw, Event, Kind, Memory, Mode, Query, Request, Shared, Text,
 };
 use cluster_interface::ClusterInterface;
-use open_requests::{Collected, Content};
+use cluster_requests::{Collected, Content};
 use std::alloc::Global;
 
 /// The command that sets a key.

@@ -7,9 +7,9 @@
 //! `queries.rt` and `shown.rt` say how commands, queries and what they give are written.
 #![tactic(auto)]
 
+mod cases;
 mod commands;
 mod line;
-mod cases;
 mod queries;
 mod shown;
 mod words;

@@ -18,8 +18,8 @@ use Rattle.cat_model.specs.declared.query.Instance.{Instance}
 use Rattle.cat_model.proofs.Pairs.{pair_cmp_total}
 use Rattle.cat_model.proofs.SameLemmas.{text_decides}
 use Rattle.cat_model.proofs.TableLemmas.{All-filter_test, row_at-filter}
-use Rattle.health_view.specs.Rows.{rows_with}
-use Rattle.health_view.proofs.Joining as joining
+use Rattle.catalog_query.specs.Rows.{rows_with}
+use Rattle.catalog_query.proofs.Joining as joining
 use Rattle.cat_model.specs.Lists.{flat}
 use Rattle.catalog_query.specs.Placing.{counts_for, placed}
 use Rattle.catalog_query.proofs.Filtering.{filter_weaker, map_alike, each_found, both_hold, flat_is}

@@ -5,3 +5,5 @@ pub mod OneKey
 pub mod NodeReads
 pub mod Cutting
 pub mod NameLists
+pub mod Items
+pub mod Joining

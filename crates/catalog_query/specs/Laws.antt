@@ -12,7 +12,7 @@ use Rattle.cat_model.specs.declared.query.Query.{Query}
 use Rattle.cat_model.specs.declared.query.Query.TheVariants as q
 use Rattle.cat_model.specs.declared.command.Command.{Command}
 use Rattle.cat_model.proofs.ViewLaw.{view_law}
-use Rattle.table_index.specs.NameVersions.{own_position}
+use Rattle.touch_positions.specs.NameVersions.{own_position}
 use Rattle.catalog_query.specs.Standing.{kept_at, own_or_vanished, own_or_gone, view_index, NamesFit, Stands}
 use Rattle.catalog_query.specs.Unread.{answer_at, chans_at, index_at, execution_at}
 

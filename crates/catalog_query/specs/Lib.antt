@@ -3,3 +3,4 @@ pub mod Laws
 pub mod Placing
 pub mod Standing
 pub mod Unread
+pub mod Rows

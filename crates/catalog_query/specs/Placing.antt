@@ -7,7 +7,7 @@ use Rattle.cat_model.specs.Queries.{instances}
 use Rattle.cat_model.specs.declared.row.CheckRow.{CheckRow}
 use Rattle.cat_model.specs.declared.row.ServiceRow.{ServiceRow}
 use Rattle.cat_model.specs.declared.query.Instance.{Instance}
-use Rattle.health_view.specs.Rows.{rows_with}
+use Rattle.catalog_query.specs.Rows.{rows_with}
 
 abbrev pub counts_for : ServiceRow → CheckRow → Bool
 counts_for s c = same_text c.node s.node && (is_empty c.service || same_text c.service s.id)

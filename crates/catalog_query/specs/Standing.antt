@@ -12,8 +12,8 @@ use Rattle.cat_model.specs.declared.query.Query.TheVariants as q
 use Rattle.cat_model.specs.declared.command.Command.{Command}
 use Rattle.kv_table.specs.States.{KvState}
 use Rattle.catalog_table.specs.Rows.{Rows}
-use Rattle.table_index.specs.NameVersions.{own_position}
-use Rattle.table_index.specs.States.{IndexState}
+use Rattle.touch_positions.specs.NameVersions.{own_position}
+use Rattle.touch_positions.specs.States.{IndexState}
 
 -- The rows of the tables. No table has the version of the machine, and no query reads it.
 abbrev pub rows_of : KvState → Rows → List SessionRow → List QueryRow → Catalog

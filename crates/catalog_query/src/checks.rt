@@ -6,10 +6,10 @@ ghost use Rattle.cat_model.specs.Queries.{answer, check_view, has_status, servic
 ghost use Rattle.cat_model.specs.declared.query.Query.TheVariants as q;
 ghost use Rattle.catalog_table.specs.Rows.{catalog_of};
 
+use crate::joins::name_or_blank;
 use cat_model::lists::{copy_of, made};
 use cat_model::{Answer, CheckRow, CheckView, List, Memory, Status, Text};
 use catalog_table::CatalogTable;
-use health_view::name_or_blank;
 use node_rows::{is_blank, is_same};
 use std::alloc::Global;
 

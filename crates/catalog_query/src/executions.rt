@@ -6,10 +6,10 @@ ghost use Rattle.cat_model.specs.Queries.{all_pass};
 ghost use Rattle.cat_model.specs.Executions.{none_critical, is_wanted, cut_at, execute_row, query_named, query_of};
 ghost use Rattle.catalog_table.specs.Rows.{catalog_of};
 
+use crate::filters::{meeting_tags, not_critical, only_passing};
 use crate::instances::all_named;
 use cat_model::{Instance, List, Memory, QueryRow, Ran};
 use catalog_table::CatalogTable;
-use health_view::{meeting_tags, not_critical, only_passing};
 use query_table::QueryTable;
 use std::alloc::Global;
 

@@ -6,14 +6,14 @@ ghost use Rattle.cat_model.specs.Indexes.{has_node};
 ghost use Rattle.cat_model.specs.declared.row.SessionRow.{SessionRow};
 ghost use Rattle.cat_model.specs.declared.row.QueryRow.{QueryRow};
 ghost use Rattle.catalog_table.specs.Rows.{catalog_of};
-ghost use Rattle.table_index.specs.States.{table_position, host_position, host_checks_position};
+ghost use Rattle.touch_positions.specs.States.{table_position, host_position, host_checks_position};
 ghost use Rattle.catalog_query.specs.Standing.{kept_of, view_index};
 
 use crate::nodes::is_there;
 use cat_model::{Query, Text};
 use catalog_table::CatalogTable;
 use kv_table::KvTable;
-use table_index::{Table, TableIndex};
+use touch_positions::{Table, TableIndex};
 
 fn later(indexes: &TableIndex, one: Table, other: Table) -> u64
     ensures { result ≡ max (table_position one indexes.now.now) (table_position other indexes.now.now) }

@@ -9,10 +9,11 @@ ghost use Rattle.catalog_table.specs.Rows.{catalog_of};
 ghost use Rattle.cat_model.specs.Lists.{flat};
 ghost use Rattle.catalog_query.specs.Placing.{placed};
 
+use crate::filters::{only_passing, with_tags};
+use crate::joins::join;
 use cat_model::lists::{copy_if_any, copy_of, gathered, one};
 use cat_model::{Instance, List, Memory, ServiceRow, Text, Texts};
 use catalog_table::CatalogTable;
-use health_view::{join, only_passing, with_tags};
 use std::alloc::Global;
 
 /// The instance of this service, where its node is there.

@@ -9,7 +9,7 @@ ghost use Rattle.cat_model.specs.Views.{Kept, kept_index};
 ghost use Rattle.cat_model.specs.declared.query.Query.{Query};
 ghost use Rattle.kv_table.specs.States.{empty_state};
 ghost use Rattle.catalog_table.specs.Rows.{no_rows};
-ghost use Rattle.table_index.specs.States.{first_state};
+ghost use Rattle.touch_positions.specs.States.{first_state};
 ghost use Rattle.catalog_query.specs.Standing.{rows_at, kept_at, kept_of, Stands};
 
 /// What new tables keep stands for the empty log.

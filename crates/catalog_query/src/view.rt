@@ -18,7 +18,7 @@ use session_table::SessionTable;
 use std::alloc::Global;
 use std::marker::Model;
 use std::sync::ledger::Ledger;
-use table_index::TableIndex;
+use touch_positions::TableIndex;
 
 /// The tables of a store, read together. Contracts see them as what they keep in place of a log.
 #[derive(Drop)]

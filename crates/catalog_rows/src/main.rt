@@ -17,15 +17,15 @@
 mod difference;
 mod files;
 mod in_full;
-mod scripts;
 mod row;
+mod scripts;
 mod served_row;
 mod servers;
 mod ways;
 
 use crate::difference::{Difference, first_difference};
-use crate::scripts::play;
 use crate::row::{Row, read_long_row, read_row};
+use crate::scripts::play;
 use crate::ways::is_served_as_written;
 use anyhow::{Context, Result};
 use std::process::ExitCode;

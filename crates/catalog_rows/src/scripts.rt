@@ -1,8 +1,8 @@
 use anyhow::Result;
 use cat_model::{Bytes, List};
-use cat_outside::{SureSink, SureSource};
 use catalog_top::{Machine, run, status_of};
 use datagram_outside::MemPorts;
+use outside::{SureSink, SureSource};
 use serve_outside::{Bells, CountWords, MemListener, MemSpawner, SetClock, SureKeepers};
 use std::alloc::Global;
 use std::sync::Wait;

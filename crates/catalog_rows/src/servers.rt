@@ -4,9 +4,9 @@ use crate::scripts::machine;
 use crate::served_row::{Connection, ServedRow};
 use anyhow::Result;
 use cat_model::{Bytes, List};
-use cat_outside::{SureSink, SureSource};
 use catalog_top::{Machine, run, status_of};
 use datagram_outside::MemPorts;
+use outside::{SureSink, SureSource};
 use serve_outside::{
     Bells, Clock, CountWords, Gate, MachineClock, MemListener, MemSpawner, Script, Spawner,
     SureKeepers, ThreadSpawner,

@@ -26,7 +26,7 @@ use Rattle.cat_model.proofs.Pairs.{pair_cmp_total, exact_pair}
 use Rattle.kv_table.specs.States.{KvState}
 use Rattle.catalog_table.specs.Rows.{Rows, catalog_of, InOrder, off_node}
 use Rattle.session_table.specs.Nodes.{is_of_node}
-use Rattle.table_index.specs.States.{IndexState}
+use Rattle.touch_positions.specs.States.{IndexState}
 use Rattle.catalog_store.specs.Firing.{FiresJust, keys_fire}
 use Rattle.catalog_store.specs.Steps.{SameIndexes}
 use Rattle.catalog_store.proofs.Fires.{same_row, fires_one, fires_none}

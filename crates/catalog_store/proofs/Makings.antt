@@ -24,8 +24,8 @@ use Rattle.cat_model.proofs.SameLemmas.{session_decides, query_decides}
 use Rattle.cat_model.proofs.TableLemmas.{All-append, All-filter, Ascends-put}
 use Rattle.cat_model.proofs.Lookups.{row_at-put}
 use Rattle.catalog_table.specs.Rows.{catalog_of}
-use Rattle.table_index.specs.States.{with_table}
-use Rattle.table_index.specs.declared.positions.Table.TheVariants as table
+use Rattle.touch_positions.specs.States.{with_table}
+use Rattle.touch_positions.specs.declared.positions.Table.TheVariants as table
 use Rattle.catalog_store.specs.Firing.{FiresJust}
 use Rattle.catalog_store.proofs.Fires.{fires_none, fires_one, same_row}
 use Rattle.catalog_store.specs.States.{State, whole}

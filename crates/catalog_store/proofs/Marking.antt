@@ -14,10 +14,10 @@ use Rattle.cat_model.specs.declared.command.Command.{Command}
 use Rattle.cat_model.proofs.SameLemmas.{text_decides}
 use Rattle.catalog_table.specs.Names.{is_among}
 use Rattle.catalog_table.specs.declared.changed.Changed.{Changed}
-use Rattle.table_index.specs.NameVersions.{own_position}
-use Rattle.table_index.specs.States.{IndexState, SameTables, SameHosts, TouchesName, VanishesName, table_position, name_position, with_table}
-use Rattle.table_index.specs.declared.positions.Table.{Table}
-use Rattle.table_index.specs.declared.positions.Table.TheVariants.{Nodes, Services, Checks, Sessions, Queries}
+use Rattle.touch_positions.specs.NameVersions.{own_position}
+use Rattle.touch_positions.specs.States.{IndexState, SameTables, SameHosts, TouchesName, VanishesName, table_position, name_position, with_table}
+use Rattle.touch_positions.specs.declared.positions.Table.{Table}
+use Rattle.touch_positions.specs.declared.positions.Table.TheVariants.{Nodes, Services, Checks, Sessions, Queries}
 use Rattle.catalog_store.specs.Standing.{PositionsStand, Within}
 use Rattle.catalog_store.specs.Registering.{TouchesEach, VanishesEach, MarksNames, touched_if, has_some}
 

@@ -28,8 +28,8 @@ use Rattle.catalog_table.specs.Steps.{IsRegister, IsRegistration, StepsOnRows, s
 use Rattle.catalog_table.proofs.OtherLists.{other_lists}
 use Rattle.catalog_table.specs.declared.changed.Changed.{Changed}
 use Rattle.catalog_table.proofs.ServiceReads.{reads_nothing}
-use Rattle.table_index.specs.NameVersions.{own_position}
-use Rattle.table_index.specs.States.{IndexState}
+use Rattle.touch_positions.specs.NameVersions.{own_position}
+use Rattle.touch_positions.specs.States.{IndexState}
 use Rattle.catalog_store.proofs.Fires.{same_row}
 use Rattle.catalog_table.proofs.Keeping.{KeepsOthers, put_keeps, deregister_keeps}
 use Rattle.catalog_table.specs.Steps.{put_rows}

@@ -24,8 +24,8 @@ use Rattle.cat_model.specs.declared.command.Command.TheVariants.{QuerySet}
 use Rattle.cat_model.proofs.SameLemmas.{text_decides, query_decides}
 use Rattle.cat_model.proofs.TableLemmas.{All-append, All-filter, All-weaker}
 use Rattle.cat_model.proofs.InOrder.{found_in, found_by}
-use Rattle.table_index.specs.States.{with_table}
-use Rattle.table_index.specs.declared.positions.Table.TheVariants as table
+use Rattle.touch_positions.specs.States.{with_table}
+use Rattle.touch_positions.specs.declared.positions.Table.TheVariants as table
 use Rattle.query_table.specs.States.{is_named}
 use Rattle.catalog_store.proofs.Fires.{fires_one, same_row}
 use Rattle.catalog_store.specs.States.{State, whole}

@@ -31,7 +31,7 @@ use Rattle.catalog_table.specs.Rows.{Rows, InOrder, catalog_of}
 use Rattle.catalog_table.specs.Steps.{IsRegistration}
 use Rattle.cat_model.specs.declared.query.Chan.{Chan}
 use Rattle.session_table.specs.Nodes.{has_check, is_of_node, is_on, is_on_some, stands_on}
-use Rattle.table_index.specs.States.{IndexState}
+use Rattle.touch_positions.specs.States.{IndexState}
 use Rattle.catalog_store.specs.States.{State, whole}
 use Rattle.catalog_store.specs.Standing.{Ready}
 use Rattle.catalog_store.specs.Registering.{RowStep, node_of, with_rows}

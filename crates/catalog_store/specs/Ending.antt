@@ -15,7 +15,7 @@ use Rattle.cat_model.specs.declared.fired.Fired.{Fired}
 use Rattle.catalog_store.specs.Firing.{FiresJust}
 use Rattle.catalog_store.specs.Freeing.{freed_rows, freed_keys}
 use Rattle.catalog_store.specs.Steps.{SameIndexes}
-use Rattle.table_index.specs.States.{IndexState}
+use Rattle.touch_positions.specs.States.{IndexState}
 use Rattle.catalog_store.specs.States.{State}
 
 -- the session is one of these, and the query is bound to one of these

@@ -11,9 +11,9 @@ use Rattle.cat_model.specs.declared.command.Command.TheVariants.{Register, Dereg
 use Rattle.catalog_table.specs.Rows.{Rows}
 use Rattle.catalog_table.specs.Names.{is_among}
 use Rattle.catalog_table.specs.declared.changed.Changed.{Changed}
-use Rattle.table_index.specs.NameVersions.{own_position}
-use Rattle.table_index.specs.States.{IndexState, SameTables, SameHosts, with_table}
-use Rattle.table_index.specs.declared.positions.Table.{Table}
+use Rattle.touch_positions.specs.NameVersions.{own_position}
+use Rattle.touch_positions.specs.States.{IndexState, SameTables, SameHosts, with_table}
+use Rattle.touch_positions.specs.declared.positions.Table.{Table}
 use Rattle.catalog_store.specs.States.{State}
 use Rattle.catalog_store.specs.Whole.{Acts}
 use Rattle.catalog_store.specs.declared.registrations.NodeChange.{NodeChange}

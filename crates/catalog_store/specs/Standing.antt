@@ -15,8 +15,8 @@ use Rattle.cat_model.specs.declared.query.Chan.TheVariants as chan
 use Rattle.cat_model.specs.declared.command.Command.{Command}
 use Rattle.kv_table.specs.States.{KvState}
 use Rattle.catalog_table.specs.Rows.{Rows, rows_of, catalog_of}
-use Rattle.table_index.specs.NameVersions.{own_position}
-use Rattle.table_index.specs.States.{IndexState, name_position, host_position, host_checks_position}
+use Rattle.touch_positions.specs.NameVersions.{own_position}
+use Rattle.touch_positions.specs.States.{IndexState, name_position, host_position, host_checks_position}
 use Rattle.catalog_store.specs.Steps.{Earlier}
 use Rattle.catalog_store.specs.States.{State, now_of, before_of}
 use Rattle.catalog_store.specs.declared.tables.Tables.{Tables}

@@ -6,7 +6,7 @@ use Rattle.cat_model.specs.declared.row.SessionRow.{SessionRow}
 use Rattle.cat_model.specs.declared.row.QueryRow.{QueryRow}
 use Rattle.kv_table.specs.States.{KvState, empty_state}
 use Rattle.catalog_table.specs.Rows.{Rows, no_rows}
-use Rattle.table_index.specs.States.{IndexState, first_state}
+use Rattle.touch_positions.specs.States.{IndexState, first_state}
 use Rattle.catalog_store.specs.declared.tables.Tables.{Tables}
 
 -- the version of the machine, the rows, and the positions of the last changes

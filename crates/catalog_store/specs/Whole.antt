@@ -15,8 +15,8 @@ use Rattle.cat_model.specs.declared.query.Chan.TheVariants.{Nodes, Services, Che
 use Rattle.cat_model.specs.declared.applied.Applied.{Applied}
 use Rattle.cat_model.specs.declared.fired.Fired.{Fired}
 use Rattle.cat_model.specs.declared.command.Command.{Command}
-use Rattle.table_index.specs.NameVersions.{own_position}
-use Rattle.table_index.specs.States.{IndexState}
+use Rattle.touch_positions.specs.NameVersions.{own_position}
+use Rattle.touch_positions.specs.States.{IndexState}
 use Rattle.catalog_store.specs.Firing.{FiresJust}
 use Rattle.catalog_store.specs.Steps.{SameIndexes}
 use Rattle.catalog_store.specs.States.{State, whole}

@@ -1,12 +1,12 @@
 //! Positions and channels of what changed.
 
 ghost use Rattle.std.specs.Prelude.{◌≡◌, ◌++◌, ◌≤◌, IfOk, OnOk, map};
-ghost use Rattle.table_index.specs.States.{table_position};
+ghost use Rattle.touch_positions.specs.States.{table_position};
 ghost use Rattle.catalog_store.specs.Registering.{one_if, touched_if};
 
 use cat_model::{Chan, Freed, List, Memory};
 use std::alloc::Global;
-use table_index::{Table, TableIndex};
+use touch_positions::{Table, TableIndex};
 
 /// Marks the table where it changed.
 pub(crate) fn touch_if(indexes: &mut TableIndex, changed: bool, table: Table, position: u64)

@@ -4,8 +4,8 @@ mod commands;
 mod freed_keys;
 mod keys;
 mod locks;
-mod transactions;
 mod transaction;
+mod transactions;
 
 pub use commands::apply;
 pub use freed_keys::free;

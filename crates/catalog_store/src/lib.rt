@@ -9,11 +9,11 @@
 #![tactic(auto)]
 
 mod channels;
-mod session_ends;
 mod key_commands;
 mod lost;
 mod queries;
 mod registrations;
+mod session_ends;
 mod sessions;
 mod steps;
 mod store;

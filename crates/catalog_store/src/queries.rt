@@ -19,7 +19,7 @@ use cat_model::{Applied, Chan, Command, List, Memory, QueryRow, Refuse};
 use query_table::QueryTable;
 use session_table::SessionTable;
 use std::alloc::Global;
-use table_index::Table;
+use touch_positions::Table;
 
 // Whether the query names no session, or one that is there.
 fn is_session_known(sessions: &SessionTable, row: &QueryRow) -> bool

@@ -12,7 +12,7 @@ use crate::tables::Tables;
 use cat_model::{Applied, Chan, Command, List, Memory, Refuse, Text};
 use catalog_table::{CatalogTable, Changed, RegisterFault};
 use std::alloc::Global;
-use table_index::{Table, TableIndex};
+use touch_positions::{Table, TableIndex};
 
 /// What a change did to its node: whether it was there before and is now, and whether its row or services changed, and
 /// its checks.

@@ -19,7 +19,7 @@ use cat_model::{Chan, Fired, Freed, List, Memory, SessionRow};
 use query_table::QueryTable;
 use session_table::SessionTable;
 use std::alloc::Global;
-use table_index::{Table, TableIndex};
+use touch_positions::{Table, TableIndex};
 
 fn either(a: bool, b: bool) -> bool
     ensures { result ≡ (a || b) }

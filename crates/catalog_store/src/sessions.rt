@@ -19,7 +19,7 @@ use cat_model::{Applied, Chan, Command, List, Memory, Refuse, SessionRow, Status
 use catalog_table::CatalogTable;
 use session_table::SessionTable;
 use std::alloc::Global;
-use table_index::Table;
+use touch_positions::Table;
 
 // Why no session may stand on the check.
 fn check_refusal(catalog: &CatalogTable, node: &Text, id: &Text) -> Option<Refuse>

@@ -11,8 +11,8 @@ ghost use Rattle.catalog_store.specs.Registering.{RowStep, node_of, with_rows};
 ghost use Rattle.catalog_table.specs.Steps.{IsRegistration};
 ghost use Rattle.catalog_store.specs.Making.{ends_none};
 
-use crate::session_ends::end;
 use crate::lost::lost_checks;
+use crate::session_ends::end;
 use crate::tables::Tables;
 use crate::{key_commands, queries, registrations, sessions};
 use cat_model::lists::joined;

@@ -16,7 +16,7 @@ use query_table::QueryTable;
 use session_table::SessionTable;
 use std::alloc::Global;
 use std::marker::Model;
-use table_index::TableIndex;
+use touch_positions::TableIndex;
 
 /// The tables with the commands that were applied to them. Contracts see it as the list of these, the first one first.
 #[derive(Drop)]

@@ -9,7 +9,7 @@ use kv_table::KvTable;
 use query_table::QueryTable;
 use session_table::SessionTable;
 use std::alloc::Global;
-use table_index::TableIndex;
+use touch_positions::TableIndex;
 
 /// The rows of the catalog and the positions of their last changes, with the version of the machine.
 #[derive(Drop)]

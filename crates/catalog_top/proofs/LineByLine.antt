@@ -7,9 +7,9 @@ use Rattle.raft_model.specs.World.{World}
 use Rattle.cluster_rules.specs.Replies.{Out}
 use Rattle.cluster_rules.specs.Cluster.{Cluster}
 use Rattle.cluster_rules.specs.Step.{ClusterStep}
-use Rattle.script_runs.specs.declared.misfit.Misfit.TheVariants.{NoServer, NoMessage}
-use Rattle.script_runs.specs.Lines.{Said, Makes, misfit}
-use Rattle.script_runs.specs.Plays.{Ending, Refused, Plays, over, breaks, skips, makes, settles, refuses, misfits, emptied}
+use Rattle.run_rules.specs.declared.misfit.Misfit.TheVariants.{NoServer, NoMessage}
+use Rattle.run_rules.specs.Lines.{Said, Makes, misfit}
+use Rattle.run_rules.specs.Plays.{Ending, Refused, Plays, over, breaks, skips, makes, settles, refuses, misfits, emptied}
 use Rattle.catalog_top.proofs.OnTheWay.{IsOnWay}
 
 -- What is left to play of lines, from a cluster whose world is such.

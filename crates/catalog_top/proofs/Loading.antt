@@ -1,7 +1,7 @@
 -- Which words ask for a load, and how a load and the line of wrong words end.
 use Rattle.std.proofs.Common.{◌≡◌, ℕ, List, Result, Err, subst, sym, ◌∙◌}
-use Rattle.cat_outside.specs.declared.faults.KeepFail.{KeepFail}
-use Rattle.cat_outside.specs.declared.faults.KeepFail.TheVariants as keep_fail
+use Rattle.outside.specs.declared.faults.KeepFail.{KeepFail}
+use Rattle.outside.specs.declared.faults.KeepFail.TheVariants as keep_fail
 use Rattle.load_player.specs.declared.load.Load.{Load}
 use Rattle.load_player.specs.Load.{AsksForLoad}
 use Rattle.load_player.proofs.Asking.{asks_load_once}
@@ -9,9 +9,9 @@ use Rattle.load_player.specs.Played.{WritesLoadPart}
 use Rattle.script_player.specs.declared.report.Report.{Report}
 use Rattle.script_player.specs.Run.{WritesPart}
 use Rattle.script_player.specs.Stage.{CountsWrite}
-use Rattle.server.specs.declared.options.Options.{Options}
-use Rattle.server.specs.Options.{AsksFor}
-use Rattle.server.proofs.Asking.{words_are}
+use Rattle.http_front.specs.declared.options.Options.{Options}
+use Rattle.http_front.specs.Options.{AsksFor}
+use Rattle.http_front.proofs.Asking.{words_are}
 use Rattle.catalog_top.specs.declared.stop.Stop.{Stop}
 use Rattle.catalog_top.specs.Ends.{PlaysLoad, SaysUsage}
 use Rattle.catalog_top.specs.Forms.{HasForm, HasPlainForm, AsksForNoServer, asks_load, asks_nothing, asks_script, plays_load, plays_nothing, plays_script}

@@ -1,12 +1,12 @@
 -- How a server's end is told.
 use Rattle.std.proofs.Common.{◌≡◌, ℕ, List, Result, Err, refl, subst}
 use Rattle.script_player.specs.declared.report.Report.{Report}
-use Rattle.server.specs.declared.options.Options.{Options}
-use Rattle.server.specs.declared.stop.Stop.{Stop as ServerStop}
-use Rattle.server.specs.declared.stop.Stop.TheVariants as server
-use Rattle.server.specs.Options.{AsksFor}
-use Rattle.server.specs.Served.{CountsBinds, CountsKeepers, CountsStop, WritesFront, WritesWhole}
-use Rattle.server.proofs.Asking.{asks_once}
+use Rattle.http_front.specs.declared.options.Options.{Options}
+use Rattle.http_front.specs.declared.stop.Stop.{Stop as ServerStop}
+use Rattle.http_front.specs.declared.stop.Stop.TheVariants as server
+use Rattle.http_front.specs.Options.{AsksFor}
+use Rattle.http_front.specs.Served.{CountsBinds, CountsKeepers, CountsStop, WritesFront, WritesWhole}
+use Rattle.http_front.proofs.Asking.{asks_once}
 use Rattle.catalog_top.specs.declared.stop.Stop.{Stop}
 use Rattle.catalog_top.specs.Ends.{EndsServing, IsUnserved, Serves}
 use Rattle.catalog_top.specs.Outside.{Output, Outside}

@@ -8,9 +8,9 @@ use Rattle.cluster_rules.specs.Cluster.{Cluster}
 use Rattle.cluster_rules.specs.Replies.{Out}
 use Rattle.cluster_rules.specs.Step.{ClusterStep}
 use Rattle.cluster_rules.proofs.Starting.{begun_servers}
-use Rattle.script_runs.specs.Holds.{IsFirstStart}
-use Rattle.script_runs.specs.Lines.{Makes, misfit}
-use Rattle.script_runs.specs.Plays.{Ending, Refused, Plays}
+use Rattle.run_rules.specs.Holds.{IsFirstStart}
+use Rattle.run_rules.specs.Lines.{Makes, misfit}
+use Rattle.run_rules.specs.Plays.{Ending, Refused, Plays}
 use Rattle.script_player.specs.declared.openings.Opening.{Opening}
 use Rattle.script_player.specs.Script.{Script, Opened, said, script_of}
 use Rattle.script_player.specs.Run.{Played, Writes, closed, played}

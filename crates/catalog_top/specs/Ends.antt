@@ -2,14 +2,14 @@
 -- rises where that one failed, and nowhere else. What is not listed does not happen.
 use Rattle.std.specs.Prelude.{◌≡◌, [], Result, Ok, Err}
 use Rattle.std.specs.Io.KnownBytes.{Appends}
-use Rattle.cat_outside.specs.Causes.{Rose}
+use Rattle.outside.specs.Causes.{Rose}
 use Rattle.script_player.specs.declared.report.Report.{Report}
 use Rattle.script_player.specs.Run.{WritesPart}
 use Rattle.load_player.specs.declared.load.Load.{Load}
 use Rattle.load_player.specs.Played.{PlayedLoad, WritesLoadPart}
-use Rattle.server.specs.declared.options.Options.{Options}
-use Rattle.server.specs.Names.{GivesPortBack}
-use Rattle.server.specs.Served.{GivesBack, Served, WritesFront, WritesWhole}
+use Rattle.http_front.specs.declared.options.Options.{Options}
+use Rattle.http_front.specs.Names.{GivesPortBack}
+use Rattle.http_front.specs.Served.{GivesBack, Served, WritesFront, WritesWhole}
 use Rattle.catalog_top.specs.declared.stop.Stop.{Stop}
 use Rattle.catalog_top.specs.declared.stop.Stop.TheVariants as stop
 use Rattle.catalog_top.specs.Outside.{Input, Output, Outside}

@@ -2,8 +2,8 @@
 use Rattle.std.specs.Prelude.{◌≡◌, ℕ, List, [], ◌∷◌, codes}
 use Rattle.load_player.specs.declared.load.Load.{Load}
 use Rattle.load_player.specs.Load.{AsksForLoad}
-use Rattle.server.specs.declared.options.Options.{Options}
-use Rattle.server.specs.Options.{AsksFor}
+use Rattle.http_front.specs.declared.options.Options.{Options}
+use Rattle.http_front.specs.Options.{AsksFor}
 
 abbrev pub AsksForScript : List (List ℕ) → Type 0
 AsksForScript words = words ≡ codes "script" ∷ []

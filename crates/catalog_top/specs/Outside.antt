@@ -1,8 +1,8 @@
 -- What the outside of a run tells at one moment: its counts, and its bytes where it tells them.
 use Rattle.std.specs.Prelude.{ℕ, List, Option}
 use Rattle.cat_model.specs.declared.request.Draw.{Draw}
-use Rattle.cat_outside.specs.declared.source.Source.{Ghosts as Sources}
-use Rattle.cat_outside.specs.declared.sink.Sink.{Ghosts as Sinks}
+use Rattle.outside.specs.declared.source.Source.{Ghosts as Sources}
+use Rattle.outside.specs.declared.sink.Sink.{Ghosts as Sinks}
 use Rattle.datagram_outside.specs.declared.port.Datagrams.{Ghosts as Ports}
 use Rattle.datagram_outside.specs.Ports.{PortState}
 use Rattle.serve_outside.specs.declared.link.Listener.{Ghosts as Listeners}

@@ -2,8 +2,8 @@
 -- primed, after it.
 use Rattle.std.specs.Prelude.{◌≡◌, ◌⊎◌, ℕ, ◌<◌, ◌≤◌, true, false, List, [], length, Option}
 use Rattle.std.specs.Io.KnownBytes.{Consumes, Appends, IsAtEnd}
-use Rattle.cat_outside.specs.Causes.{Rose}
-use Rattle.script_runs.specs.Plays.{Refused}
+use Rattle.outside.specs.Causes.{Rose}
+use Rattle.run_rules.specs.Plays.{Refused}
 use Rattle.script_player.specs.declared.report.Report.{Report}
 use Rattle.script_player.specs.Script.{Script, script_of}
 use Rattle.script_player.specs.Run.{PartOfRun, RefusedRun, WholeRun, Writes, WritesPart}

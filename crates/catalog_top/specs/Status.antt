@@ -1,10 +1,10 @@
 -- The statuses with which the program ends, and why a run stops by what its parts say.
 use Rattle.std.specs.Prelude.{ℕ, Result, Ok, Err}
-use Rattle.cat_outside.specs.declared.faults.KeepFail.{KeepFail}
-use Rattle.cat_outside.specs.declared.faults.KeepFail.TheVariants as keep_fail
+use Rattle.outside.specs.declared.faults.KeepFail.{KeepFail}
+use Rattle.outside.specs.declared.faults.KeepFail.TheVariants as keep_fail
 use Rattle.script_player.specs.declared.report.Report.{Report}
-use Rattle.server.specs.declared.stop.Stop.{Stop as ServerStop}
-use Rattle.server.specs.declared.stop.Stop.TheVariants as server
+use Rattle.http_front.specs.declared.stop.Stop.{Stop as ServerStop}
+use Rattle.http_front.specs.declared.stop.Stop.TheVariants as server
 use Rattle.catalog_top.specs.declared.input.ReadFail.{ReadFail}
 use Rattle.catalog_top.specs.declared.input.ReadFail.TheVariants as read_fail
 use Rattle.catalog_top.specs.declared.stop.Stop.{Stop}

@@ -4,7 +4,7 @@ ghost use Rattle.std.specs.Prelude.{◌≡◌};
 ghost use Rattle.catalog_top.specs.Status.{status_of as status_number};
 
 use crate::input::ReadFail;
-use cat_outside::KeepFail;
+use outside::KeepFail;
 use script_player::Report;
 use thiserror::Error;
 
@@ -86,19 +86,19 @@ impl From<KeepFail> for Stop {
     }
 }
 
-impl From<server::Stop> for Stop {
+impl From<http_front::Stop> for Stop {
     ghost use Rattle.std.specs.Prelude.{◌≡◌};
     ghost use Rattle.catalog_top.specs.Status.{stop_of_server};
 
     ghost from_gives = { λ why stop. stop ≡ stop_of_server why };
 
-    fn from(why: server::Stop) -> Stop {
+    fn from(why: http_front::Stop) -> Stop {
         match why {
-            server::Stop::Listener => Stop::Listener,
-            server::Stop::Sink => Stop::Sink,
-            server::Stop::Keepers => Stop::Store,
-            server::Stop::Datagrams => Stop::Datagrams,
-            server::Stop::Memory => Stop::Memory,
+            http_front::Stop::Listener => Stop::Listener,
+            http_front::Stop::Sink => Stop::Sink,
+            http_front::Stop::Keepers => Stop::Store,
+            http_front::Stop::Datagrams => Stop::Datagrams,
+            http_front::Stop::Memory => Stop::Memory,
         }
     }
 }

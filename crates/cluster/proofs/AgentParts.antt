@@ -12,7 +12,7 @@ use Rattle.cat_model.specs.declared.request.Event.TheVariants as event
 use Rattle.cat_model.specs.declared.request.Request.TheVariants.{Agent as AsksAgent, Execute, Read, Renew, Write}
 use Rattle.raft_model.specs.Log.{last_term}
 use Rattle.raft_model.specs.World.{World}
-use Rattle.agent_rules.specs.Agents.{Agent, change, ticked}
+use Rattle.cluster_rules.specs.Agents.{Agent, change, ticked}
 use Rattle.cluster_rules.specs.Cluster.{Cluster, Server, node_of, runs_leading, server_of}
 use Rattle.cluster_rules.specs.Due.{answered, is_before, put_out}
 use Rattle.cluster_rules.specs.Proposals as proposals
@@ -23,21 +23,21 @@ use Rattle.cluster_rules.specs.Requests.{Goes, asked_server, is_ready}
 use Rattle.cluster_rules.specs.Step.{marked, noted}
 use Rattle.cluster_rules.proofs.Asking.{goes_leading}
 use Rattle.cluster_rules.proofs.Tools.{length_set_server}
-use Rattle.cluster_turns.specs.AgentEvents.{IsNoted, SyncsAt, SyncsInPart, agent_in, alone, event_of_agent, sync_way}
-use Rattle.cluster_turns.specs.Turns.{IsCome, numbered}
-use Rattle.cluster_turns.specs.declared.agent_event.AgentEvent.{AgentEvent}
-use Rattle.cluster_turns.specs.declared.agent_event.AgentEvent.TheVariants as agents
-use Rattle.cluster_turns.specs.declared.cut.Cut.{Cut}
-use Rattle.cluster_turns.specs.declared.cut.Cut.TheVariants.{Before, Within}
-use Rattle.open_requests.specs.Requests.{Requests, answered_with, cluster_of as whole_of, numbered_with, used}
-use Rattle.cluster_parts.specs.Agents.{agent_at, agents_with, content_told, own_reply}
-use Rattle.cluster_parts.specs.Watching.{Watching}
-use Rattle.cluster_parts.specs.Standing.{Stands}
-use Rattle.cluster_parts.specs.Newest.{answered_newest}
+use Rattle.cluster_order.specs.AgentEvents.{IsNoted, SyncsAt, SyncsInPart, agent_in, alone, event_of_agent, sync_way}
+use Rattle.cluster_order.specs.Turns.{IsCome, numbered}
+use Rattle.cluster_order.specs.declared.agent_event.AgentEvent.{AgentEvent}
+use Rattle.cluster_order.specs.declared.agent_event.AgentEvent.TheVariants as agents
+use Rattle.cluster_order.specs.declared.cut.Cut.{Cut}
+use Rattle.cluster_order.specs.declared.cut.Cut.TheVariants.{Before, Within}
+use Rattle.cluster_requests.specs.Requests.{Requests, answered_with, cluster_of as whole_of, numbered_with, used}
+use Rattle.cluster_works.specs.Agents.{agent_at, agents_with, content_told, own_reply}
+use Rattle.cluster_works.specs.Watching.{Watching}
+use Rattle.cluster_works.specs.Standing.{Stands}
+use Rattle.cluster_works.specs.Newest.{answered_newest}
 use Rattle.cluster.specs.Syncing.{PlansInPart, PlansWhole, cut_first, noted_alone, own_done}
 use Rattle.cluster.proofs.Handled.{Comes, numbered_cluster, numbered_stands}
 use Rattle.cluster.proofs.Results.{stands_alike}
-use Rattle.cluster_parts.proofs.Kept.{answer_stands}
+use Rattle.cluster_works.proofs.Kept.{answer_stands}
 
 -- a call that was no error did what it does then
 pub when_ok : {A B P : Type 0} (r : Result A B) → is_err r ≡ false → OnOk r P → P

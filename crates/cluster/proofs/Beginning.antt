@@ -1,15 +1,15 @@
 -- A cluster that has just begun.
 use Rattle.std.proofs.Common.{◌≡◌, inl, inr, ℕ, zero, suc, ◌<◌, get_or, length, replicate, List, [], ◌∷◌, refl, sym, ap, ◌∙◌, subst, arith}
-use Rattle.cat_outside.specs.declared.faults.KeepFail.TheVariants.{Memory}
+use Rattle.outside.specs.declared.faults.KeepFail.TheVariants.{Memory}
 use Rattle.raft_model.specs.Node.{Store}
 use Rattle.raft_model.specs.World.{World, Begins}
 use Rattle.raft_world.specs.Starting.{AreGivenBack}
 use Rattle.cluster_rules.specs.Cluster.{Server, no_server}
-use Rattle.open_requests.specs.Requests as own
-use Rattle.cluster_servers.proofs.Beginning.{as_many_start}
+use Rattle.cluster_requests.specs.Requests as own
+use Rattle.cluster_replicas.proofs.Beginning.{as_many_start}
 use Rattle.read_watch.specs.Watch.{no_sleeper}
-use Rattle.cluster_parts.specs.Watching.{Watching, nothing_watched}
-use Rattle.cluster_parts.specs.Standing.{Stands}
+use Rattle.cluster_works.specs.Watching.{Watching, nothing_watched}
+use Rattle.cluster_works.specs.Standing.{Stands}
 
 replicated : {A : Type 0} (count : ℕ) (x : A) → length (replicate count x) ≡ count
 replicated zero x = refl

@@ -6,12 +6,12 @@ use Rattle.raft_model.specs.World as world
 use Rattle.raft_model.specs.World.{World, WorldStep}
 use Rattle.cluster_rules.specs.Cluster.{Cluster, Server, node_of}
 use Rattle.cluster_rules.specs.Requests.{entries_past, halts_past, moved}
-use Rattle.cluster_turns.specs.Turns.{Ticks}
-use Rattle.open_requests.specs.Requests.{Requests, cluster_of as whole_of}
-use Rattle.cluster_parts.specs.Standing as standing
-use Rattle.cluster_parts.proofs.Marking.{world_stands}
-use Rattle.agent_rules.specs.Agents.{Agent}
-use Rattle.cluster_parts.specs.Watching.{Watching}
+use Rattle.cluster_order.specs.Turns.{Ticks}
+use Rattle.cluster_requests.specs.Requests.{Requests, cluster_of as whole_of}
+use Rattle.cluster_works.specs.Standing as standing
+use Rattle.cluster_works.proofs.Marking.{world_stands}
+use Rattle.cluster_rules.specs.Agents.{Agent}
+use Rattle.cluster_works.specs.Watching.{Watching}
 
 module _ (gs : List Agent) (wt : Watching) where
   -- the cluster of these parts, with these agents

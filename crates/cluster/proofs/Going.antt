@@ -9,8 +9,8 @@ use Rattle.raft_model.specs.World.{World}
 use Rattle.cluster_rules.specs.Cluster.{Cluster, runs_leading}
 use Rattle.cluster_rules.specs.Requests.{Goes, asked_server, is_stale_read, way, way_of}
 use Rattle.cluster_rules.proofs.Asking.{goes_leading}
-use Rattle.cluster_turns.specs.AgentEvents.{is_for_agent}
-use Rattle.cluster_turns.specs.Turns.{GoesBy}
+use Rattle.cluster_order.specs.AgentEvents.{is_for_agent}
+use Rattle.cluster_order.specs.Turns.{GoesBy}
 
 pub write_leads : (c : Cluster) (agent i : ℕ) (asked : Asked) (command : Command) → asked ≡ Good (Write command) → GoesBy agent asked (Goes i) c → runs_leading c.world i ≡ true
 write_leads c agent i asked command e goes = goes_leading c.world (asked_server (length c.servers) agent) i asked goes (ap is_stale_read e)

@@ -26,20 +26,20 @@ use Rattle.cluster_rules.specs.Replies.{Content, Defers, Question, Renews, Says,
 use Rattle.cluster_rules.specs.Requests.{delayed_at, delays, holding, is_ready, is_stale_read, look_of, refused, renews, unready, reads, wait_of}
 use Rattle.cluster_rules.specs.Sound.{Ascends}
 use Rattle.cluster_rules.proofs.Tools.{each_append, each_map, neither, one_of}
-use Rattle.cluster_turns.specs.Turns.{HandlesNewest, IsCome, newest, numbered}
-use Rattle.open_requests.specs.Past.{IsMadeLast}
-use Rattle.open_requests.specs.Requests.{Requests, answered_with, cluster_of as whole_of, holding_with, numbered_with, used}
-use Rattle.cluster_parts.specs.Standing as standing
-use Rattle.cluster_parts.specs.Standing.{IsAwaited}
-use Rattle.office_rules.specs.Offices.{Office, renew_in}
-use Rattle.cluster_servers.specs.Servers.{Servers, officed}
-use Rattle.cluster_parts.proofs.Acting.{stands_officed}
-use Rattle.cluster_parts.proofs.Kept.{answer_stands}
+use Rattle.cluster_order.specs.Turns.{HandlesNewest, IsCome, newest, numbered}
+use Rattle.cluster_requests.specs.Past.{IsMadeLast}
+use Rattle.cluster_requests.specs.Requests.{Requests, answered_with, cluster_of as whole_of, holding_with, numbered_with, used}
+use Rattle.cluster_works.specs.Standing as standing
+use Rattle.cluster_works.specs.Standing.{IsAwaited}
+use Rattle.cluster_rules.specs.Offices.{Office, renew_in}
+use Rattle.cluster_replicas.specs.Servers.{Servers, officed}
+use Rattle.cluster_works.proofs.Acting.{stands_officed}
+use Rattle.cluster_works.proofs.Kept.{answer_stands}
 use Rattle.cluster.proofs.Notes.{come_made, numbers_by}
 use Rattle.cluster.proofs.Results.{stands_alike, stands_more}
 use Rattle.cluster.proofs.Taken.{delayed_as_asked}
-use Rattle.agent_rules.specs.Agents.{Agent}
-use Rattle.cluster_parts.specs.Watching.{Watching}
+use Rattle.cluster_rules.specs.Agents.{Agent}
+use Rattle.cluster_works.specs.Watching.{Watching}
 
 module _ (gs : List Agent) (wt : Watching) where
   -- the cluster of these parts, with these agents

@@ -5,12 +5,12 @@ use Rattle.cat_model.specs.declared.request.Draw.{Draw}
 use Rattle.cat_model.specs.declared.reply.Mark.{Mark}
 use Rattle.cat_model.specs.declared.reply.Mark.TheVariants as mark
 use Rattle.raft_model.specs.World.{World}
-use Rattle.agent_rules.specs.Agents.{Agent}
+use Rattle.cluster_rules.specs.Agents.{Agent}
 use Rattle.cluster_rules.specs.Cluster.{Server}
-use Rattle.cluster_turns.specs.Turns.{IsCome, in_place, numbered}
-use Rattle.open_requests.specs.Past as own
-use Rattle.open_requests.specs.Past.{IsMadeLast}
-use Rattle.open_requests.specs.Requests.{Requests, cluster_of, numbered_with}
+use Rattle.cluster_order.specs.Turns.{IsCome, in_place, numbered}
+use Rattle.cluster_requests.specs.Past as own
+use Rattle.cluster_requests.specs.Past.{IsMadeLast}
+use Rattle.cluster_requests.specs.Requests.{Requests, cluster_of, numbered_with}
 
 pub come_made : (agent : ℕ) (asked : Asked) (draw : Draw) (past : List Mark) → IsCome agent asked draw past → IsMadeLast past
 come_made agent asked draw [] h = absurd h

@@ -4,10 +4,10 @@ use Rattle.raft_model.specs.World.{World}
 use Rattle.raft_world.specs.Steps.{IsNumber}
 use Rattle.cluster_rules.specs.Cluster.{Cluster, Server}
 use Rattle.cluster_rules.specs.Reached.{IsServerNumber}
-use Rattle.open_requests.specs.Requests.{Requests, cluster_of as whole_of}
-use Rattle.cluster_parts.specs.Standing as standing
-use Rattle.agent_rules.specs.Agents.{Agent}
-use Rattle.cluster_parts.specs.Watching.{Watching}
+use Rattle.cluster_requests.specs.Requests.{Requests, cluster_of as whole_of}
+use Rattle.cluster_works.specs.Standing as standing
+use Rattle.cluster_rules.specs.Agents.{Agent}
+use Rattle.cluster_works.specs.Watching.{Watching}
 
 module _ (gs : List Agent) (wt : Watching) where
   -- the cluster of these parts, with these agents

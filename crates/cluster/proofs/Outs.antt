@@ -5,17 +5,17 @@ use Rattle.std.specs.Prelude.{IfNone, IfSome}
 use Rattle.raft_model.specs.World.{World}
 use Rattle.cluster_rules.specs.Replies.{Out, Replied, Closed, number_of}
 use Rattle.cluster_rules.specs.Cluster.{Cluster, Server}
-use Rattle.script_runs.specs.Plays.{taken}
-use Rattle.open_requests.specs.Past.{taken_past}
-use Rattle.open_requests.specs.Requests.{Requests, cluster_of as whole_of}
-use Rattle.open_requests.specs.Taking as own
-use Rattle.open_requests.specs.declared.collected.Collected.{Collected}
-use Rattle.open_requests.specs.declared.collected.Collected.TheVariants as collected
-use Rattle.cluster_parts.specs.Standing as standing
+use Rattle.run_rules.specs.Plays.{taken}
+use Rattle.cluster_requests.specs.Past.{taken_past}
+use Rattle.cluster_requests.specs.Requests.{Requests, cluster_of as whole_of}
+use Rattle.cluster_requests.specs.Taking as own
+use Rattle.cluster_requests.specs.declared.collected.Collected.{Collected}
+use Rattle.cluster_requests.specs.declared.collected.Collected.TheVariants as collected
+use Rattle.cluster_works.specs.Standing as standing
 use Rattle.cluster_interface.specs.Interface.{TakesFirst}
 use Rattle.cluster_interface.specs.Taking.{Collects, Takes}
-use Rattle.agent_rules.specs.Agents.{Agent}
-use Rattle.cluster_parts.specs.Watching.{Watching}
+use Rattle.cluster_rules.specs.Agents.{Agent}
+use Rattle.cluster_works.specs.Watching.{Watching}
 use Rattle.cluster.proofs.Results.{stands_alike}
 
 module _ (gs : List Agent) (wt : Watching) where

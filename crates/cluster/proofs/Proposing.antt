@@ -27,22 +27,22 @@ use Rattle.cluster_rules.specs.Replies.{Question, Says, entered}
 use Rattle.cluster_rules.specs.Requests.{delayed_at, full, halted_now, holding, is_ready, log_with, moved, proposes, refused, stops}
 use Rattle.cluster_rules.proofs.Boundary.{acts_greatest, acts_server, leader_there, leading_tells}
 use Rattle.cluster_rules.proofs.Tools.{is_node}
-use Rattle.cluster_turns.specs.Turns.{HandlesNewest, IsCome, newest, numbered}
-use Rattle.cluster_servers.specs.Servers.{IsBehind, Servers}
-use Rattle.open_requests.specs.Requests.{Requests, answered_with, cluster_of as whole_of, holding_with, numbered_with, used}
-use Rattle.cluster_parts.specs.declared.writes.Write.{Write}
-use Rattle.cluster_parts.specs.declared.moves.Seen.{Seen}
-use Rattle.cluster_parts.specs.Asking.{EndsWrite, IsCopied, IsTakenWrite}
-use Rattle.cluster_parts.specs.Moving.{MarksStep, seen_of}
-use Rattle.cluster_parts.specs.Standing as standing
-use Rattle.cluster_parts.specs.Standing.{IsAwaited}
-use Rattle.cluster_parts.proofs.Carried.{acts_many}
+use Rattle.cluster_order.specs.Turns.{HandlesNewest, IsCome, newest, numbered}
+use Rattle.cluster_replicas.specs.Servers.{IsBehind, Servers}
+use Rattle.cluster_requests.specs.Requests.{Requests, answered_with, cluster_of as whole_of, holding_with, numbered_with, used}
+use Rattle.cluster_works.specs.declared.writes.Write.{Write}
+use Rattle.cluster_works.specs.declared.moves.Seen.{Seen}
+use Rattle.cluster_works.specs.Asking.{EndsWrite, IsCopied, IsTakenWrite}
+use Rattle.cluster_works.specs.Moving.{MarksStep, seen_of}
+use Rattle.cluster_works.specs.Standing as standing
+use Rattle.cluster_works.specs.Standing.{IsAwaited}
+use Rattle.cluster_works.proofs.Carried.{acts_many}
 use Rattle.cluster.proofs.Handled.{Comes, below_next, hold_stands, holds_as, numbered_cluster, numbered_stands, refusal_stands, refuses_as}
-use Rattle.cluster_parts.proofs.Marking.{cluster_marked, stands_proposed}
+use Rattle.cluster_works.proofs.Marking.{cluster_marked, stands_proposed}
 use Rattle.cluster.proofs.Results.{all_as, stands_alike}
 use Rattle.cluster.proofs.Taken.{is_counted}
-use Rattle.agent_rules.specs.Agents.{Agent}
-use Rattle.cluster_parts.specs.Watching.{Watching}
+use Rattle.cluster_rules.specs.Agents.{Agent}
+use Rattle.cluster_works.specs.Watching.{Watching}
 
 module _ (gs : List Agent) (wt : Watching) where
   -- the cluster of these parts, with these agents

@@ -12,12 +12,12 @@ use Rattle.cluster_rules.specs.Cluster.{Cluster, Server}
 use Rattle.cluster_rules.specs.Replies.{Says, shown}
 use Rattle.cluster_rules.specs.Requests.{refused}
 use Rattle.cluster_rules.specs.Step.{marked}
-use Rattle.cluster_turns.specs.Turns.{newest}
-use Rattle.open_requests.specs.Requests.{Requests, answered_with, came_with, cluster_of as whole_of}
-use Rattle.cluster_parts.specs.Standing as standing
-use Rattle.cluster_parts.proofs.Kept.{answer_stands, call_stands}
-use Rattle.agent_rules.specs.Agents.{Agent}
-use Rattle.cluster_parts.specs.Watching.{Watching}
+use Rattle.cluster_order.specs.Turns.{newest}
+use Rattle.cluster_requests.specs.Requests.{Requests, answered_with, came_with, cluster_of as whole_of}
+use Rattle.cluster_works.specs.Standing as standing
+use Rattle.cluster_works.proofs.Kept.{answer_stands, call_stands}
+use Rattle.cluster_rules.specs.Agents.{Agent}
+use Rattle.cluster_works.specs.Watching.{Watching}
 use Rattle.cluster.proofs.Results.{stands_more}
 
 module _ (gs : List Agent) (wt : Watching) where

@@ -1,17 +1,17 @@
 -- What follows from a call that may lack memory, and from one that is told of a cluster's parts.
 use Rattle.std.proofs.Common.{◌≡◌, ◌≤◌, ℕ, List, Result, Ok, Err, OnOk, OnErr, sym, subst, arith}
 use Rattle.std.specs.List.{AllByRecursion as Each}
-use Rattle.agent_rules.specs.Agents.{Agent}
+use Rattle.cluster_rules.specs.Agents.{Agent}
 use Rattle.cat_model.specs.declared.request.Event.{Event}
 use Rattle.raft_model.specs.World.{World}
 use Rattle.cluster_rules.specs.Cluster.{Cluster, Server}
 use Rattle.cluster_rules.specs.Sound.{Ascends}
-use Rattle.cluster_turns.specs.declared.cut.Cut.{Cut}
-use Rattle.open_requests.specs.Requests.{Requests}
-use Rattle.cluster_parts.specs.Acting.{Acted}
-use Rattle.cluster_parts.specs.Standing.{IsHeld, Stands}
-use Rattle.cluster_parts.specs.Watching.{Watching}
-use Rattle.cluster_parts.proofs.Carried.{all_more}
+use Rattle.cluster_order.specs.declared.cut.Cut.{Cut}
+use Rattle.cluster_requests.specs.Requests.{Requests}
+use Rattle.cluster_works.specs.Acting.{Acted}
+use Rattle.cluster_works.specs.Standing.{IsHeld, Stands}
+use Rattle.cluster_works.specs.Watching.{Watching}
+use Rattle.cluster_works.proofs.Carried.{all_more}
 
 -- what follows where it was done
 pub ok_then : {A B P Q : Type 0} (r : Result A B) → (P → Q) → OnOk r P → OnOk r Q

@@ -17,19 +17,19 @@ use Rattle.cluster_rules.specs.Replies.{Question}
 use Rattle.cluster_rules.specs.Requests.{halted_now, holding, is_ready, is_stale_read, moved, probes}
 use Rattle.cluster_rules.proofs.Boundary.{acts_greatest}
 use Rattle.cluster_rules.proofs.Tools.{is_node, one_of}
-use Rattle.cluster_turns.specs.Turns.{HandlesNewest, IsCome, newest, numbered}
-use Rattle.cluster_servers.specs.Servers.{Servers}
-use Rattle.open_requests.specs.Requests.{Requests, cluster_of as whole_of, holding_with, numbered_with, used}
-use Rattle.cluster_parts.specs.declared.moves.Seen.{Seen}
-use Rattle.cluster_parts.specs.Asking.{EndsProbe, IsNewRead}
-use Rattle.cluster_parts.specs.Moving.{MarksStep, seen_of}
-use Rattle.cluster_parts.specs.Standing as standing
-use Rattle.cluster_parts.proofs.Carried.{acts_many}
+use Rattle.cluster_order.specs.Turns.{HandlesNewest, IsCome, newest, numbered}
+use Rattle.cluster_replicas.specs.Servers.{Servers}
+use Rattle.cluster_requests.specs.Requests.{Requests, cluster_of as whole_of, holding_with, numbered_with, used}
+use Rattle.cluster_works.specs.declared.moves.Seen.{Seen}
+use Rattle.cluster_works.specs.Asking.{EndsProbe, IsNewRead}
+use Rattle.cluster_works.specs.Moving.{MarksStep, seen_of}
+use Rattle.cluster_works.specs.Standing as standing
+use Rattle.cluster_works.proofs.Carried.{acts_many}
 use Rattle.cluster.proofs.Handled.{Comes, below_next, hold_stands, holds_as, numbered_cluster, numbered_stands}
-use Rattle.cluster_parts.proofs.Marking.{cluster_marked, stands_proposed}
+use Rattle.cluster_works.proofs.Marking.{cluster_marked, stands_proposed}
 use Rattle.cluster.proofs.Results.{all_as, stands_alike}
-use Rattle.agent_rules.specs.Agents.{Agent}
-use Rattle.cluster_parts.specs.Watching.{Watching}
+use Rattle.cluster_rules.specs.Agents.{Agent}
+use Rattle.cluster_works.specs.Watching.{Watching}
 
 module _ (gs : List Agent) (wt : Watching) where
   -- the cluster of these parts, with these agents

@@ -3,9 +3,9 @@ use Rattle.std.proofs.Common.{◌≡◌, inl, inr, ℕ, ◌<◌, ◌≤◌, leng
 use Rattle.std.specs.Prelude.{All, IfErr, IfOk}
 use Rattle.std.proofs.lemmas.List.{length-map, length-replicate}
 use Rattle.std.proofs.lemmas.List.Elements.{All-head, All-tail}
-use Rattle.agent_rules.specs.Agents.{new_agent}
-use Rattle.cat_outside.specs.declared.faults.KeepFail.{KeepFail}
-use Rattle.cat_outside.specs.declared.faults.KeepFail.TheVariants.{Failed}
+use Rattle.cluster_rules.specs.Agents.{new_agent}
+use Rattle.outside.specs.declared.faults.KeepFail.{KeepFail}
+use Rattle.outside.specs.declared.faults.KeepFail.TheVariants.{Failed}
 use Rattle.raft_model.specs.Node.{Store}
 use Rattle.raft_node.specs.Steps.{FailsToLoad}
 use Rattle.raft_world.specs.Starting.{AreGivenBack}

@@ -8,7 +8,7 @@ use Rattle.raft_model.specs.World.{World}
 use Rattle.cat_model.specs.declared.fired.Local.{Local}
 use Rattle.cat_model.specs.declared.fired.Remote.{Remote}
 use Rattle.cat_model.specs.declared.row.NodeRow.{NodeRow}
-use Rattle.agent_rules.specs.Agents.{Agent, agent_node, local_of}
+use Rattle.cluster_rules.specs.Agents.{Agent, agent_node, local_of}
 use Rattle.agent_state.specs.Own.{AreOwn}
 use Rattle.agent_state.specs.declared.looks.OwnParts.{OwnParts}
 use Rattle.node_rows.specs.Tags.{all_tagged}
@@ -20,10 +20,10 @@ use Rattle.cluster_rules.specs.Proposals.{Proposals, none_left, breaks, enters, 
 use Rattle.cluster_rules.specs.Reached.{IsAgentNumber}
 use Rattle.cluster_rules.specs.Replies.{Out, Synced}
 use Rattle.cluster_rules.specs.Requests.{moved}
-use Rattle.open_requests.specs.Requests.{Requests, cluster_of as whole_of, told_sync}
-use Rattle.cluster_parts.specs.Watching.{Watching}
-use Rattle.cluster_parts.specs.Agents.{agent_at}
-use Rattle.cluster_parts.specs.Standing.{Stands}
+use Rattle.cluster_requests.specs.Requests.{Requests, cluster_of as whole_of, told_sync}
+use Rattle.cluster_works.specs.Watching.{Watching}
+use Rattle.cluster_works.specs.Agents.{agent_at}
+use Rattle.cluster_works.specs.Standing.{Stands}
 use Rattle.cluster.specs.Syncing.{IsPlan, PlansWhole, retagged}
 use Rattle.cluster.proofs.Results.{stands_alike}
 

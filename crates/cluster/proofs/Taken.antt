@@ -4,7 +4,7 @@ use Rattle.cat_model.specs.declared.command.Command.{Command}
 use Rattle.cat_model.specs.declared.command.Command.TheVariants.{Noop, KvLock, Txn, QuerySet}
 use Rattle.cat_model.specs.LogLimits.{is_noop}
 use Rattle.cat_model.specs.Taken.{is_command_taken}
-use Rattle.office_rules.specs.Locks.{delayed}
+use Rattle.cluster_rules.specs.Locks.{delayed}
 use Rattle.cluster_rules.specs.Replies.{Question, entered}
 
 -- A write that is taken has a size as it is entered.

@@ -6,20 +6,20 @@ use Rattle.cat_model.specs.declared.command.Command.{Command}
 use Rattle.cat_model.specs.declared.command.Command.TheVariants.{Reap}
 use Rattle.cat_model.specs.declared.row.SessionRow.{SessionRow}
 use Rattle.raft_model.specs.Node.{set_server}
-use Rattle.office_rules.specs.Offices.{Office, ended_too, looks_on}
+use Rattle.cluster_rules.specs.Offices.{Office, ended_too, looks_on}
 use Rattle.cluster_rules.specs.Cluster.{Cluster, Server, clock_of, no_server, office_of, runs_leading, server_of, with_office}
 use Rattle.cluster_rules.specs.Proposals.{Proposals, none_left, breaks, enters, refuses, Tends, in_turn, cut_off, ends_of, looked, over_rows, reaps_of}
 use Rattle.cluster_rules.specs.Reached.{IsServerNumber}
 use Rattle.cluster_rules.specs.Requests.{moved}
 use Rattle.cluster_rules.proofs.Tools.{item_same, length_set_server}
-use Rattle.agent_rules.specs.Agents.{Agent}
-use Rattle.cluster_servers.specs.Servers.{Servers, officed}
-use Rattle.open_requests.specs.Requests.{Requests, cluster_of}
+use Rattle.cluster_rules.specs.Agents.{Agent}
+use Rattle.cluster_replicas.specs.Servers.{Servers, officed}
+use Rattle.cluster_requests.specs.Requests.{Requests, cluster_of}
 use Rattle.session_ttl.specs.Endings.{ending_of}
 use Rattle.session_ttl.specs.declared.ends.Ending.{Ending}
-use Rattle.cluster_turns.specs.Turns.{TendsInPart}
+use Rattle.cluster_order.specs.Turns.{TendsInPart}
 use Rattle.cluster.specs.Tending.{EndsProposed, ReapsProposed, is_reap_due}
-use Rattle.cluster_parts.specs.Ending.{end_command}
+use Rattle.cluster_works.specs.Ending.{end_command}
 
 -- a server in its own place
 own_set : (servers : List Server) (i : ℕ) → set_server servers i (server_of servers i) ≡ servers

@@ -4,14 +4,14 @@ use Rattle.cat_model.specs.declared.request.Event.{Event}
 use Rattle.cat_model.specs.Syncs.{plan}
 use Rattle.node_rows.specs.Tags.{all_tagged}
 use Rattle.node_rows.specs.declared.tags.Retag.{Retag}
-use Rattle.agent_rules.specs.Agents.{Agent}
+use Rattle.cluster_rules.specs.Agents.{Agent}
 use Rattle.anti_entropy.specs.declared.plan.RowPlan.{RowPlan}
 use Rattle.cluster_rules.specs.Cluster.{Cluster, agent_of}
 use Rattle.cluster_rules.specs.Proposals.{Proposals, adopted, agent_did, did_own, merged_at, remote_at, synced}
-use Rattle.cluster_turns.specs.AgentEvents.{agent_in, event_of_agent, with_number}
-use Rattle.cluster_turns.specs.declared.agent_event.AgentEvent.{AgentEvent}
-use Rattle.cluster_turns.specs.declared.cut.Cut.{Cut}
-use Rattle.cluster_turns.specs.declared.cut.Cut.TheVariants.{Before, Within}
+use Rattle.cluster_order.specs.AgentEvents.{agent_in, event_of_agent, with_number}
+use Rattle.cluster_order.specs.declared.agent_event.AgentEvent.{AgentEvent}
+use Rattle.cluster_order.specs.declared.cut.Cut.{Cut}
+use Rattle.cluster_order.specs.declared.cut.Cut.TheVariants.{Before, Within}
 
 -- The agent does its own part, once a request has its number.
 abbrev pub own_done : Event → Cluster → Cluster

@@ -1,7 +1,7 @@
 -- What is due by the clock of a server that leads.
 use Rattle.std.specs.Prelude.{◌≡◌, ℕ, nat_le, ◌&&◌, Bool, take}
 use Rattle.cat_model.specs.Log.{commands_of}
-use Rattle.office_rules.specs.Offices.{has_removed}
+use Rattle.cluster_rules.specs.Offices.{has_removed}
 use Rattle.cluster_rules.specs.Cluster.{Cluster, applied_of, clock_of, office_of}
 use Rattle.cluster_rules.specs.Proposals.{Proposals, ends_of, looked, over_rows, reaps_of, with_ends}
 

@@ -5,12 +5,12 @@ ghost use Rattle.cat_model.specs.declared.request.Event.TheVariants as event;
 ghost use Rattle.raft_model.specs.World.{numbered};
 ghost use Rattle.cluster_rules.specs.Reached.{IsServerNumber};
 ghost use Rattle.cluster_rules.specs.Step.{receiver};
-ghost use Rattle.cluster_turns.specs.Turns.{ActsCut, ActsWhole};
+ghost use Rattle.cluster_order.specs.Turns.{ActsCut, ActsWhole};
 
 use crate::cluster::Cluster;
-use cat_outside::Keeper;
-use cluster_parts::{beat, deliver, fail_keep, restart, time_out, wake_held};
-use cluster_turns::Cut;
+use cluster_order::Cut;
+use cluster_works::{beat, deliver, fail_keep, restart, time_out, wake_held};
+use outside::Keeper;
 use std::alloc::Global;
 
 impl<K: Keeper + Drop> Cluster<K> {

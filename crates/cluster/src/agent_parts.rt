@@ -8,15 +8,15 @@ ghost use Rattle.cat_model.specs.declared.request.Request.TheVariants.{Agent as 
 ghost use Rattle.cluster_rules.specs.Cluster.{Cluster as SpecCluster};
 ghost use Rattle.cluster_rules.specs.Proposals.{agent_did, is_agents, sync_of, synced};
 ghost use Rattle.cluster_rules.specs.Reached.{Fits, IsAgentNumber};
-ghost use Rattle.cluster_turns.specs.AgentEvents.{IsNoted, event_of_agent};
-ghost use Rattle.cluster_turns.specs.Turns.{IsCome, numbered};
+ghost use Rattle.cluster_order.specs.AgentEvents.{IsNoted, event_of_agent};
+ghost use Rattle.cluster_order.specs.Turns.{IsCome, numbered};
 ghost use Rattle.cluster.specs.Syncing.{own_done};
 
 use crate::cluster::Cluster;
 use cat_model::{AgentOp, Asked, Draw, Memory, Request};
-use cat_outside::Keeper;
-use cluster_parts::{answer_own, changes};
-use cluster_turns::AgentEvent;
+use cluster_order::AgentEvent;
+use cluster_works::{answer_own, changes};
+use outside::Keeper;
 use std::alloc::Global;
 use std::ops::Deref;
 

@@ -3,10 +3,10 @@
 ghost use Rattle.std.specs.Prelude.{◌≡◌, length};
 
 use cat_model::Entry;
-use cat_outside::Keeper;
-use cluster_parts::{Agents, Watching};
-use cluster_servers::Servers;
-use open_requests::Requests;
+use cluster_replicas::Servers;
+use cluster_requests::Requests;
+use cluster_works::{Agents, Watching};
+use outside::Keeper;
 use std::marker::Model;
 
 /// A cluster of servers and of agents, each numbered from 1, and the requests that the agents were asked, numbered from
@@ -21,8 +21,8 @@ pub struct Cluster<K: Keeper> {
 
 impl<K: Keeper> Model for Cluster<K> {
     ghost use Rattle.cluster_rules.specs.Cluster as rules;
-    ghost use Rattle.open_requests.specs.Requests.{cluster_of};
-    ghost use Rattle.cluster_parts.specs.Standing.{Stands};
+    ghost use Rattle.cluster_requests.specs.Requests.{cluster_of};
+    ghost use Rattle.cluster_works.specs.Standing.{Stands};
 
     ghost Value = { rules.Cluster };
 

@@ -7,12 +7,12 @@ ghost use Rattle.cat_model.specs.declared.request.Request.TheVariants.{Write as 
 ghost use Rattle.cluster_rules.specs.Cluster.{until_at};
 ghost use Rattle.cluster_rules.specs.Reached.{IsServerNumber};
 ghost use Rattle.cluster_rules.specs.Requests.{delayed_at, is_ready};
-ghost use Rattle.cluster_turns.specs.Turns.{HandlesNewest, IsCome};
+ghost use Rattle.cluster_order.specs.Turns.{HandlesNewest, IsCome};
 
 use crate::cluster::Cluster;
 use cat_model::{Asked, Command, Draw, Memory, Shared};
-use cat_outside::Keeper;
-use cluster_parts::{answer_newest, deferred};
+use cluster_works::{answer_newest, deferred};
+use outside::Keeper;
 use std::alloc::Global;
 
 impl<K: Keeper + Drop> Cluster<K> {

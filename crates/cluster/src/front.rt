@@ -8,10 +8,10 @@ ghost use Rattle.cluster_interface.specs.Starting.{HasFailed, KeepsLimits, store
 use crate::cluster::Cluster;
 use crate::uncounted;
 use cat_model::{Asked, Draw, Entry, Event, List, Memory, Shared};
-use cat_outside::{KeepFail, Keeper};
 use cluster_interface::ClusterInterface;
-use open_requests::{Collected, Out};
-use script_runs::Misfit;
+use cluster_requests::{Collected, Out};
+use outside::{KeepFail, Keeper};
+use run_rules::Misfit;
 use std::alloc::Global;
 use std::marker::Brand;
 use std::sync::ledger::Blank;

@@ -10,17 +10,17 @@ ghost use Rattle.cat_model.specs.Taken.{IsTakenAsked};
 ghost use Rattle.cluster_rules.specs.Cluster.{runs_leading};
 ghost use Rattle.cluster_rules.specs.Reached.{IsServerNumber};
 ghost use Rattle.cluster_rules.specs.Requests.{delayed_at, is_ready, is_stale_read, look_of};
-ghost use Rattle.cluster_turns.specs.Turns.{HandlesNewest, IsCome};
-ghost use Rattle.cluster_parts.specs.Asking.{IsCopied, IsTakenWrite};
+ghost use Rattle.cluster_order.specs.Turns.{HandlesNewest, IsCome};
+ghost use Rattle.cluster_works.specs.Asking.{IsCopied, IsTakenWrite};
 
 use crate::cluster::Cluster;
 use cat_model::{Asked, Command, Draw, Memory, Mode, Shared};
-use cat_outside::Keeper;
-use cluster_parts::{
+use cluster_requests::Plain;
+use cluster_works::{
     Write, copied_question, end_write, hold_newest, is_stale_read, refuse_newest, see, wait_of,
     with_question,
 };
-use open_requests::Plain;
+use outside::Keeper;
 use std::alloc::Global;
 
 impl<K: Keeper + Drop> Cluster<K> {

@@ -6,7 +6,7 @@ ghost use Rattle.cluster_rules.specs.Cluster.{Cluster as SpecCluster};
 ghost use Rattle.cluster_rules.specs.Step.{noted};
 
 use crate::cluster::Cluster;
-use cat_outside::Keeper;
+use outside::Keeper;
 
 impl<K: Keeper> Cluster<K> {
     /// Takes the mark of an event back that has changed nothing.

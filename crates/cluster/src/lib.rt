@@ -17,18 +17,18 @@
 //! is not over; a renewal begins the session's TTL anew in the leader's office; in the second act of a tick a
 //! leading server proposes the ends of just the sessions that are over, in their order, and then a reap where one
 //! is due; an agent does its own part, and its sync proposes its plan in order. Carried by: clauses of `Cluster`,
-//! which is `Parts` of `cluster_turns` and a `ClusterInterface`.
+//! which is `Parts` of `cluster_order` and a `ClusterInterface`.
 #![tactic(auto)]
 
 mod acts;
 mod agent_parts;
 mod cluster;
 mod delays;
-mod misfits;
+mod front;
 mod handlers;
 mod idle_events;
+mod misfits;
 mod parts;
-mod front;
 mod probes;
 mod proposals;
 mod remote_rows;

@@ -1,21 +1,21 @@
 //! Whether an event fits.
 
 ghost use Rattle.std.specs.Prelude.{◌≡◌, None, Some, MatchResult};
-ghost use Rattle.script_runs.specs.Lines.{agent_misfit, clock_misfit, message_misfit, misfit, server_misfit};
+ghost use Rattle.run_rules.specs.Lines.{agent_misfit, clock_misfit, message_misfit, misfit, server_misfit};
 ghost use Rattle.cluster.specs.Fitting.{time_misfit};
 ghost use Rattle.cluster_rules.specs.Reached.{IsServerNumber};
 
 use crate::cluster::Cluster;
 use cat_model::Event;
-use cat_outside::Keeper;
-use script_runs::Misfit;
+use outside::Keeper;
+use run_rules::Misfit;
 
 // The most milliseconds of a clock.
 const MOST_MS: u64 = 9_007_199_254_740_992;
 
 impl<K: Keeper> Cluster<K> {
     /// Whether the event fits: what it names is there, and no clock passes 2^53 milliseconds.
-    #[tactic(auto, unfolding(script_runs::specs::Lines::misfit))]
+    #[tactic(auto, unfolding(run_rules::specs::Lines::misfit))]
     pub fn fits(&self, event: &Event) -> Result<(), Misfit>
         ensures { MatchResult result (λ _. misfit self.now event.now ≡ None) (λ why. misfit self.now event.now ≡ Some why) }
     {

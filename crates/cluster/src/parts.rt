@@ -2,9 +2,9 @@
 
 use crate::cluster::Cluster;
 use cat_model::{Asked, Draw, Event, Memory, Refusal, Request, Shared, Steps};
-use cat_outside::Keeper;
-use cluster_parts::{asked_server, copy_refusal, is_stale_read, way_from};
-use cluster_turns::{AgentEvent, Cut, Impulse, Parts, Way};
+use cluster_order::{AgentEvent, Cut, Impulse, Parts, Way};
+use cluster_works::{asked_server, copy_refusal, is_stale_read, way_from};
+use outside::Keeper;
 use std::alloc::Global;
 use std::ops::Deref;
 use std::sync::ledger::Ledger;

@@ -6,14 +6,14 @@ ghost use Rattle.cat_model.specs.Taken.{IsTakenAsked};
 ghost use Rattle.cluster_rules.specs.Cluster.{node_of};
 ghost use Rattle.cluster_rules.specs.Reached.{IsServerNumber};
 ghost use Rattle.cluster_rules.specs.Requests.{is_ready, is_stale_read, look_of};
-ghost use Rattle.cluster_turns.specs.Turns.{HandlesNewest, IsCome};
-ghost use Rattle.cluster_parts.specs.Asking.{IsNewRead};
+ghost use Rattle.cluster_order.specs.Turns.{HandlesNewest, IsCome};
+ghost use Rattle.cluster_works.specs.Asking.{IsNewRead};
 
 use crate::cluster::Cluster;
 use cat_model::{Asked, Draw, Memory, Shared};
-use cat_outside::Keeper;
-use cluster_parts::{copied_question, end_probe, see, wait_of};
-use open_requests::Question;
+use cluster_requests::Question;
+use cluster_works::{copied_question, end_probe, see, wait_of};
+use outside::Keeper;
 use std::alloc::Global;
 
 impl<K: Keeper + Drop> Cluster<K> {

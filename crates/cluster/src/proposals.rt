@@ -7,8 +7,8 @@ ghost use Rattle.cluster_rules.specs.Reached.{IsServerNumber};
 
 use crate::cluster::Cluster;
 use cat_model::Command;
-use cat_outside::Keeper;
-use cluster_parts::{Proposed, propose_all};
+use cluster_works::{Proposed, propose_all};
+use outside::Keeper;
 use std::alloc::Global;
 
 impl<K: Keeper + Drop> Cluster<K> {

@@ -1,14 +1,14 @@
 //! The catalog's rows of an agent's node.
 
 ghost use Rattle.std.specs.Prelude.{◌≡◌, ℕ, IfOk};
-ghost use Rattle.agent_rules.specs.Agents.{agent_node};
+ghost use Rattle.cluster_rules.specs.Agents.{agent_node};
 ghost use Rattle.cluster_rules.specs.Proposals.{remote_at};
 ghost use Rattle.cluster_rules.specs.Reached.{IsServerNumber};
 
 use crate::cluster::Cluster;
 use cat_model::Memory;
-use cat_outside::Keeper;
 use node_rows::CatalogRows;
+use outside::Keeper;
 use std::alloc::Global;
 
 impl<K: Keeper> Cluster<K> {

@@ -5,12 +5,12 @@ ghost use Rattle.cat_model.specs.declared.request.Asked.TheVariants.{Good};
 ghost use Rattle.cat_model.specs.declared.request.Request.TheVariants.{Renew as Renews};
 ghost use Rattle.cluster_rules.specs.Reached.{IsServerNumber};
 ghost use Rattle.cluster_rules.specs.Requests.{is_ready};
-ghost use Rattle.cluster_turns.specs.Turns.{HandlesNewest, IsCome};
+ghost use Rattle.cluster_order.specs.Turns.{HandlesNewest, IsCome};
 
 use crate::cluster::Cluster;
 use cat_model::{Asked, Draw, Memory};
-use cat_outside::Keeper;
-use cluster_parts::renew_newest;
+use cluster_works::renew_newest;
+use outside::Keeper;
 
 impl<K: Keeper + Drop> Cluster<K> {
     /// Renews a session, if it is there, so that its TTL begins anew, and answers with its row.

@@ -5,16 +5,16 @@ ghost use Rattle.std.specs.Option.{ForSome};
 ghost use Rattle.raft_node.specs.Nodes.{KeepsLimits};
 ghost use Rattle.raft_node.specs.Steps.{stored};
 ghost use Rattle.raft_world.specs.Starting.{AreGivenBack};
-ghost use Rattle.agent_rules.specs.Agents.{new_agent};
+ghost use Rattle.cluster_rules.specs.Agents.{new_agent};
 ghost use Rattle.cluster.specs.Beginning.{HasBegun};
-ghost use Rattle.cluster_parts.specs.Watching.{nothing_watched};
+ghost use Rattle.cluster_works.specs.Watching.{nothing_watched};
 
 use crate::cluster::Cluster;
 use cat_model::{List, Memory};
-use cat_outside::{KeepFail, Keeper};
-use cluster_parts::{Agents, Watching};
-use cluster_servers::Servers;
-use open_requests::Requests;
+use cluster_replicas::Servers;
+use cluster_requests::Requests;
+use cluster_works::{Agents, Watching};
+use outside::{KeepFail, Keeper};
 use std::alloc::Global;
 
 impl<K: Keeper + Drop> Cluster<K> {

@@ -4,15 +4,15 @@ ghost use Rattle.std.specs.Prelude.{◌≡◌, None, IfOk, OnErr, OnOk, true};
 ghost use Rattle.cat_model.specs.declared.request.Event.TheVariants as event;
 ghost use Rattle.cluster_rules.specs.Reached.{IsAgentNumber};
 ghost use Rattle.cluster_rules.specs.Step.{ClusterStep};
-ghost use Rattle.cluster_turns.specs.Evaluations.{EvaluatesFor, EvaluatesIn, lacking};
-ghost use Rattle.cluster_turns.specs.Pairs.{IsPartlySettled, IsSettled};
-ghost use Rattle.cluster_turns.specs.Turns.{FindsNoMemory, IsTaken};
-ghost use Rattle.script_runs.specs.Lines.{misfit};
+ghost use Rattle.cluster_order.specs.Evaluations.{EvaluatesFor, EvaluatesIn, lacking};
+ghost use Rattle.cluster_order.specs.Pairs.{IsPartlySettled, IsSettled};
+ghost use Rattle.cluster_order.specs.Turns.{FindsNoMemory, IsTaken};
+ghost use Rattle.run_rules.specs.Lines.{misfit};
 ghost use Rattle.cat_model.specs.Taken.{IsTakenAsked};
 
 use crate::cluster::Cluster;
 use cat_model::{Asked, Draw, Event, Memory, Shared, Steps};
-use cat_outside::Keeper;
+use outside::Keeper;
 use std::alloc::Global;
 use std::sync::ledger::Ledger;
 
@@ -36,7 +36,7 @@ impl<K: Keeper + Drop> Cluster<K> {
         ensures cut { OnErr result (FindsNoMemory event.now self.old self.new) }
         ensures counted { EvaluatesFor event.now result steps.old steps.new self.old self.new }
     {
-        cluster_turns::make(self, alloc, event, steps)
+        cluster_order::make(self, alloc, event, steps)
     }
 
     /// Asks an agent, and gives the request's number.
@@ -55,7 +55,7 @@ impl<K: Keeper + Drop> Cluster<K> {
         ensures cut { OnErr result (FindsNoMemory (event.Ask agent asked.now draw) self.old self.new) }
         ensures counted { EvaluatesFor (event.Ask agent asked.now draw) result steps.old steps.new self.old self.new }
     {
-        cluster_turns::ask(self, alloc, agent, asked, draw, steps)
+        cluster_order::ask(self, alloc, agent, asked, draw, steps)
     }
 
     /// Delivers the message with the lowest number and loses it, again and again, at most so often. Gives how often. It
@@ -70,6 +70,6 @@ impl<K: Keeper + Drop> Cluster<K> {
         ensures cut { OnErr result (IsPartlySettled most self.old self.new) }
         ensures counted { EvaluatesIn (lacking result) steps.old steps.new self.old self.new }
     {
-        cluster_turns::settle(self, alloc, most, steps)
+        cluster_order::settle(self, alloc, most, steps)
     }
 }

@@ -7,16 +7,16 @@ ghost use Rattle.cluster_rules.specs.Proposals.{is_agents, synced, with_agent};
 ghost use Rattle.cluster_rules.specs.Reached.{Fits, IsAgentNumber, IsServerNumber};
 ghost use Rattle.cluster_rules.specs.Requests.{is_ready};
 ghost use Rattle.cluster_rules.specs.Step.{noted};
-ghost use Rattle.cluster_turns.specs.AgentEvents.{IsNoted, SyncsAt, SyncsInPart, SyncsThere, agent_in, event_of_agent};
+ghost use Rattle.cluster_order.specs.AgentEvents.{IsNoted, SyncsAt, SyncsInPart, SyncsThere, agent_in, event_of_agent};
 ghost use Rattle.cluster.specs.Syncing.{IsPlan, PlansInPart, PlansWhole, cut_first, noted_alone, own_done, retagged};
 
 use crate::cluster::Cluster;
 use agent_state::OwnParts;
 use anti_entropy::{RowPlan, plan_rows};
 use cat_model::{Asked, Event, Memory, Request};
-use cat_outside::Keeper;
-use cluster_turns::{AgentEvent, Cut};
+use cluster_order::{AgentEvent, Cut};
 use node_rows::Retag;
+use outside::Keeper;
 use std::alloc::Global;
 use std::ops::Deref;
 

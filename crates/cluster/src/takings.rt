@@ -6,13 +6,13 @@ ghost use Rattle.cluster_rules.specs.Reached.{IsServerNumber};
 ghost use Rattle.cluster_rules.specs.Step.{events_in};
 ghost use Rattle.cluster_interface.specs.Interface.{TakesFirst};
 ghost use Rattle.cluster_interface.specs.Taking.{Collects, DropsSyncs};
-ghost use Rattle.open_requests.specs.Taking.{IsNumberAt};
+ghost use Rattle.cluster_requests.specs.Taking.{IsNumberAt};
 
 use crate::cluster::Cluster;
 use cat_model::{Entry, List, Memory};
-use cat_outside::Keeper;
-use cluster_parts::copy_entries;
-use open_requests::{Collected, Out};
+use cluster_requests::{Collected, Out};
+use cluster_works::copy_entries;
+use outside::Keeper;
 use std::alloc::Global;
 
 impl<K: Keeper> Cluster<K> {

@@ -7,12 +7,12 @@ ghost use Rattle.cluster_rules.specs.Proposals.{Proposals, looked, over_rows};
 ghost use Rattle.cluster_rules.specs.Reached.{IsServerNumber};
 ghost use Rattle.session_ttl.specs.Endings.{ending_of};
 ghost use Rattle.cluster.specs.Tending.{EndsProposed, ReapsProposed, is_reap_due};
-ghost use Rattle.cluster_parts.specs.Ending.{end_command};
+ghost use Rattle.cluster_works.specs.Ending.{end_command};
 
 use crate::cluster::Cluster;
 use cat_model::{Command, Memory};
-use cat_outside::Keeper;
-use cluster_parts::{Proposed, ends_of, runs_leading};
+use cluster_works::{Proposed, ends_of, runs_leading};
+use outside::Keeper;
 use session_ttl::Ending;
 use std::alloc::Global;
 

@@ -4,13 +4,13 @@ ghost use Rattle.std.specs.Prelude.{◌≡◌, ◌≢◌, ◌<◌, None, true, I
 ghost use Rattle.cluster_rules.specs.Due.{due};
 ghost use Rattle.cluster_rules.specs.Left.{left};
 ghost use Rattle.cluster_rules.specs.Reached.{IsServerNumber};
-ghost use Rattle.cluster_turns.specs.Evaluations.{EvaluatesIn, lacking};
-ghost use Rattle.cluster_turns.specs.Turns.{Turned};
+ghost use Rattle.cluster_order.specs.Evaluations.{EvaluatesIn, lacking};
+ghost use Rattle.cluster_order.specs.Turns.{Turned};
 
 use crate::cluster::Cluster;
 use cat_model::{Memory, Steps};
-use cat_outside::Keeper;
-use cluster_parts::turn;
+use cluster_works::turn;
+use outside::Keeper;
 use std::alloc::Global;
 use std::sync::ledger::Ledger;
 

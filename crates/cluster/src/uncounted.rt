@@ -4,14 +4,14 @@ ghost use Rattle.std.specs.Prelude.{◌≡◌, ◌<◌, None, IfOk, OnErr, OnOk,
 ghost use Rattle.cat_model.specs.declared.request.Event.TheVariants as event;
 ghost use Rattle.cluster_rules.specs.Reached.{IsAgentNumber};
 ghost use Rattle.cluster_rules.specs.Step.{ClusterStep};
-ghost use Rattle.cluster_turns.specs.Pairs.{IsPartlySettled, IsSettled};
-ghost use Rattle.cluster_turns.specs.Turns.{FindsNoMemory, IsTaken};
-ghost use Rattle.script_runs.specs.Lines.{misfit};
+ghost use Rattle.cluster_order.specs.Pairs.{IsPartlySettled, IsSettled};
+ghost use Rattle.cluster_order.specs.Turns.{FindsNoMemory, IsTaken};
+ghost use Rattle.run_rules.specs.Lines.{misfit};
 ghost use Rattle.cat_model.specs.Taken.{IsTakenAsked};
 
 use crate::cluster::Cluster;
 use cat_model::{Asked, Draw, Event, Memory, Shared, Steps};
-use cat_outside::Keeper;
+use outside::Keeper;
 use std::alloc::Global;
 use std::sync::ledger::{Blank, Ledger};
 

@@ -6,7 +6,7 @@ use Rattle.cat_model.specs.Taken.{IsTakenAsked}
 use Rattle.cluster_rules.specs.Replies.{Out, number_of}
 use Rattle.cluster_rules.specs.Cluster.{Cluster}
 use Rattle.cluster_rules.specs.Reached.{Settling}
-use Rattle.script_runs.specs.Plays.{taken, settled}
+use Rattle.run_rules.specs.Plays.{taken, settled}
 
 -- the events that are taken: each one, and of requests those that are taken
 abbrev pub IsPlayed : Event → Type 0

@@ -1,6 +1,6 @@
 -- The durable stores that a cluster begins with.
 use Rattle.std.specs.Prelude.{◌≡◌, ℕ, ◌≤◌, ◌⊎◌, Bool, true, List, [], ◌∷◌, Option}
-use Rattle.cat_outside.specs.Causes.{Rose}
+use Rattle.outside.specs.Causes.{Rose}
 use Rattle.cat_model.specs.declared.kept.Kept.{Kept}
 use Rattle.cat_model.specs.LogLimits.{keeps_limits}
 use Rattle.raft_model.specs.Node.{Store}

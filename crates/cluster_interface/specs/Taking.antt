@@ -2,11 +2,11 @@
 use Rattle.std.specs.Prelude.{◌≡◌, ℕ, List, ◌∷◌, ◌++◌}
 use Rattle.cluster_rules.specs.Replies.{Out, Replied, Closed, number_of}
 use Rattle.cluster_rules.specs.Cluster.{Cluster}
-use Rattle.open_requests.specs.declared.collected.Collected.{Collected}
-use Rattle.open_requests.specs.declared.collected.Collected.TheVariants as collected
+use Rattle.cluster_requests.specs.declared.collected.Collected.{Collected}
+use Rattle.cluster_requests.specs.declared.collected.Collected.TheVariants as collected
 use Rattle.cluster_rules.specs.Past.{HasNoOut, IsNotHeld}
-use Rattle.open_requests.specs.Taking.{Waits}
-use Rattle.script_runs.specs.Plays.{of_requests, taken}
+use Rattle.cluster_requests.specs.Taking.{Waits}
+use Rattle.run_rules.specs.Plays.{of_requests, taken}
 
 -- This out was taken out of the tray, and a request's taking is marked.
 pub record Takes (out : Out) (c c' : Cluster) : Type 0 where

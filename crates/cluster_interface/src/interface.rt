@@ -4,20 +4,20 @@ ghost use Rattle.cat_model.specs.declared.request.Event.TheVariants as event;
 ghost use Rattle.cluster_rules.specs.Cluster.{Cluster, applied_of};
 ghost use Rattle.cluster_rules.specs.Reached.{IsAgentNumber};
 ghost use Rattle.cluster_rules.specs.Step.{ClusterStep, events_in};
-ghost use Rattle.cluster_turns.specs.Pairs.{IsPartlySettled};
-ghost use Rattle.cluster_turns.specs.Turns.{FindsNoMemory};
-ghost use Rattle.script_runs.specs.Lines.{misfit};
+ghost use Rattle.cluster_order.specs.Pairs.{IsPartlySettled};
+ghost use Rattle.cluster_order.specs.Turns.{FindsNoMemory};
+ghost use Rattle.run_rules.specs.Lines.{misfit};
 ghost use Rattle.cluster_rules.specs.Reached.{IsBegun};
 ghost use Rattle.cat_model.specs.Taken.{IsTakenAsked};
 ghost use Rattle.cluster_interface.specs.Interface.{IsPlayed, SettlesTo, TakesFirst, held_numbers};
 ghost use Rattle.cluster_interface.specs.Starting.{HasFailed, KeepsLimits, store_of};
 ghost use Rattle.cluster_interface.specs.Taking.{Collects, DropsSyncs};
-ghost use Rattle.open_requests.specs.Taking.{IsNumberAt};
+ghost use Rattle.cluster_requests.specs.Taking.{IsNumberAt};
 
 use cat_model::{Asked, Draw, Entry, Event, List, Memory, Shared};
-use cat_outside::{KeepFail, Keeper};
-use open_requests::{Collected, Out};
-use script_runs::Misfit;
+use cluster_requests::{Collected, Out};
+use outside::{KeepFail, Keeper};
+use run_rules::Misfit;
 use std::alloc::Global;
 
 /// A cluster of servers and agents, numbered from 1, with the outs that wait to be taken. The marks of what has happened

@@ -1,10 +1,10 @@
 //! Durable stores in memory.
 
 ghost use Rattle.std.specs.Prelude.{◌≡◌, All, IfOk, length};
-ghost use Rattle.cat_outside.specs.KeepersInMemory.{empty_store};
+ghost use Rattle.outside.specs.KeepersInMemory.{empty_store};
 
 use cat_model::{List, Memory};
-use cat_outside::MemKeeper;
+use outside::MemKeeper;
 use std::alloc::Global;
 
 /// So many stores in memory that hold nothing, and of which no call is to fail.

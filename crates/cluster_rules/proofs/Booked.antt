@@ -17,8 +17,8 @@ use Rattle.raft_model.specs.Log.{Log}
 use Rattle.raft_model.specs.Node.{Store}
 use Rattle.raft_model.specs.World.{World}
 use Rattle.raft_model.proofs.Tests.{at_bool}
-use Rattle.agent_rules.specs.Agents.{Agent, change}
-use Rattle.office_rules.specs.Offices.{office_from}
+use Rattle.cluster_rules.specs.Agents.{Agent, change}
+use Rattle.cluster_rules.specs.Offices.{office_from}
 use Rattle.cluster_rules.specs.Replies.{Question, came, Out, number_of}
 use Rattle.cluster_rules.specs.Cluster.{Stand, Ended, Cluster, agent_of, clock_of, node_of, with_office, took_office, seated}
 use Rattle.cluster_rules.specs.Due.{answered, Works, work}

@@ -18,8 +18,8 @@ use Rattle.cat_model.specs.Syncs.{registers_service, registers_checks, node_plan
 use Rattle.cat_model.specs.Catalog.{check_at}
 use Rattle.raft_model.proofs.Tests.{at_bool, lt_tells_not, le_tells}
 use Rattle.cluster_rules.specs.Replies.{Question}
-use Rattle.office_rules.specs.Locks.{is_lock, OneLocks, LocksKey, first_delayed, delayed}
-use Rattle.office_rules.specs.Offices.{over_at, is_over, is_pending, put_by, sorted_by}
+use Rattle.cluster_rules.specs.Locks.{is_lock, OneLocks, LocksKey, first_delayed, delayed}
+use Rattle.cluster_rules.specs.Offices.{over_at, is_over, is_pending, put_by, sorted_by}
 use Rattle.cluster_rules.specs.Cluster.{Cluster, server_of, applied_of, clock_of, office_of, until_at}
 use Rattle.cluster_rules.specs.Requests.{Handles, unready, full, proposes, stops, delays, probes, reads, renews}
 use Rattle.cluster_rules.specs.Proposals.{Proposals, none_left, breaks, enters, refuses, over_rows, with_ends, ends_of, reaps_of, Tends, idles, in_turn, cut_off, Syncs, finds_none, plans, breaks_off, cut_first, did_own, agent_did}

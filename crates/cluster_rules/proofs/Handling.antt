@@ -22,8 +22,8 @@ use Rattle.raft_model.proofs.Logs.{agree_term}
 use Rattle.raft_model.proofs.Tests.{at_bool, lt_tells, lt_tells_not}
 use Rattle.cluster_rules.specs.Replies.{Question, came, entered}
 use Rattle.cluster_rules.specs.Lasting.{IsWrite, IsLook, IsSeen, IsRefused, LastsFor, is_stale}
-use Rattle.office_rules.specs.Locks.{is_lock, OneLocks, LocksKey, first_delayed, delayed}
-use Rattle.office_rules.specs.Offices.{renew_in}
+use Rattle.cluster_rules.specs.Locks.{is_lock, OneLocks, LocksKey, first_delayed, delayed}
+use Rattle.cluster_rules.specs.Offices.{renew_in}
 use Rattle.cluster_rules.specs.Due.{answered}
 use Rattle.cat_model.specs.declared.command.TxnOp.{TxnOp}
 use Rattle.cat_model.specs.declared.command.Command.TheVariants.{KvLock, Txn}

@@ -13,8 +13,8 @@ use Rattle.raft_model.specs.Rules.{Input}
 use Rattle.raft_model.specs.World.{World}
 use Rattle.cluster_rules.specs.Replies.{Question}
 use Rattle.cluster_rules.specs.Cluster.{Stand, Start, Looked, Cluster, node_of, applied_of, clock_of, agent_of, with_office, took_office, seated}
-use Rattle.agent_rules.specs.Agents.{Agent, change}
-use Rattle.office_rules.specs.Offices.{office_from}
+use Rattle.cluster_rules.specs.Agents.{Agent, change}
+use Rattle.cluster_rules.specs.Offices.{office_from}
 use Rattle.cluster_rules.specs.Proposals.{Proposals, none_left, breaks, enters, refuses, over_rows, with_ends, looked, Tends, idles, in_turn, cut_off, kind_told, with_change, told, agent_did, is_agents, sync_of, synced, adopted, Syncs, finds_none, plans, breaks_off, cut_first, did_own}
 use Rattle.cluster_rules.specs.Due.{answered, work}
 use Rattle.cluster_rules.specs.Requests.{moved_with, moved, halted_now, holding, Handles, unready, full, proposes, stops, delays, probes, reads, renews}

@@ -17,8 +17,8 @@ use Rattle.raft_model.specs.Log.{term_at, last_term}
 use Rattle.raft_model.proofs.Tests.{at_bool, eq_tells, lt_tells}
 use Rattle.cluster_rules.specs.Replies.{Question, came}
 use Rattle.cluster_rules.specs.Lasting.{IsRead, IsWrite, IsSeen, IsRefused, LastsFor}
-use Rattle.agent_rules.specs.Agents.{Agent, change}
-use Rattle.office_rules.specs.Locks.{LocksKey}
+use Rattle.cluster_rules.specs.Agents.{Agent, change}
+use Rattle.cluster_rules.specs.Locks.{LocksKey}
 use Rattle.cluster_rules.specs.Proposals.{kind_told}
 use Rattle.std.proofs.lemmas.List.{length-take}
 use Rattle.cluster_rules.specs.Cluster.{Stand, AtPlace, InRound, ForIndex, Ended, Pending, Cluster, node_of, applied_of, clock_of, agent_of, until_at}

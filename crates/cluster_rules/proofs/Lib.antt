@@ -43,3 +43,6 @@ pub mod ConsistentRead
 pub mod TtlRun
 pub mod LockRun
 pub mod ReapRun
+pub mod Leasing
+pub mod Delaying
+pub mod Own

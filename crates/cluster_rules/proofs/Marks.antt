@@ -12,8 +12,8 @@ use Rattle.raft_model.specs.Node.{Store}
 use Rattle.raft_model.specs.World.{World}
 use Rattle.cluster_rules.specs.Replies.{Question}
 use Rattle.cluster_rules.specs.Cluster.{Cluster, node_of, clock_of, agent_of, with_office, took_office, seated}
-use Rattle.agent_rules.specs.Agents.{Agent, change}
-use Rattle.office_rules.specs.Offices.{office_from}
+use Rattle.cluster_rules.specs.Agents.{Agent, change}
+use Rattle.cluster_rules.specs.Offices.{office_from}
 use Rattle.cluster_rules.specs.Proposals.{Proposals, none_left, breaks, enters, refuses, over_rows, with_ends, looked, Tends, idles, in_turn, cut_off, with_change, agent_did, adopted, Syncs, finds_none, plans, breaks_off, cut_first, did_own}
 use Rattle.raft_model.proofs.Tests.{at_bool}
 use Rattle.cluster_rules.specs.Due.{Work, Replies, Holds, Closes, Applies, did, Works, none, work}

@@ -18,11 +18,11 @@ use Rattle.raft_model.specs.Step.{Works as StoreWorks, RestartWorks, restarted, 
 use Rattle.raft_model.proofs.Sound.{kept_of}
 use Rattle.raft_model.specs.World.{World, Acts as NodeActs, IsServer, IsNew, Packet, numbered}
 use Rattle.cluster_rules.specs.Replies.{Question, entered}
-use Rattle.office_rules.specs.Offices.{office_from, renew_in}
+use Rattle.cluster_rules.specs.Offices.{office_from, renew_in}
 use Rattle.cluster_rules.specs.Cluster.{AtPlace, ForIndex, Proposed, Looked, Cluster, node_of, applied_of, clock_of, agent_of, until_at, office_of, with_office, took_office, seated}
 use Rattle.cluster_rules.specs.Due.{Work, Replies, Holds, Closes, Applies, answered, did, due, or_work, first_work, early_work, late_work, next_work, IsDue, early, next_one, late, Works, none, work}
 use Rattle.cluster_rules.specs.Requests.{Goes, way, way_of, asked_server, is_ready, look_of, wait_of, delayed_at, session_of, holding, moved, moved_with, proposes, delays, reads, renews}
-use Rattle.agent_rules.specs.Agents.{Agent, change}
+use Rattle.cluster_rules.specs.Agents.{Agent, change}
 use Rattle.cluster_rules.specs.Proposals.{Tends, Syncs, did_own, sync_of, agent_did, is_agents, told}
 use Rattle.cluster_rules.specs.Step.{Acts, takes, ticks, restarts, begun_anew, handles, tends, syncs, Remembers, acts_of, over, act, stays, marked, shelved, ClusterStep, done as whole_step, passed, input_of}
 use Rattle.raft_model.proofs.Tests.{at_bool}

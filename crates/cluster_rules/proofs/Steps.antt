@@ -18,9 +18,9 @@ use Rattle.raft_model.specs.World.{World, Drops, Ticks, Arms, Proposes, step as 
 use Rattle.raft_model.proofs.Tests.{at_bool, eq_tells, lt_tells_not}
 use Rattle.cluster_rules.specs.Replies.{Question, came}
 use Rattle.cluster_rules.specs.Cluster.{Cluster, node_of, applied_of, clock_of, agent_of, with_office, took_office, seated}
-use Rattle.agent_rules.specs.Agents.{Agent, change, unknown}
+use Rattle.cluster_rules.specs.Agents.{Agent, change, unknown}
 use Rattle.cluster_rules.specs.Lasting.{IsAgents, IsRefused, LastsFor}
-use Rattle.office_rules.specs.Offices.{office_from}
+use Rattle.cluster_rules.specs.Offices.{office_from}
 use Rattle.cluster_rules.specs.Proposals.{Proposals, none_left, breaks, enters, refuses, over_rows, with_ends, Tends, idles, in_turn, cut_off, kind_told, with_change, told, agent_did, Syncs, finds_none, plans, breaks_off, cut_first, did_own}
 use Rattle.cluster_rules.specs.Due.{Work, Applies, or_work, first_work, early_work, next_work, due, Works, work}
 use Rattle.cluster_rules.specs.Requests.{asked_server, halted_now, moved}

@@ -20,15 +20,15 @@ use Rattle.raft_model.specs.Node.{Store}
 use Rattle.raft_model.specs.World.{World, Acts as NodeActs}
 use Rattle.raft_model.proofs.Tests.{at_bool}
 use Rattle.cluster_rules.specs.Replies.{Question}
-use Rattle.agent_rules.specs.Agents.{Agent, change}
-use Rattle.office_rules.specs.Offices.{Office, office_from, ended_too, looks_on, renew_in, renewal_id, reap_pause}
+use Rattle.cluster_rules.specs.Agents.{Agent, change}
+use Rattle.cluster_rules.specs.Offices.{Office, office_from, ended_too, looks_on, renew_in, renewal_id, reap_pause}
 use Rattle.cluster_rules.specs.Cluster.{Server, Cluster, item_of, no_server, node_of, server_of, applied_of, clock_of, agent_of, office_of, with_office, took_office, seated, started}
 use Rattle.cluster_rules.specs.Due.{Work, Replies, Holds, Closes, Applies, applies_entry, did, Works, none, work}
 use Rattle.cluster_rules.specs.Requests.{moved, session_of, Handles, unready, full, proposes, stops, delays, probes, reads, renews}
 use Rattle.cluster_rules.specs.Proposals.{Proposals, none_left, breaks, enters, refuses, over_rows, with_ends, looked, Tends, idles, in_turn, cut_off, told, agent_did, adopted, Syncs, finds_none, plans, breaks_off, cut_first, did_own}
 use Rattle.cluster_rules.specs.Step.{Acts, takes, ticks, arms, restarts, handles, tends, syncs, Does, over, act, cut, cut_between, Passes, loses, replies, stays, leaderless, noted, marked, ClusterStep, done, passed, cut_early}
 use Rattle.cluster_rules.specs.Reached.{IsBegun, Move, Reached, at_start, by_event, by_taking, by_handing, by_settling, by_advancing}
-use Rattle.office_rules.specs.Leases.{IsTimely}
+use Rattle.cluster_rules.specs.Leases.{IsTimely}
 use Rattle.cluster_rules.specs.Timely.{AreTimely}
 use Rattle.cluster_rules.proofs.Tools.{at_item, each_map, each_append}
 use Rattle.cluster_rules.proofs.Reached.{fresh_server}

@@ -17,8 +17,8 @@ use Rattle.raft_model.specs.World.{World, Acts as NodeActs, StartAll}
 use Rattle.raft_model.proofs.Tests.{at_bool, eq_tells}
 use Rattle.cluster_rules.specs.Replies.{Question}
 use Rattle.cluster_rules.specs.Cluster.{Stand, Start, Looked, Ended, Pending, Cluster, no_server, no_node, node_of, applied_of, clock_of, agent_of, office_of, with_office, took_office, seated, started}
-use Rattle.agent_rules.specs.Agents.{Agent, change}
-use Rattle.office_rules.specs.Offices.{Office, office_from, renew_in}
+use Rattle.cluster_rules.specs.Agents.{Agent, change}
+use Rattle.cluster_rules.specs.Offices.{Office, office_from, renew_in}
 use Rattle.cluster_rules.specs.Proposals.{Proposals, none_left, breaks, enters, refuses, over_rows, with_ends, looked, Tends, idles, in_turn, cut_off, with_agent, told, agent_did, synced, adopted, Syncs, finds_none, plans, breaks_off, cut_first, did_own}
 use Rattle.cluster_rules.specs.Due.{Applies, or_work, answered, due, waits, waiting}
 use Rattle.cluster_rules.specs.Requests.{moved_with, moved, halted_now, session_of, holding, Handles, unready, full, proposes, stops, delays, probes, reads, renews}

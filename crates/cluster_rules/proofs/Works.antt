@@ -13,8 +13,8 @@ use Rattle.raft_model.specs.World.{World, IsReached}
 use Rattle.raft_model.proofs.Tests.{at_bool, eq_tells}
 use Rattle.raft_model.proofs.Theorems.{agrees}
 use Rattle.cluster_rules.specs.Replies.{Question, came, reply_of, Out, Replied, Closed, Synced, number_of}
-use Rattle.agent_rules.specs.Agents.{Agent}
-use Rattle.office_rules.specs.Offices.{Office}
+use Rattle.cluster_rules.specs.Agents.{Agent}
+use Rattle.cluster_rules.specs.Offices.{Office}
 use Rattle.cluster_rules.specs.Proposals.{synced}
 use Rattle.cluster_rules.specs.Lasting.{Lasting}
 use Rattle.cluster_rules.specs.Cluster.{Server, Pending, Cluster, no_server, node_of, server_of, applied_of, clock_of, with_office}

@@ -10,9 +10,9 @@ use Rattle.raft_model.specs.declared.message.Round.{Round}
 use Rattle.raft_model.specs.Log.{Log}
 use Rattle.raft_model.specs.Node.{Node, begun, of_server, set_server}
 use Rattle.raft_model.specs.World.{World, nothing_kept}
-use Rattle.agent_rules.specs.Agents.{Agent, new_agent}
+use Rattle.cluster_rules.specs.Agents.{Agent, new_agent}
 use Rattle.cluster_rules.specs.Lasting.{is_stale}
-use Rattle.office_rules.specs.Offices.{Office, no_office, office_from, delay_over}
+use Rattle.cluster_rules.specs.Offices.{Office, no_office, office_from, delay_over}
 use Rattle.cluster_rules.specs.Replies.{Question, Out}
 
 -- What a server has applied since it last started, with its clock at each position, and its time in office.

@@ -8,8 +8,8 @@ use Rattle.cat_model.specs.declared.command.Command.TheVariants.{SessionDestroy}
 use Rattle.cat_model.specs.declared.request.Event.{Event}
 use Rattle.cat_model.specs.declared.row.SessionRow.{SessionRow}
 use Rattle.cluster_rules.specs.Replies.{Question}
-use Rattle.office_rules.specs.Locks.{LocksKey}
-use Rattle.office_rules.specs.Offices.{over_at}
+use Rattle.cluster_rules.specs.Locks.{LocksKey}
+use Rattle.cluster_rules.specs.Offices.{over_at}
 use Rattle.cluster_rules.specs.Cluster.{Cluster, server_of, applied_of, clock_of, office_of, until_at}
 use Rattle.cluster_rules.specs.Requests.{Handles, unready, full, proposes, stops, delays, probes, reads, renews}
 use Rattle.cluster_rules.specs.Proposals.{Proposals, none_left, breaks, enters, refuses, Tends, idles, in_turn, cut_off, Syncs, finds_none, plans, breaks_off, cut_first, did_own, agent_did}

@@ -19,7 +19,7 @@ use Rattle.cat_model.specs.Log.{commands_of}
 use Rattle.cat_model.specs.LogLimits.{most_entries, most_bytes}
 use Rattle.cat_model.specs.Role.{leads}
 use Rattle.raft_model.specs.Log.{Log, entry_at}
-use Rattle.office_rules.specs.Locks.{LocksKey}
+use Rattle.cluster_rules.specs.Locks.{LocksKey}
 use Rattle.cluster_rules.specs.Replies.{Question, entered}
 
 -- the request is a write of a command of which this holds

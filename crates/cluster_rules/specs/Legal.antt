@@ -20,7 +20,7 @@ use Rattle.raft_model.specs.Rules.{has_room, is_confirmed}
 use Rattle.cluster_rules.specs.Replies.{Question, came, entered}
 use Rattle.cluster_rules.specs.Lasting.{IsRead, Lasting}
 use Rattle.cluster_rules.specs.Cluster.{Stand, AtPlace, InRound, ForIndex, Ended, Pending, Cluster, node_of, applied_of, clock_of, agent_of, until_at, knows, contact_of}
-use Rattle.agent_rules.specs.Agents.{Agent as AgentRows, change, unknown, agent_body}
+use Rattle.cluster_rules.specs.Agents.{Agent as AgentRows, change, unknown, agent_body}
 use Rattle.cluster_rules.specs.Proposals.{kind_told}
 use Rattle.cluster_rules.specs.Due.{Work, Replies, Holds, Closes, Applies, did, waiting, Works, none, work}
 use Rattle.cluster_rules.specs.Requests.{Answers, Goes, way, asked_server, is_ready, is_stale_read, delayed_at, log_with, moved, Handles, unready, full, proposes, stops, delays, probes, reads, renews}

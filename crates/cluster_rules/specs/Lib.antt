@@ -15,3 +15,9 @@ pub mod Timely
 pub mod Runs
 pub mod SessionRuns
 pub mod Left
+pub mod Locks
+pub mod Offices
+pub mod Leases
+pub mod AgentBodies
+pub mod Agents
+pub mod Own

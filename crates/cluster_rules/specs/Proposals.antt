@@ -20,8 +20,8 @@ use Rattle.cat_model.specs.Syncs.{merged, plan}
 use Rattle.raft_model.specs.Node.{set_server}
 use Rattle.raft_model.specs.Rules.{Propose, has_room}
 use Rattle.raft_model.specs.World.{World, Acts as NodeActs}
-use Rattle.agent_rules.specs.Agents.{Agent, agent_node, change, changes, unknown, agent_body, local_of, remote_of, ticked, wants_sync}
-use Rattle.office_rules.specs.Offices.{over_now, ended_too, has_removed, looks_on}
+use Rattle.cluster_rules.specs.Agents.{Agent, agent_node, change, changes, unknown, agent_body, local_of, remote_of, ticked, wants_sync}
+use Rattle.cluster_rules.specs.Offices.{over_now, ended_too, has_removed, looks_on}
 use Rattle.cluster_rules.specs.Replies.{Question, Synced}
 use Rattle.cluster_rules.specs.Cluster.{Cluster, node_of, server_of, applied_of, clock_of, agent_of, office_of, with_office, runs_leading}
 use Rattle.cluster_rules.specs.Due.{answered, put_out}

@@ -29,7 +29,7 @@ use Rattle.cat_model.specs.Log.{commands_of}
 use Rattle.cat_model.specs.Machine.{catalog_at, reply_to}
 use Rattle.cat_model.specs.Queries.{answer}
 use Rattle.raft_model.specs.Log.{entry_at}
-use Rattle.agent_rules.specs.Agents.{agent_node}
+use Rattle.cluster_rules.specs.Agents.{agent_node}
 
 -- A request with its number, the agent that was asked, and the words that were drawn for it.
 pub record Question : Type 0 where

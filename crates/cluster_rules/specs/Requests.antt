@@ -25,8 +25,8 @@ use Rattle.raft_model.specs.Rules.{Propose, Probe, has_room, proposal}
 use Rattle.raft_model.specs.World.{World, Acts as NodeActs}
 use Rattle.cluster_rules.specs.Replies.{Question, entered}
 use Rattle.cluster_rules.specs.Lasting.{is_stale}
-use Rattle.office_rules.specs.Locks.{delayed}
-use Rattle.office_rules.specs.Offices.{renew_in}
+use Rattle.cluster_rules.specs.Locks.{delayed}
+use Rattle.cluster_rules.specs.Offices.{renew_in}
 use Rattle.cluster_rules.specs.Cluster.{Stand, AtPlace, InRound, ForIndex, Start, Proposed, Probed, Looked, Cluster, node_of, applied_of, clock_of, runs_leading, until_at, office_of, with_office}
 use Rattle.cluster_rules.specs.Due.{answered}
 

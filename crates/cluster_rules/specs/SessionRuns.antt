@@ -20,7 +20,7 @@ use Rattle.cat_model.specs.declared.request.Event.TheVariants as event
 use Rattle.cat_model.specs.declared.reply.Kind.TheVariants.{Acked, At, Seen, Delayed}
 use Rattle.cat_model.specs.Syncs.{serf_id}
 use Rattle.raft_model.specs.Runs.{fresh}
-use Rattle.agent_rules.specs.Agents.{agent_node}
+use Rattle.cluster_rules.specs.Agents.{agent_node}
 use Rattle.cluster_rules.specs.Replies.{Out, Replied, Shows, Tells, Renews, Defers}
 use Rattle.cluster_rules.specs.Cluster.{Cluster, started}
 use Rattle.cluster_rules.specs.Reached.{Move, Makes, Reached}

@@ -1,7 +1,7 @@
 //! Laws of the definitions, each the contract of a function with an empty body. They hold whatever is lost, repeated,
 //! reordered, restarted or cut short for lack of memory, and whichever store calls fail.
 
-ghost use Rattle.std.specs.Prelude.{Bool, List, None, length, take, min, false, true, ℕ, ◌+◌, ◌-◌, ◌^◌, ◌≡◌, ◌≢◌, ◌<◌, ◌≤◌, ◌⊎◌, ◌++◌, ◌∷◌};
+ghost use Rattle.std.specs.Prelude.{Bool, List, None, length, take, min, false, true, ℕ, ◌+◌, ◌-◌, ◌^◌, ◌≡◌, ◌≢◌, ◌<◌, ◌≤◌, ◌⊎◌, ◌++◌, ◌∷◌, Some};
 ghost use Rattle.std.specs.List.{AllByRecursion as Each};
 ghost use Rattle.cat_model.specs.declared.command.Command.{Command};
 ghost use Rattle.cat_model.specs.declared.query.Query.{Query};
@@ -36,6 +36,13 @@ ghost use Rattle.cluster_rules.specs.Step.{ClusterStep};
 ghost use Rattle.cluster_rules.specs.Reached.{EndInPairs, IsBegun, IsStart, Making, MayBegin, Move, Reached, Settling, moves_of, then_made};
 ghost use Rattle.cluster_rules.specs.Runs.{ConsistentRun, FullWaitRun};
 ghost use Rattle.cluster_rules.specs.Sound.{OutIsSound, answers_in, Ascends, IsAmong, LookedBefore, NeverEnters, Sound, entered_in, entries_before, found, halts_in};
+ghost use Rattle.cat_model.specs.declared.row.SessionRow.{SessionRow};
+ghost use Rattle.cluster_rules.specs.Leases.{DelayLaw, IsTimely, TtlLaw};
+ghost use Rattle.cluster_rules.specs.Offices.{Office};
+ghost use Rattle.cat_model.specs.declared.request.AgentOp.{AgentOp};
+ghost use Rattle.cat_model.specs.declared.row.ServiceRow.{ServiceRow};
+ghost use Rattle.cluster_rules.specs.Agents.{Agent, change, new_agent, ticked};
+ghost use Rattle.cluster_rules.specs.Own.{KeepsOwn};
 
 /// Each step, whole or cut short, keeps a cluster sound.
 #[tactic(auto, using(crate::proofs::Keeping::step_keeps))]
@@ -292,4 +299,24 @@ pub fn gone_were_taken()
 #[tactic(auto, using(crate::proofs::Shown::lasting_shows))]
 pub fn no_reply_is_blank()
     ensures { (q : Question) (kind : Kind) (log : Log) → Lasting q kind log → shown q kind log ≢ Blank }
+{}
+
+/// At a server that noted nothing ahead of its clock, a session's TTL begins anew where the server takes office, applies
+/// the creation, or renews the session, and nowhere else; it is pending until its end is proposed.
+pub fn ttls_begin_anew()
+    ensures { (now : ℕ) (clocks : List ℕ) (o : Office) → IsTimely now clocks o → (row : SessionRow) → TtlLaw now clocks o row }
+{}
+
+/// A server's lock delays go on position by position, by its clock at each.
+pub fn delays_go_on()
+    ensures { (commands : List Command) (clocks : List ℕ) → length commands ≡ length clocks → (key : List ℕ) → DelayLaw commands clocks key }
+{}
+
+/// The check that each agent has of its node is its own: neither a request nor the time changes it, takes it away or
+/// puts another one beside it, and taking over services does not either.
+pub fn own_checks_stay()
+    ensures begun { KeepsOwn new_agent }
+    ensures asked { (a : ℕ) (op : AgentOp) (g g' : Agent) → KeepsOwn g → change a op g ≡ Some g' → KeepsOwn g' }
+    ensures ticked { (ms : ℕ) (g : Agent) → KeepsOwn g → KeepsOwn (ticked ms g) }
+    ensures adopted { (services : List ServiceRow) (g : Agent) → KeepsOwn g → KeepsOwn (record g { services = services }) }
 {}

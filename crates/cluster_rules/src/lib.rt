@@ -1,5 +1,6 @@
-//! What a cluster of 1 to 7 servers does with an event, over raft_model's world: in `specs/` the cluster's step, what
-//! is due at a server, when a reply is legal and what stays true, and in `laws` what holds of every run.
+//! What a cluster of 1 to 7 servers does with an event, over raft_model's world: in `specs/` the cluster's step,
+//! what is due at a server, what a server decides by its own clock, what an agent does with what it is asked and
+//! with the time, when a reply is legal and what stays true, and in `laws` what holds of every run.
 //!
 //! # What is proved
 //!
@@ -9,8 +10,9 @@
 //! and none is taken that was not asked, whatever the stores held at the beginning; what is held truly waits; the
 //! marks lead from the start to the end; a lock is proposed only once its delay is over, and a session's end for no
 //! request only once twice its TTL is over; consistent executions are as fresh as consistent reads; no reply shows
-//! nothing. These are laws of definitions; the contract of `run` says that the program's steps are those of the
-//! definitions. Carried by: `laws::*`.
+//! nothing. What a server notes agrees with lock delays and with the TTLs of its sessions, operation by operation.
+//! An agent's own check of its node is never changed, dropped or doubled. These are laws of definitions; the
+//! contract of `run` says that the program's steps are those of the definitions. Carried by: `laws::*`.
 #![tactic(auto)]
 
 pub mod laws;

@@ -9,11 +9,11 @@
 #![tactic(auto)]
 
 mod commands;
-mod lengths;
 mod decoder;
 mod encoder;
 mod fault;
 mod fields;
+mod lengths;
 mod lists;
 mod out;
 mod parts;
@@ -21,8 +21,8 @@ mod records;
 mod texts;
 
 pub use commands::read_command;
-pub use lengths::encoded_len;
 pub use decoder::decode;
 pub use encoder::encode;
 pub use fault::{DecodeFault, Fault, ReadError};
 pub use fields::{bad, cut, read_flag, read_number};
+pub use lengths::encoded_len;

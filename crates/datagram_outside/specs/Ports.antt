@@ -1,8 +1,8 @@
 -- What a port of datagrams tells, and what its calls do to that.
 use Rattle.std.specs.Prelude.{◌≡◌, ℕ, ◌+◌, ◌≤◌, List, [], ◌∷◌, ◌++◌, length, take, Option, option_map, Result, MatchResult, OnOk, IsErrOf}
-use Rattle.cat_outside.specs.Causes.{Rose}
-use Rattle.cat_outside.specs.declared.faults.KeepFail.{KeepFail}
-use Rattle.cat_outside.specs.declared.faults.KeepFail.TheVariants as k
+use Rattle.outside.specs.Causes.{Rose}
+use Rattle.outside.specs.declared.faults.KeepFail.{KeepFail}
+use Rattle.outside.specs.declared.faults.KeepFail.TheVariants as k
 
 -- a packet, with the number of the peer that it came from or went to
 pub record Datagram : Type 0 where

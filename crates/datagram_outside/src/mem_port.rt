@@ -1,11 +1,11 @@
 ghost use Rattle.std.specs.Prelude.{◌≡◌, ◌↔◌, ◌⊎◌, ◌≤◌, ◌<◌, ◌∷◌, [], length, slice_get, vec_len, IfOk, IfSome, IsErr, IsErrOf, IsTrue, MatchResult, Some, OnOk, OnErr, take, map};
-ghost use Rattle.cat_outside.specs.Causes.{counted, HasCause};
-ghost use Rattle.cat_outside.specs.InMemory.{is_listed as is_listed_of};
+ghost use Rattle.outside.specs.Causes.{counted, HasCause};
+ghost use Rattle.outside.specs.InMemory.{is_listed as is_listed_of};
 ghost use Rattle.datagram_outside.specs.Ports.{Came, Waited, Sends, append_told};
 
 use crate::DatagramPort;
 use cat_model::{Bytes, List};
-use cat_outside::{Failed, KeepFail, is_listed};
+use outside::{Failed, KeepFail, is_listed};
 use std::alloc::Global;
 
 /// A packet, with the number of the peer that it comes from or goes to.

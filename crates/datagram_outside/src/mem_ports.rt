@@ -1,14 +1,14 @@
 ghost use Rattle.std.specs.Prelude.{◌≡◌, ◌↔◌, ◌⊎◌, ◌<◌, ◌≤◌, ◌∷◌, ◌++◌, [], map, vec_len, IfOk, OnErr, IsErr, IsTrue};
 ghost use Rattle.std.specs.Vec.{vec_capacity};
-ghost use Rattle.cat_outside.specs.Causes.{counted, HasCause};
-ghost use Rattle.cat_outside.specs.InMemory.{is_listed as is_listed_of};
+ghost use Rattle.outside.specs.Causes.{counted, HasCause};
+ghost use Rattle.outside.specs.InMemory.{is_listed as is_listed_of};
 ghost use Rattle.datagram_outside.specs.Ports.{IsNew};
 ghost use Rattle.datagram_outside.specs.InMemory.{told};
 
 use crate::{Datagrams, MemPort, Packet};
 use cat_model::{List, Memory};
-use cat_outside::{Failed, is_listed};
 use http_server::Log;
+use outside::{Failed, is_listed};
 use std::alloc::Global;
 
 /// What a port in memory does.

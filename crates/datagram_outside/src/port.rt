@@ -1,8 +1,8 @@
 ghost use Rattle.std.specs.Prelude.{◌≡◌, ℕ, ◌≤◌, List, [], ◌∷◌, ◌++◌, length, IfOk, MatchResult};
-ghost use Rattle.cat_outside.specs.Causes.{HasCause};
+ghost use Rattle.outside.specs.Causes.{HasCause};
 ghost use Rattle.datagram_outside.specs.Ports.{PortState, IsNew, Came, Waited, Sends};
 
-use cat_outside::{Failed, KeepFail};
+use outside::{Failed, KeepFail};
 
 /// A port of datagrams. It counts the packets that it gave and the calls that failed.
 pub trait DatagramPort: Drop {

@@ -4,7 +4,7 @@ ghost use Rattle.std.specs.Prelude.{◌≤◌, length};
 
 use crate::{DatagramPort, Datagrams, MemPort, MemPorts, Packet, PortScript, UdpPort, UdpPorts};
 use cat_model::{Bytes, List};
-use cat_outside::{Failed, KeepFail};
+use outside::{Failed, KeepFail};
 use std::alloc::Global;
 use std::net::{Ipv4Addr, Net, SocketAddr, UdpSocket};
 use std::test::Fail;

@@ -1,11 +1,11 @@
 //! UDP. RFC 768.
 
 ghost use Rattle.std.specs.Prelude.{◌≡◌, ◌≤◌, []};
-ghost use Rattle.cat_outside.specs.Causes.{counted};
+ghost use Rattle.outside.specs.Causes.{counted};
 
 use crate::{DatagramPort, Datagrams};
-use cat_outside::{Failed, KeepFail};
 use http_server::Log;
+use outside::{Failed, KeepFail};
 use std::net::{Ipv4Addr, Net, SocketAddr, UdpSocket};
 
 /// A port of UDP. It does not tell its packets.

@@ -4,9 +4,9 @@ ghost use Rattle.std.specs.Prelude.{◌≡◌};
 
 use crate::{DnsDone, DnsJob, answer_names, finish_names, start_names};
 use cat_model::{Bytes, Command, Entry, List, Memory, NewService, Shared, Text};
-use cat_outside::{Failed, KeepFail};
 use datagram_outside::{DatagramPort, MemPort, Packet};
 use dns_server::DnsCause;
+use outside::{Failed, KeepFail};
 use serve_outside::{MemSpawner, Spawner, ThreadSpawner};
 use stale_view::{Opened, PairName, Publisher, stale_pair};
 use std::alloc::Global;

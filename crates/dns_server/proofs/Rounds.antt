@@ -2,8 +2,8 @@
 use Rattle.std.proofs.Common.{◌≡◌, ℕ, ◌+◌, List, [], ◌∷◌, ◌++◌, take, refl, sym, ap, ◌∙◌, append_assoc, append-nil, arith, length-append, Option, Some, None, inl, inr}
 use mathlib.Core.List.{IsPrefix}
 use Rattle.cat_model.specs.declared.command.Command.{Command}
-use Rattle.cat_outside.specs.declared.faults.KeepFail.{KeepFail}
-use Rattle.cat_outside.specs.declared.faults.KeepFail.TheVariants as k
+use Rattle.outside.specs.declared.faults.KeepFail.{KeepFail}
+use Rattle.outside.specs.declared.faults.KeepFail.TheVariants as k
 use Rattle.datagram_outside.specs.Ports.{Datagram, PortState, append_told, Came, Waited}
 use Rattle.dns_server.specs.declared.packets.DnsCause.TheVariants as c
 use Rattle.dns_server.specs.Served.{Answered, AllButLast, Passed, Served, cause_of, reply_by}

@@ -1,7 +1,7 @@
 -- A reply is sent, or none.
 use Rattle.std.proofs.Common.{◌≡◌, ℕ, List, [], sym, subst, ◌∙◌, arith, Option, Some, None, Result, Ok, Err, OnOk, OnErr}
 use Rattle.cat_model.specs.declared.command.Command.{Command}
-use Rattle.cat_outside.specs.declared.faults.KeepFail.{KeepFail}
+use Rattle.outside.specs.declared.faults.KeepFail.{KeepFail}
 use Rattle.datagram_outside.specs.Ports.{PortState, append_told, Sends}
 use Rattle.dns_service.specs.Reading.{answers_at}
 use Rattle.dns_service.specs.Replies.{dns_reply}

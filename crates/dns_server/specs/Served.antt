@@ -2,9 +2,9 @@
 use Rattle.std.specs.Prelude.{◌≡◌, ◌⊎◌, ℕ, ◌+◌, ◌≤◌, List, [], ◌∷◌, ◌++◌, length, Option, None, Some}
 use mathlib.Core.List.{IsPrefix}
 use Rattle.cat_model.specs.declared.command.Command.{Command}
-use Rattle.cat_outside.specs.Causes.{Rose}
-use Rattle.cat_outside.specs.declared.faults.KeepFail.{KeepFail}
-use Rattle.cat_outside.specs.declared.faults.KeepFail.TheVariants as k
+use Rattle.outside.specs.Causes.{Rose}
+use Rattle.outside.specs.declared.faults.KeepFail.{KeepFail}
+use Rattle.outside.specs.declared.faults.KeepFail.TheVariants as k
 use Rattle.datagram_outside.specs.Ports.{Datagram, PortState, append_told}
 use Rattle.dns_service.specs.Reading.{answers_at}
 use Rattle.dns_service.specs.Replies.{dns_reply}

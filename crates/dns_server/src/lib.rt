@@ -7,9 +7,9 @@
 #![tactic(auto)]
 
 mod cache;
+mod packets;
 mod reader;
 mod replies;
-mod packets;
 
-pub use reader::CountedReader;
 pub use packets::{DnsCause, DnsEnded, serve_datagrams};
+pub use reader::CountedReader;

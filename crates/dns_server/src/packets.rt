@@ -2,7 +2,7 @@
 
 ghost use Rattle.std.specs.Prelude.{◌≡◌, ◌+◌, ◌<◌, ◌≤◌, ◌↔◌, [], ◌∷◌, length, take, IfOk, OnOk, OnErr, IsErrOf, vec_len};
 ghost use mathlib.Core.List.{IsPrefix};
-ghost use Rattle.cat_outside.specs.Causes.{Rose};
+ghost use Rattle.outside.specs.Causes.{Rose};
 ghost use Rattle.datagram_outside.specs.Ports.{Datagram};
 ghost use Rattle.dns_server.specs.Cached.{AllHold};
 ghost use Rattle.dns_server.specs.Served as spec;
@@ -12,8 +12,8 @@ use crate::CountedReader;
 use crate::cache::Cache;
 use crate::replies::reply;
 use cat_model::Memory;
-use cat_outside::KeepFail;
 use datagram_outside::DatagramPort;
+use outside::KeepFail;
 use std::alloc::Global;
 
 /// The most bytes that a packet has.

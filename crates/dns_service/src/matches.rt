@@ -14,7 +14,7 @@ use crate::CatalogReader;
 use crate::sought::{Sought, are_same_letters};
 use cat_model::lists::copy_of;
 use cat_model::{Answer, Bytes, Instance, List, Memory, NodeRow, Query, Steps, Text, Texts};
-use health_view::not_critical;
+use catalog_query::not_critical;
 use std::alloc::Global;
 use std::sync::ledger::Ledger;
 

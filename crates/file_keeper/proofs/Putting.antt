@@ -11,8 +11,8 @@ use Rattle.cat_model.specs.declared.kept.Kept.{Kept}
 use Rattle.cat_model.specs.declared.command.Entry.{Entry}
 use Rattle.cat_model.specs.Keeping.{nothing_kept, with_entries}
 use Rattle.cat_model.specs.LogLimits.{keeps_limits}
-use Rattle.cat_outside.specs.Keepers.{MayStore, Changes}
-use Rattle.cat_outside.specs.declared.faults.KeepFail.TheVariants.{Failed}
+use Rattle.outside.specs.Keepers.{MayStore, Changes}
+use Rattle.outside.specs.declared.faults.KeepFail.TheVariants.{Failed}
 use Rattle.store_records.specs.declared.records.Record.{Record}
 use Rattle.store_records.specs.declared.records.Record.TheVariants.{Vote, Store}
 use Rattle.store_records.specs.Records.{payload, record_bytes, IsServer, IsEntry}

@@ -4,7 +4,7 @@ use Rattle.std.specs.Option.{ForSome}
 use Rattle.cat_model.specs.declared.kept.Kept.{Kept}
 use Rattle.cat_model.specs.Keeping.{nothing_kept, with_vote, with_entries}
 use Rattle.cat_model.specs.LogLimits.{keeps_limits}
-use Rattle.cat_outside.specs.Causes.{Rose}
+use Rattle.outside.specs.Causes.{Rose}
 use Rattle.command_codec.specs.declared.fault.Fault.TheVariants.{Cut, Bad}
 use Rattle.store_records.specs.declared.records.Record.{Record}
 use Rattle.store_records.specs.declared.records.Record.TheVariants.{Vote, Store}

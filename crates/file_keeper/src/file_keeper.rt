@@ -1,8 +1,8 @@
 ghost use Rattle.std.specs.Prelude.{◌≡◌, ◌≢◌, ◌↔◌, ◌⊎◌, ◌-◌, ◌+◌, ◌≤◌, ℕ, List as Items, All, None, Some, true, false, OnOk, IfOk, IfSome, IsErrOf, IsTrue};
 ghost use Rattle.std.specs.Option.{ForSome};
 ghost use Rattle.cat_model.specs.Bounds.{IsListOf};
-ghost use Rattle.cat_outside.specs.Causes.{Rose, counted};
-ghost use Rattle.cat_outside.specs.Keepers.{Changes, CountsDown, FailsWhereArmed, KeepHasCause, MayStore, Tells, with_entries, with_vote};
+ghost use Rattle.outside.specs.Causes.{Rose, counted};
+ghost use Rattle.outside.specs.Keepers.{Changes, CountsDown, FailsWhereArmed, KeepHasCause, MayStore, Tells, with_entries, with_vote};
 ghost use Rattle.store_records.specs.declared.records.Record.{Record};
 ghost use Rattle.store_records.specs.declared.records.Record.TheVariants as calls;
 ghost use Rattle.store_records.specs.Records.{HasSpelling, IsEntry, IsServer};
@@ -11,7 +11,7 @@ ghost use Rattle.file_keeper.specs.Journal.{FileStore, IsWhole, MayFail, MayFail
 use crate::reader::open_journal;
 use crate::window::Unread;
 use cat_model::{Entry, Kept, List};
-use cat_outside::{KeepFail, Keeper};
+use outside::{KeepFail, Keeper};
 use server_journal::Journal;
 use std::alloc::Global;
 use std::marker::Model;

@@ -2,7 +2,7 @@
 
 ghost use Rattle.std.specs.Prelude.{◌≡◌, ◌+◌, ◌++◌, ◌≤◌, ℕ, List, None, Some, length, take, drop, IfOk, OnOk, IsErrOf};
 ghost use Rattle.std.specs.Option.{ForSome};
-ghost use Rattle.cat_outside.specs.Causes.{Rose};
+ghost use Rattle.outside.specs.Causes.{Rose};
 ghost use Rattle.store_records.specs.RecordReading.{AreBytes, IsCut};
 ghost use Rattle.file_keeper.specs.Journal.{IsFound, IsWhole, Leads, kept_of, replay, held_by};
 

@@ -1,6 +1,6 @@
 use crate::FileKeeper;
 use cat_model::{Bytes, Command, Entry, List, Shared, Text};
-use cat_outside::{KeepFail, Keeper};
+use outside::{KeepFail, Keeper};
 use server_journal::{FileJournal, MemJournal, open_file_journal};
 use std::alloc::Global;
 use std::fs;

@@ -2,7 +2,7 @@
 
 ghost use Rattle.std.specs.Prelude.{◌≡◌, ◌+◌, ◌≤◌, length, IfOk, OnErr, IsErrOf, OnOk};
 ghost use Rattle.std.specs.Option.{ForSome};
-ghost use Rattle.cat_outside.specs.Causes.{Rose};
+ghost use Rattle.outside.specs.Causes.{Rose};
 ghost use Rattle.file_keeper.specs.Journal.{IsNext};
 
 use cat_model::Memory;

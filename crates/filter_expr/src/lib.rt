@@ -9,11 +9,11 @@
 
 mod expression;
 mod fault;
-mod predicates;
 mod laws;
 mod lexer;
 mod members;
 mod parser;
+mod predicates;
 mod selectors;
 mod tests_of;
 

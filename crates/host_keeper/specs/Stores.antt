@@ -1,7 +1,7 @@
 -- What contracts see of a durable store in memory or in a file.
 use Rattle.std.specs.Prelude.{ℕ, ◌+◌, Bool, false, List, Option, None, Some}
 use Rattle.cat_model.specs.declared.kept.Kept.{Kept}
-use Rattle.cat_outside.specs.KeepersInMemory.{is_sure}
+use Rattle.outside.specs.KeepersInMemory.{is_sure}
 use Rattle.file_keeper.specs.Journal.{held_by}
 use Rattle.serve_outside.specs.Stores.{Made}
 use Rattle.host_keeper.specs.declared.host_keeper.HostKeeper.{HostKeeper}

@@ -1,6 +1,6 @@
 use cat_model::{Entry, Kept, List};
-use cat_outside::{KeepFail, Keeper, MemKeeper};
 use file_keeper::FileKeeper;
+use outside::{KeepFail, Keeper, MemKeeper};
 use server_journal::Journal;
 use std::alloc::Global;
 

@@ -1,8 +1,8 @@
 ghost use Rattle.std.specs.Prelude.{◌≡◌, ◌+◌, ◌≤◌, None, Some, true, IfOk, IsErrOf, MatchResult};
 ghost use Rattle.std.specs.Option.{ForSome, option_map};
 ghost use Rattle.cat_model.specs.Keeping.{nothing_kept};
-ghost use Rattle.cat_outside.specs.Causes.{Rose, counted};
-ghost use Rattle.cat_outside.specs.Keepers.{KeepHasCause};
+ghost use Rattle.outside.specs.Causes.{Rose, counted};
+ghost use Rattle.outside.specs.Keepers.{KeepHasCause};
 ghost use Rattle.file_keeper.specs.Journal.{kept_of};
 ghost use Rattle.serve_outside.specs.Stores.{KeepsLimits, also_made, made_for};
 ghost use Rattle.host_keeper.specs.Folders.{Fits, Tells, bytes_in, first_of};
@@ -12,10 +12,10 @@ use crate::faults::Refusal;
 use crate::files::JournalFiles;
 use crate::folder::open_journal;
 use crate::host_keeper::HostKeeper;
-use crate::stores::over;
 use crate::scan::fault_in;
+use crate::stores::over;
 use cat_model::List;
-use cat_outside::{KeepFail, MemKeeper};
+use outside::{KeepFail, MemKeeper};
 use serve_outside::{Folder, Keepers};
 use std::alloc::Global;
 

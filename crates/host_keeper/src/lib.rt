@@ -17,8 +17,8 @@ mod gauge;
 mod host_keeper;
 mod host_keepers;
 mod mem_files;
-mod stores;
 mod scan;
+mod stores;
 mod tally;
 mod watched;
 

@@ -1,7 +1,7 @@
 //! Where a journal goes wrong.
 
 use crate::faults::Fault;
-use cat_outside::Failed;
+use outside::Failed;
 use server_journal::Journal;
 use std::alloc::{AllocError, Global};
 use store_records::{Record, RecordFault, read_record};

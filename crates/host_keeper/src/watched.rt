@@ -5,8 +5,8 @@ ghost use Rattle.std.specs.Prelude.{◌≡◌};
 use crate::gauge::{Fill, Gauge};
 use crate::tally::Tally;
 use cat_model::{Entry, Kept, List};
-use cat_outside::{KeepFail, Keeper};
 use file_keeper::{MOST_BYTES, MOST_ENTRIES};
+use outside::{KeepFail, Keeper};
 use serve_outside::{Folder, Keepers};
 use std::alloc::Global;
 

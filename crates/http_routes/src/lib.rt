@@ -19,12 +19,12 @@ pub mod laws;
 mod method;
 mod params;
 mod query;
-mod router;
 mod route_requests;
-mod thread_safety;
+mod router;
 mod session;
 mod table;
 mod target;
+mod thread_safety;
 
 pub use error::{Allow, Parameter, RouteError};
 pub use route_requests::{Routed, Routes, route};

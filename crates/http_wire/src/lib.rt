@@ -7,11 +7,11 @@
 //! its lines and its body. Carried by: clauses of `RequestReader`, `decode` and `write_reply`.
 #![tactic(auto)]
 
-mod partial;
 mod head;
 mod judge;
 mod limits;
 mod lines;
+mod partial;
 mod reader;
 mod rejection;
 mod reply;

@@ -5,3 +5,6 @@ pub mod Words
 pub mod Saying
 pub mod Refusals
 pub mod Sums
+pub mod Drawing
+pub mod Lengths
+pub mod Texts

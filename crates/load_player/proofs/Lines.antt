@@ -3,9 +3,9 @@ use Rattle.std.proofs.Common.{◌≡◌, ℕ, ◌+◌, ◌<◌, ◌^◌, Bool, t
 use Rattle.std.specs.Fmt.{decimal}
 use Rattle.std.specs.List.{list_all, AllByRecursion as Each}
 use Rattle.std.proofs.lemmas.Bool.Decides.{nat_tests}
-use Rattle.load_script.specs.declared.method.Method.{Method}
-use Rattle.load_script.specs.declared.method.Method.TheVariants.{Put, Get, Delete}
-use Rattle.load_script.specs.LoadScript.{method_of, key_of, request, requests_from, load_lines, text_of, drawn}
+use Rattle.load_player.specs.declared.method.Method.{Method}
+use Rattle.load_player.specs.declared.method.Method.TheVariants.{Put, Get, Delete}
+use Rattle.load_player.specs.LoadScript.{method_of, key_of, request, requests_from, load_lines, text_of, drawn}
 use Rattle.script_player.specs.Line.{lines_of, onto_line}
 use Rattle.load_player.proofs.Decimals.{decimal_all, all_append}
 

@@ -7,13 +7,13 @@ use Rattle.cat_model.specs.declared.request.Event.TheVariants.{Ask, Timeout}
 use Rattle.cluster_rules.specs.Replies.{Out}
 use Rattle.cluster_rules.specs.Cluster.{Cluster}
 use Rattle.cluster_rules.specs.Reached.{Settling, none, pair}
-use Rattle.load_script.specs.LoadScript.{load_script, requests_from, drawn}
-use Rattle.script_runs.specs.Lines.{Said, Nothing, Makes, Settles, Refuses, misfit}
-use Rattle.script_runs.specs.Plays.{Refused, Plays, skips, makes, settles, refuses, misfits}
+use Rattle.load_player.specs.LoadScript.{load_script, requests_from, drawn}
+use Rattle.run_rules.specs.Lines.{Said, Nothing, Makes, Settles, Refuses, misfit}
+use Rattle.run_rules.specs.Plays.{Refused, Plays, skips, makes, settles, refuses, misfits}
 use Rattle.script_player.specs.Run.{IsRefused, closed, played}
 use Rattle.script_player.specs.Script.{said, script_of}
-use Rattle.serving_rules.proofs.Serving.{agents_after}
-use Rattle.load_script.proofs.Drawing.{drawn_length}
+use Rattle.run_rules.proofs.Serving.{agents_after}
+use Rattle.load_player.proofs.Drawing.{drawn_length}
 use Rattle.load_player.proofs.Lines.{each_line}
 use Rattle.load_player.proofs.Saying.{AsksOne, load_opening, request_said, settle_said, timeout_said, script_is}
 

@@ -7,9 +7,9 @@ use Rattle.cat_model.specs.declared.request.Asked.{Asked}
 use Rattle.cat_model.specs.declared.request.Draw.{Draw}
 use Rattle.cat_model.specs.declared.request.Event.TheVariants.{Ask, Timeout}
 use Rattle.http_routes.specs.Routes.{route_of}
-use Rattle.load_script.specs.declared.method.Method.{Method}
-use Rattle.load_script.specs.declared.method.Method.TheVariants.{Put, Get, Delete}
-use Rattle.load_script.specs.LoadScript.{request, requests_from, load_script, drawn}
+use Rattle.load_player.specs.declared.method.Method.{Method}
+use Rattle.load_player.specs.declared.method.Method.TheVariants.{Put, Get, Delete}
+use Rattle.load_player.specs.LoadScript.{request, requests_from, load_script, drawn}
 use Rattle.script_lang.specs.declared.bad_line.BadLine.{BadLine}
 use Rattle.script_lang.specs.declared.bad_line.BadLine.TheVariants.{BadRequestLine, UnknownLine, ExpectedCluster}
 use Rattle.script_lang.specs.declared.line.Line.{Line}
@@ -19,7 +19,7 @@ use Rattle.script_lang.specs.Lines.{any64, asking, first_of, opening, worded}
 use Rattle.script_lang.specs.Numbers.{number_in, is_within}
 use Rattle.script_lang.specs.Requests.{asked_of, body_of, is_token}
 use Rattle.script_lang.specs.Words.{is_nothing, rest_of, words_of}
-use Rattle.script_runs.specs.Lines.{Said, Makes, Refuses, Settles}
+use Rattle.run_rules.specs.Lines.{Said, Makes, Refuses, Settles}
 use Rattle.script_player.specs.declared.openings.Opening.{Opening}
 use Rattle.script_player.specs.Script.{Opened, said, said_of, opened_at, opened_by, opening_of, script_from, script_of}
 use Rattle.load_player.proofs.Decimals.{and_true, is_some_text, number_read}

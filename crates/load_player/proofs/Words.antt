@@ -3,8 +3,8 @@ use Rattle.std.proofs.Common.{◌≡◌, ℕ, ◌+◌, ◌<◌, ◌^◌, Bool, t
 use Rattle.std.specs.Fmt.{decimal}
 use Rattle.std.specs.List.{list_all, onto_first}
 use Rattle.std.proofs.lemmas.Bool.Decides.{nat_tests}
-use Rattle.load_script.specs.declared.method.Method.TheVariants.{Put, Get, Delete}
-use Rattle.load_script.specs.LoadScript.{request}
+use Rattle.load_player.specs.declared.method.Method.TheVariants.{Put, Get, Delete}
+use Rattle.load_player.specs.LoadScript.{request}
 use Rattle.script_lang.specs.Requests.{is_token_byte, is_token}
 use Rattle.script_lang.specs.Words.{is_space, words_of}
 use Rattle.load_player.proofs.Decimals.{decimal_all, all_append, and_true}

@@ -1,2 +1,4 @@
 pub mod Load
 pub mod Played
+pub mod LoadScript
+pub mod Summary

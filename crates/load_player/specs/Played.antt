@@ -3,8 +3,8 @@ use Rattle.std.specs.Prelude.{◌⊎◌, ℕ, List, [], flat_map, length, Option
 use Rattle.std.specs.Io.KnownBytes.{Appends}
 use Rattle.cluster_rules.specs.Replies.{Out}
 use Rattle.cluster_rules.specs.Cluster.{Cluster}
-use Rattle.load_script.specs.LoadScript.{load_script}
-use Rattle.load_script.specs.Summary.{summary_text}
+use Rattle.load_player.specs.LoadScript.{load_script}
+use Rattle.load_player.specs.Summary.{summary_text}
 use Rattle.script_player.specs.declared.report.Report.{Report}
 use Rattle.script_player.specs.Found.{found_in}
 use Rattle.script_player.specs.Run.{RunOf, WritesPart}

@@ -1,7 +1,7 @@
 ghost use Rattle.std.specs.Prelude.{◌≡◌, ◌≤◌, IfOk, OnOk, OnErr, MatchResult, flat_map};
 ghost use Rattle.std.specs.Io.KnownBytes.{Appends};
-ghost use Rattle.load_script.specs.LoadScript.{load_script};
-ghost use Rattle.load_script.specs.Summary.{summary_text};
+ghost use Rattle.load_player.specs.LoadScript.{load_script};
+ghost use Rattle.load_player.specs.Summary.{summary_text};
 ghost use Rattle.script_player.specs.Found.{found_in};
 ghost use Rattle.script_player.specs.Run.{RunOf, WritesPart};
 ghost use Rattle.script_player.specs.Script.{script_of};
@@ -9,10 +9,11 @@ ghost use Rattle.script_player.specs.Stage.{CountsWrite};
 ghost use Rattle.load_player.specs.Played.{PlayedLoad, WritesLoadPart};
 
 use crate::load::Load;
+use crate::script::make_load;
+use crate::summary::summarize;
 use cat_model::Memory;
-use cat_outside::{KeepFail, MemKeeper, Sink};
 use cluster_interface::ClusterInterface;
-use load_script::{make_load, summarize};
+use outside::{KeepFail, MemKeeper, Sink};
 use script_player::{Found, Report, play_finding, write_all};
 use std::alloc::Global;
 

@@ -9,7 +9,7 @@ use Rattle.raft_node.specs.Steps.{Proposes, Steps, FindsNoMemory as NodeFindsNoM
 use Rattle.raft_node.specs.declared.fault.ProposeFault.{ProposeFault}
 use Rattle.raft_node.specs.declared.fault.ProposeFault.TheVariants.{Full, Halted, Memory, NotLeader}
 use Rattle.node_journals.specs.Journals.{Event, Given, IsStep, IsUnnumbered, Process, Step}
-use Rattle.node_link.proofs.Forgetting.{forgot}
+use Rattle.raft_model.proofs.Forgetting.{forgot}
 use Rattle.node_link.proofs.Lists.{ended_more, journal_more, made_more}
 use Rattle.node_link.specs.Hosts.{Hosted, IsHost, told}
 use Rattle.node_link.specs.Outboxes.{Unsent, posted_all}

@@ -1,4 +1,3 @@
-mod Forgetting
 mod Hosting
 mod Linked
 mod Lists

@@ -6,7 +6,7 @@ ghost use Rattle.node_journals.specs.Journals.{Process};
 
 use crate::happened::Happened;
 use cat_model::List;
-use cat_outside::Keeper;
+use outside::Keeper;
 use raft_model::{Message, Sent};
 use raft_node::Node;
 use std::marker::Model;

@@ -14,7 +14,7 @@ use crate::history::History;
 use crate::outbox::Outbox;
 use crate::status::Status;
 use cat_model::{Command, List, Memory, Shared};
-use cat_outside::{KeepFail, Keeper};
+use outside::{KeepFail, Keeper};
 use raft_model::{Message, Place, Sent};
 use raft_node::{Node, ProposeFault};
 use std::alloc::Global;

@@ -4,8 +4,8 @@ use Rattle.std.specs.Prelude.{OnOk, is_err}
 use Rattle.std.specs.List.{cons_option, filter_map, list_any}
 use Rattle.cat_model.specs.declared.memory.Memory.{Memory as Lacks}
 use Rattle.std.proofs.lemmas.List.{append_assoc, append-nil}
-use Rattle.cat_outside.specs.declared.faults.KeepFail.{KeepFail}
-use Rattle.cat_outside.specs.declared.faults.KeepFail.TheVariants.{Failed, Memory}
+use Rattle.outside.specs.declared.faults.KeepFail.{KeepFail}
+use Rattle.outside.specs.declared.faults.KeepFail.TheVariants.{Failed, Memory}
 use Rattle.raft_model.specs.declared.message.Sent.{Sent}
 use Rattle.node_link.specs.Hosts.{Hosted}
 use Rattle.node_service.specs.declared.dialer.Piece.{Piece}

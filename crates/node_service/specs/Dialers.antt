@@ -1,9 +1,9 @@
 -- What a dialer tells, and what its calls do to that.
 use Rattle.std.specs.Prelude.{ℕ, List, [], ◌∷◌, ◌++◌, Option, Result, Ok, Err}
 use Rattle.std.specs.Option.{option_map}
-use Rattle.cat_outside.specs.Causes.{counted}
-use Rattle.cat_outside.specs.declared.faults.KeepFail.{KeepFail}
-use Rattle.cat_outside.specs.declared.faults.KeepFail.TheVariants.{Failed, Memory}
+use Rattle.outside.specs.Causes.{counted}
+use Rattle.outside.specs.declared.faults.KeepFail.{KeepFail}
+use Rattle.outside.specs.declared.faults.KeepFail.TheVariants.{Failed, Memory}
 use Rattle.node_service.specs.declared.dialer.Piece.{Piece}
 
 -- how many calls failed, and, where the dialer tells them, the pieces that it took, in order

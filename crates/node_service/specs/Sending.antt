@@ -4,8 +4,8 @@ use Rattle.std.specs.List.{filter_map, list_any}
 use Rattle.std.specs.Option.{option_map}
 use Rattle.cat_model.specs.declared.memory.Memory.{Memory}
 use Rattle.cat_model.specs.LogLimits.{entries_bytes}
-use Rattle.cat_outside.specs.declared.faults.KeepFail.{KeepFail}
-use Rattle.cat_outside.specs.declared.faults.KeepFail.TheVariants as keep
+use Rattle.outside.specs.declared.faults.KeepFail.{KeepFail}
+use Rattle.outside.specs.declared.faults.KeepFail.TheVariants as keep
 use Rattle.raft_model.specs.declared.message.Message.{Message}
 use Rattle.raft_model.specs.declared.message.Message.TheVariants.{AskVote, Vote, Append, Yes, No}
 use Rattle.raft_model.specs.declared.message.Sent.{Sent}

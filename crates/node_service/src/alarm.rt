@@ -4,8 +4,8 @@ ghost use Rattle.std.specs.Prelude.{◌≡◌, ◌+◌, ◌-◌, ◌%◌};
 ghost use Rattle.node_service.specs.Alarms.{IsDone, Rings, heard, is_due, is_from_leader, is_known, set_at, wait_of};
 
 use cat_model::{Memory, Role};
-use cat_outside::Keeper;
 use node_link::Host;
+use outside::Keeper;
 use peer_frames::Frame;
 use raft_model::Message;
 use std::alloc::Global;

@@ -6,8 +6,8 @@ ghost use Rattle.peer_frames.specs.declared.frame.Frame.TheVariants as frames;
 ghost use Rattle.node_service.specs.Answering.{AnswersFrame, IsAnswered, peers_of};
 
 use cat_model::{Command, Memory, Shared};
-use cat_outside::Keeper;
 use node_link::Host;
+use outside::Keeper;
 use peer_frames::{Frame, Why};
 use raft_model::Place;
 use raft_node::ProposeFault;

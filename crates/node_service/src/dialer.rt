@@ -4,7 +4,7 @@ ghost use Rattle.std.specs.Prelude.{◌≡◌};
 ghost use Rattle.node_service.specs.Dialers.{DialerState, brought};
 
 use cat_model::Bytes;
-use cat_outside::KeepFail;
+use outside::KeepFail;
 
 /// Bytes for a port of 127.0.0.1.
 #[derive(Debug, Drop)]

@@ -1,11 +1,11 @@
 ghost use Rattle.std.specs.Prelude.{◌≡◌, ◌↔◌, [], ◌∷◌, ◌++◌, IsErrOf, IsTrue, OnErr, OnOk, Some};
-ghost use Rattle.cat_outside.specs.Causes.{counted};
-ghost use Rattle.cat_outside.specs.InMemory.{is_listed as is_listed_of};
+ghost use Rattle.outside.specs.Causes.{counted};
+ghost use Rattle.outside.specs.InMemory.{is_listed as is_listed_of};
 ghost use Rattle.node_service.specs.Dialers.{brought};
 
 use crate::dialer::{Dialer, Piece};
 use cat_model::{Bytes, List};
-use cat_outside::{KeepFail, is_listed};
+use outside::{KeepFail, is_listed};
 use std::alloc::Global;
 
 /// A dialer in memory, which keeps the pieces that it took. A call that finds no memory has no number.

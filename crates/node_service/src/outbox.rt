@@ -10,9 +10,9 @@ ghost use Rattle.node_service.specs.Sending.{BringsAll, BringsOne, SendsAll, Tak
 
 use crate::dialer::Dialer;
 use cat_model::{Bytes, Entry, Memory};
-use cat_outside::{KeepFail, Keeper};
 use command_codec::encoded_len;
 use node_link::Host;
+use outside::{KeepFail, Keeper};
 use peer_frames::write_message;
 use raft_model::{Message, Sent};
 use std::alloc::Global;

@@ -3,7 +3,7 @@
 ghost use Rattle.std.specs.Prelude.{◌≡◌, false};
 
 use crate::echo::Echo;
-use cat_outside::Failed;
+use outside::Failed;
 use serve_outside::{Awaited, Limits, Link, Listener, TcpLinks, ThreadSpawner, finish, start};
 use std::alloc::Global;
 use std::io::{Read, Write};

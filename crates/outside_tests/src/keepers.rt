@@ -1,7 +1,7 @@
 //! What makes durable stores.
 
 use cat_model::{List, Memory};
-use cat_outside::{KeepFail, Keeper};
+use outside::{KeepFail, Keeper};
 use serve_outside::{Keepers, MadeStore, MemKeepers, SureKeepers};
 use std::alloc::Global;
 use std::test::Fail;

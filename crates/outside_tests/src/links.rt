@@ -5,7 +5,7 @@ ghost use Rattle.serve_outside.specs.InMemory.{told};
 
 use crate::echo::Echo;
 use cat_model::{Bytes, List};
-use cat_outside::{Failed, KeepFail};
+use outside::{Failed, KeepFail};
 use serve_outside::{
     Link, Listener, MemLink, MemListener, Script, TcpLinks, ThreadSpawner, finish, start,
 };

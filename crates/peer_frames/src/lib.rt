@@ -8,17 +8,17 @@
 //! `write_message`, `FrameReader::feed`, the law `stuck_begins_no_frames`.
 #![tactic(auto)]
 
-mod limits;
 mod bodies;
 mod fields;
 mod frame;
-mod pieces;
-mod verdicts;
 pub mod laws;
 mod lengths;
+mod limits;
+mod pieces;
 mod reader;
 #[cfg(test)]
 mod tests;
+mod verdicts;
 mod writer;
 
 pub use frame::{Frame, Peers, Why};

@@ -5,8 +5,8 @@ ghost use Rattle.peer_frames.specs.Spelling.{ArePeers};
 ghost use Rattle.peer_frames.specs.Fronts.{Gathers, IsHeld, MoreComes, Tells};
 
 use crate::frame::Peers;
-use crate::verdicts::{Judged, judge_body};
 use crate::lengths::{Length, read_length};
+use crate::verdicts::{Judged, judge_body};
 use cat_model::Memory;
 use std::alloc::Global;
 

@@ -4,9 +4,9 @@ ghost use Rattle.std.specs.Prelude.{◌≡◌, ◌≤◌, ◌++◌, length};
 ghost use Rattle.peer_frames.specs.Spelling.{ArePeers};
 ghost use Rattle.peer_frames.specs.Fronts.{TellsBody};
 
-use crate::limits::is_allowed;
 use crate::bodies::read_body;
 use crate::frame::{Frame, Peers};
+use crate::limits::is_allowed;
 use cat_model::Memory;
 use command_codec::{Fault, ReadError};
 use std::alloc::Global;

@@ -1,10 +1,10 @@
 //! A server that answers questions of names: over what an earlier one left in a folder, by packets in memory.
 
 use cat_model::{Bytes, List};
-use cat_outside::{SureSink, SureSource};
 use catalog_top::{Machine, run, status_of};
 use datagram_outside::{MemPort, MemPorts, Packet, PortScript};
 use host_keeper::{HostFiles, HostKeepers, JournalFiles};
+use outside::{SureSink, SureSource};
 use serve_outside::{Bells, CountWords, MemListener, MemSpawner, Script, SetClock};
 use std::alloc::Global;
 use std::process::Abort;

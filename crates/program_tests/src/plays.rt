@@ -1,9 +1,9 @@
 //! A run over a source and a sink in memory.
 
 use cat_model::{Bytes, List, Memory};
-use cat_outside::{MemSink, MemSource};
 use catalog_top::{Machine, Outcome, run};
 use datagram_outside::MemPorts;
+use outside::{MemSink, MemSource};
 use serve_outside::{Bells, CountWords, MemKeepers, MemListener, MemSpawner, Script, SetClock};
 use std::alloc::{AllocError, Global};
 use std::sync::Wait;

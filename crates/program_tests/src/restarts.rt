@@ -1,10 +1,10 @@
 //! Servers over what earlier ones left: over a folder, and over files in memory.
 
 use cat_model::{Bytes, List};
-use cat_outside::{SureSink, SureSource};
 use catalog_top::{Machine, run, status_of};
 use datagram_outside::MemPorts;
 use host_keeper::{HostFiles, HostKeepers, JournalFiles, MemFiles};
+use outside::{SureSink, SureSource};
 use serve_outside::{Bells, CountWords, MemListener, MemSpawner, Script, SetClock};
 use std::alloc::Global;
 use std::sync::Wait;

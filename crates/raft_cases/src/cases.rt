@@ -6,7 +6,7 @@ use crate::shown::unread;
 use crate::words::{Words, server};
 use crate::{functions, servers, worlds};
 use cat_model::Memory;
-use cat_outside::SureKeeper;
+use outside::SureKeeper;
 use raft_world::World;
 use std::alloc::Global;
 

@@ -5,11 +5,11 @@
 //! what that gives; other lines are nothing. `playing.rt` says which lines there are.
 #![tactic(auto)]
 
+mod cases;
 mod functions;
 mod logs;
 mod messages;
 mod numbers;
-mod cases;
 mod servers;
 mod shown;
 mod words;

@@ -9,7 +9,7 @@ use crate::shown::{
 };
 use crate::words::{Words, number, server};
 use cat_model::{Command, List, Memory, Shared};
-use cat_outside::SureKeeper;
+use outside::SureKeeper;
 use raft_model::{Place, Round, Sent};
 use raft_node::{Node, ProposeFault};
 use std::alloc::Global;

@@ -4,7 +4,7 @@
 use crate::words::answered;
 use crate::{logs, messages};
 use cat_model::{Memory, Role};
-use cat_outside::SureKeeper;
+use outside::SureKeeper;
 use raft_model::{Place, Round, Sent};
 use raft_node::{Node, ProbeFault, ProposeFault};
 use std::alloc::{AllocError, Global};

@@ -11,7 +11,7 @@ use crate::shown::{put_node, put_place, put_round, refused, unprobed, unread};
 use crate::words::{Words, number, server};
 use crate::{logs, messages};
 use cat_model::{Command, List, Memory, Shared};
-use cat_outside::SureKeeper;
+use outside::SureKeeper;
 use raft_model::{Place, Round};
 use raft_node::{ProbeFault, ProposeFault};
 use raft_world::World;

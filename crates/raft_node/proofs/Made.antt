@@ -4,7 +4,7 @@ use Rattle.std.specs.Option.{ForSome}
 use Rattle.cat_model.specs.Keeping.{with_entries}
 use Rattle.cat_model.specs.LogLimits.{keeps_limits}
 use Rattle.cat_model.specs.declared.reply.Role.TheVariants.{Follower}
-use Rattle.cat_outside.specs.Keepers.{MayStore}
+use Rattle.outside.specs.Keepers.{MayStore}
 use Rattle.raft_model.specs.Log.{Log}
 use Rattle.raft_model.specs.Node.{Kept, Store, Node}
 use Rattle.raft_model.specs.Step.{CallWorks, CallFails, VoteSaved, changed, with_log, with_vote}

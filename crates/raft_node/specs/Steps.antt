@@ -8,8 +8,8 @@ use Rattle.raft_model.specs.Log.{Log}
 use Rattle.raft_model.specs.Node.{Kept, Store, Node, Done, last}
 use Rattle.cat_model.specs.declared.command.Command.{Command}
 use Rattle.cat_model.specs.declared.reply.Role.TheVariants.{Leader}
-use Rattle.cat_outside.specs.declared.faults.KeepFail.{KeepFail}
-use Rattle.cat_outside.specs.declared.faults.KeepFail.TheVariants.{Failed, Memory}
+use Rattle.outside.specs.declared.faults.KeepFail.{KeepFail}
+use Rattle.outside.specs.declared.faults.KeepFail.TheVariants.{Failed, Memory}
 use Rattle.raft_model.specs.Rules.{Input, Propose, has_room}
 use Rattle.raft_model.specs.Step.{CallWorks, CallFails, SavesVote, StoresLog, VoteSaved, LogStored, Outcome, Works, VoteFails, LogFails, Forgets, NodeStep, as_before, halts, forgets, with_vote, with_log}
 use Rattle.cat_model.specs.Keeping.{with_entries}

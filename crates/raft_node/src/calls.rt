@@ -15,10 +15,10 @@ use crate::elections::elects;
 use crate::fault::{ProbeFault, ProposeFault};
 use crate::leader::appends;
 use crate::node::Node;
-use crate::quorum::have_reached;
 use crate::outbox::append_all;
+use crate::quorum::have_reached;
 use cat_model::{Command, Entry, List, Memory, Role, Shared};
-use cat_outside::Keeper;
+use outside::Keeper;
 use raft_model::{Place, Round, Sent};
 use std::alloc::Global;
 

@@ -5,10 +5,10 @@ ghost use Rattle.raft_model.specs.Rules.{Receive};
 ghost use Rattle.raft_node.specs.Receiving.{IsOther, CarriesAllowed};
 ghost use Rattle.raft_node.specs.Steps.{Steps, FindsNoMemory};
 
-use crate::node::Node;
 use crate::messages::received;
+use crate::node::Node;
 use cat_model::{List, Memory};
-use cat_outside::Keeper;
+use outside::Keeper;
 use raft_model::{Message, Sent};
 use std::alloc::Global;
 

@@ -8,8 +8,8 @@
 //! by: clauses of `Node`.
 #![tactic(auto)]
 
-pub mod appends;
 pub mod acks;
+pub mod appends;
 pub mod batch;
 mod calls;
 mod counted;
@@ -18,11 +18,11 @@ mod elections;
 mod fault;
 mod leader;
 pub mod log;
-mod node;
-pub mod quorum;
 mod messages;
-mod saves;
+mod node;
 mod outbox;
+pub mod quorum;
+mod saves;
 mod start;
 mod state;
 pub mod votes;

@@ -8,7 +8,7 @@ ghost use Rattle.raft_model.specs.Step.{arms};
 use crate::counted::Counted;
 use crate::state::State;
 use cat_model::{Entry, List, Role};
-use cat_outside::Keeper;
+use outside::Keeper;
 use std::marker::Model;
 
 /// A server of a cluster, over its durable store. Contracts see it as a node of the definitions of Raft.

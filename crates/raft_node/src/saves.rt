@@ -2,14 +2,14 @@
 
 ghost use Rattle.std.specs.Prelude.{◌≡◌, ◌+◌, ◌^◌, ◌<◌, ◌≤◌, ℕ, true, false, ◌++◌, length, take, OnOk, IfOk, OnErr, IsErrOf};
 ghost use Rattle.std.specs.Option.{ForSome};
-ghost use Rattle.cat_outside.specs.Keepers.{MayStore};
+ghost use Rattle.outside.specs.Keepers.{MayStore};
 ghost use Rattle.raft_node.specs.Nodes.{Fits, MayReplace, after, planned_of, seen};
 ghost use Rattle.raft_node.specs.Steps.{Makes, Remains, VoteKept, VoteFailed, IsStored, IsFailed, stored};
 
 use crate::node::Node;
 use crate::state::{Planned, State, Tail};
 use cat_model::{Entry, List, Memory};
-use cat_outside::{KeepFail, Keeper};
+use outside::{KeepFail, Keeper};
 use raft_model::Sent;
 use std::alloc::Global;
 use std::mem;

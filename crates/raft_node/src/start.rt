@@ -10,7 +10,7 @@ use crate::counted::Counted;
 use crate::node::Node;
 use crate::state::State;
 use cat_model::{Memory, Role};
-use cat_outside::{KeepFail, Keeper};
+use outside::{KeepFail, Keeper};
 use std::alloc::Global;
 
 impl<K: Keeper + Drop> Node<K> {

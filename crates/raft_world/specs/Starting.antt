@@ -1,7 +1,7 @@
 -- What becomes of the stores where servers are to begin.
 use Rattle.std.specs.Prelude.{◌≡◌, ℕ, List, [], ◌∷◌, ◌++◌, ◌⊎◌}
-use Rattle.cat_outside.specs.declared.faults.KeepFail.{KeepFail}
-use Rattle.cat_outside.specs.declared.faults.KeepFail.TheVariants.{Memory}
+use Rattle.outside.specs.declared.faults.KeepFail.{KeepFail}
+use Rattle.outside.specs.declared.faults.KeepFail.TheVariants.{Memory}
 use Rattle.raft_model.specs.Node.{Node, Store}
 use Rattle.raft_model.specs.Step.{CallWorks, as_before}
 use Rattle.raft_model.specs.World.{StartAll}

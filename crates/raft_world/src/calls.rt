@@ -9,7 +9,7 @@ ghost use Rattle.raft_world.specs.Steps.{Delivers, FindsNoMemory, IsNumber, Keep
 use crate::steps::{place, settle};
 use crate::world::World;
 use cat_model::Memory;
-use cat_outside::Keeper;
+use outside::Keeper;
 use std::alloc::Global;
 
 impl<K: Keeper + Drop> World<K> {

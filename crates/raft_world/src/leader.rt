@@ -9,7 +9,7 @@ ghost use Rattle.raft_world.specs.Steps.{Begun, IsNumber, KeepsAgreement, Leads,
 use crate::steps::{place, settle};
 use crate::world::World;
 use cat_model::{Command, Shared};
-use cat_outside::Keeper;
+use outside::Keeper;
 use raft_model::{Place, Round};
 use raft_node::{ProbeFault, ProposeFault};
 use std::alloc::Global;

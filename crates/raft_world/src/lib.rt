@@ -16,8 +16,8 @@ pub mod bag;
 mod calls;
 pub mod laws;
 mod leader;
-mod steps;
 mod start;
+mod steps;
 pub mod weight;
 mod world;
 

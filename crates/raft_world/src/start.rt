@@ -13,7 +13,7 @@ use crate::agreed::Agreed;
 use crate::bag::Bag;
 use crate::world::World;
 use cat_model::{List, Memory};
-use cat_outside::{KeepFail, Keeper};
+use outside::{KeepFail, Keeper};
 use raft_node::Node;
 use std::alloc::Global;
 

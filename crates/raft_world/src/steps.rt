@@ -8,7 +8,7 @@ ghost use Rattle.raft_world.specs.Agreeing.{grown};
 use crate::agreed::Agreed;
 use crate::bag::Bag;
 use cat_model::List;
-use cat_outside::Keeper;
+use outside::Keeper;
 use raft_model::{Message, Sent};
 use raft_node::Node;
 

@@ -11,7 +11,7 @@ use crate::agreed::Agreed;
 use crate::bag::{Bag, Packet};
 use crate::steps::place;
 use cat_model::Entry;
-use cat_outside::Keeper;
+use outside::Keeper;
 use raft_node::Node;
 use std::marker::Model;
 

@@ -4,3 +4,7 @@ pub mod Places
 pub mod Leavers
 pub mod Ascending
 pub mod Waiting
+pub mod Holds
+pub mod Buckets
+pub mod Hits
+pub mod Leaves

@@ -6,7 +6,7 @@ use Rattle.std.specs.declared.cmp.Ordering.TheVariants.{Less, Equal, Greater}
 use Rattle.std.specs.Map.{lookup, remove_entry}
 use Rattle.std.specs.BTreeMap.{is_at, insert_entry}
 use Rattle.cat_model.specs.declared.query.Chan.{Chan}
-use Rattle.watch_registry.proofs.Holds.{key_same}
+use Rattle.read_watch.proofs.Holds.{key_same}
 use Rattle.read_watch.specs.Watch.{AreNumbers}
 
 -- the timers' keys stay numbers of requests

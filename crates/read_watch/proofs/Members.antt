@@ -7,7 +7,7 @@ use Rattle.std.proofs.lemmas.Bool.{eqb-true, eq-eqb, true≢false}
 use Rattle.std.proofs.lemmas.List.{take_more}
 use Rattle.std.proofs.lemmas.Map.Views.{Contains-from_any}
 use Rattle.cat_model.specs.declared.query.Chan.{Chan}
-use Rattle.watch_registry.proofs.Holds.{key_same}
+use Rattle.read_watch.proofs.Holds.{key_same}
 use Rattle.read_watch.specs.Watch.{is_among}
 
 pub listed : (n : ℕ) (xs : List ℕ) → is_among n xs ≡ true → Contains xs n

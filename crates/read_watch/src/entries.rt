@@ -6,10 +6,10 @@ ghost use Rattle.std.specs.Map.{lookup, remove_entry};
 ghost use Rattle.std.specs.BTreeMap.{is_at, insert_entry};
 ghost use Rattle.read_watch.specs.Watch.{AreNumbers};
 
+use crate::registry::WatchRegistry;
 use cat_model::{Chan, List};
 use std::alloc::Global;
 use timer_wheel::TimerWheel;
-use watch_registry::WatchRegistry;
 
 /// How many reads may sleep at a server.
 const MOST: usize = 4_096;

@@ -8,10 +8,10 @@ ghost use Rattle.std.specs.BTreeMap.{is_at};
 ghost use Rattle.timer_wheel.specs.Dues.{AreDue};
 ghost use Rattle.read_watch.specs.Watch.{AreNumbers, is_among};
 
+use crate::registry::WatchRegistry;
 use cat_model::{List, Memory};
 use std::alloc::Global;
 use timer_wheel::TimerWheel;
-use watch_registry::WatchRegistry;
 
 /// Takes the timers of these numbers out.
 pub fn cancel_each(timers: &mut TimerWheel, numbers: &[u64])

@@ -9,11 +9,11 @@ ghost use Rattle.timer_wheel.specs.Dues.{AreDue};
 
 use crate::entries::enter;
 use crate::exits::{cancel_each, remove_each, take_due};
+use crate::registry::WatchRegistry;
 use cat_model::{Chan, List, Memory};
 use std::alloc::Global;
 use std::marker::Model;
 use timer_wheel::TimerWheel;
-use watch_registry::WatchRegistry;
 
 /// The reads that sleep at a server: each a waiter on its channels, with a timer for its deadline.
 #[derive(Drop)]

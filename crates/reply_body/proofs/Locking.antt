@@ -5,7 +5,7 @@ use Rattle.std.proofs.lemmas.Bool.Decides.{nat_tests}
 use Rattle.std.specs.List.{position, position_or_len}
 use Rattle.cat_model.specs.Keys.{same_text}
 use Rattle.cat_model.specs.declared.command.TxnOp.{TxnOp}
-use Rattle.office_rules.specs.Locks.{is_lock}
+use Rattle.cluster_rules.specs.Locks.{is_lock}
 use Rattle.reply_body.specs.Others.{locking_place}
 
 -- the operation locks the key

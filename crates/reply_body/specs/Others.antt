@@ -10,7 +10,7 @@ use Rattle.cat_model.specs.declared.command.TxnOp.{TxnOp}
 use Rattle.cat_model.specs.declared.query.Ran.{Ran}
 use Rattle.cat_model.specs.declared.reply.Form.TheVariants.{Json}
 use Rattle.cat_model.specs.declared.row.SessionRow.{SessionRow}
-use Rattle.office_rules.specs.Locks.{is_lock}
+use Rattle.cluster_rules.specs.Locks.{is_lock}
 use Rattle.reply_body.specs.Bodies.{json, plain}
 use Rattle.row_objects.specs.Objects.{health_data}
 use Rattle.reply_body.specs.Rows.{duration_text, session_data}

@@ -1,7 +1,7 @@
 ghost use Rattle.std.specs.Prelude.{◌≡◌, IfOk, option_map};
 ghost use Rattle.std.specs.Option.{option_copied};
 ghost use Rattle.filter_expr.specs.Expressions.{expression_of};
-ghost use Rattle.open_requests.specs.Contents.{content_of};
+ghost use Rattle.cluster_requests.specs.Contents.{content_of};
 ghost use Rattle.reply_body.specs.Contents.{shown_content};
 ghost use Rattle.reply_body.specs.Filtered.{kept_content};
 
@@ -12,8 +12,8 @@ use crate::refusals::refusal_body;
 use crate::shown::Shown;
 use crate::writes::write_body;
 use cat_model::Memory;
+use cluster_requests::Content;
 use filter_expr::Filter;
-use open_requests::Content;
 use std::alloc::Global;
 
 /// The status, body and form of what a reply shows, of whose list the filter leaves what it keeps.

@@ -17,7 +17,7 @@ use std::alloc::Global;
 #[tactic(auto, using(crate::proofs::Statuses::is_code))]
 pub fn written_through(
     alloc: Global,
-    reply: &open_requests::Reply,
+    reply: &cluster_requests::Reply,
     filter: Option<&Filter>,
 ) -> Result<Reply, Memory>
     ensures reply { IfOk result (λ r. r ≡ written_reply (shown (option_map expression_of (option_copied filter.entry)) reply.now)) }
@@ -38,7 +38,7 @@ pub fn written_through(
 
 /// The reply with all that its content shows.
 #[tactic(auto, using(crate::proofs::Whole::shown_whole))]
-pub fn written(alloc: Global, reply: &open_requests::Reply) -> Result<Reply, Memory>
+pub fn written(alloc: Global, reply: &cluster_requests::Reply) -> Result<Reply, Memory>
     ensures reply { IfOk result (λ r. r ≡ written_reply reply.now) }
     ensures status { IfOk result (λ r. (100 ≤ r.status) × (r.status < 1000)) }
 {

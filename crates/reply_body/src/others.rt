@@ -5,7 +5,7 @@ ghost use Rattle.std.specs.List.{position};
 ghost use Rattle.serde_json.specs.Data.{array};
 ghost use Rattle.serde_json.specs.View.{view, items_of};
 ghost use Rattle.cat_model.specs.Keys.{same_text};
-ghost use Rattle.office_rules.specs.Locks.{is_lock};
+ghost use Rattle.cluster_rules.specs.Locks.{is_lock};
 ghost use Rattle.reply_body.specs.Rows.{session_data};
 ghost use Rattle.reply_body.specs.Bodies.{json as json_body};
 ghost use Rattle.reply_body.specs.Others as spec;

@@ -17,7 +17,7 @@ use Rattle.cat_model.specs.declared.reply.Mark.TheVariants as mark
 use Rattle.cat_model.specs.declared.reply.Refusal.{Refusal}
 use Rattle.cat_model.specs.declared.reply.Refusal.TheVariants as refusal
 use Rattle.cat_model.specs.declared.reply.Role.TheVariants.{Leader}
-use Rattle.agent_rules.specs.Agents.{Agent, change, unknown}
+use Rattle.cluster_rules.specs.Agents.{Agent, change, unknown}
 use Rattle.raft_model.specs.Log.{term_at}
 use Rattle.raft_model.specs.Node.{Node, Store}
 use Rattle.raft_model.specs.Rules.{Propose, has_room, proposal, term_of}
@@ -38,7 +38,7 @@ use Rattle.cluster_rules.proofs.Handling.{fresh_look}
 use Rattle.cluster_rules.proofs.Reached.{fresh_server}
 use Rattle.cluster_rules.proofs.Tools.{each_append, is_node, is_place, item_same}
 use Rattle.cluster_rules.specs.Lasting.{is_stale}
-use Rattle.serving_rules.specs.Serving.{AreServing, Serves, Size}
+use Rattle.run_rules.specs.Serving.{AreServing, Serves, Size}
 use Rattle.rerun_rules.specs.Leading.{CameBad, IsForemost, TellsLoss}
 use Rattle.rerun_rules.proofs.Ahead.{IsAhead, IsFirsts, IsWell, StaysAhead, acts_ahead, leader_works}
 use Rattle.rerun_rules.proofs.Bags.{each_without}

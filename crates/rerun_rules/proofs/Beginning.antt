@@ -12,7 +12,7 @@ use Rattle.cluster_rules.specs.Cluster.{Cluster, no_node, node_of, runs_leading}
 use Rattle.cluster_rules.specs.Reached.{AreSure, AreUnarmed, IsBegun}
 use Rattle.cluster_rules.proofs.Boundary.{leading_tells}
 use Rattle.cluster_rules.proofs.Tools.{eq_tells_not, is_node, is_place, there_or_none}
-use Rattle.serving_rules.specs.Serving.{Serves, Size}
+use Rattle.run_rules.specs.Serving.{Serves, Size}
 use Rattle.rerun_rules.specs.Leading.{HoldBehind, HoldUpTo, IsAheadBy, IsForemost, OnlyFirstLeads, WasAt}
 use Rattle.rerun_rules.proofs.Ahead.{AreAllFirsts, AreBelow, HoldsFirst, IsAhead, IsWell, call_works}
 use Rattle.rerun_rules.proofs.Serving.{run_ahead, run_since}

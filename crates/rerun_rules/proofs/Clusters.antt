@@ -26,8 +26,8 @@ use Rattle.cluster_rules.proofs.Steps.{all_applied}
 use Rattle.cluster_rules.proofs.Terms.{reached_has}
 use Rattle.cluster_rules.proofs.Tools.{not_tells_not}
 use Rattle.cluster_rules.proofs.Works.{commit_agrees}
-use Rattle.serving_rules.specs.Serving.{Serves, Size}
-use Rattle.serving_rules.proofs.ServingHolds.{run_goes}
+use Rattle.run_rules.specs.Serving.{Serves, Size}
+use Rattle.run_rules.proofs.ServingHolds.{run_goes}
 use Rattle.rerun_rules.specs.Follows.{Follows}
 use Rattle.rerun_rules.proofs.Twins.{one_log, ready_has_it}
 

@@ -19,7 +19,7 @@ use Rattle.cluster_rules.specs.Reached.{IsBegun, Makes, Move, Reached, at_start,
 use Rattle.cluster_rules.specs.Sound.{IsAmong}
 use Rattle.cluster_rules.specs.Step.{ClusterStep, received}
 use Rattle.cluster_rules.proofs.Tools.{both, each_map, is_place, there_or_none}
-use Rattle.serving_rules.specs.Serving.{AreServing, Serves}
+use Rattle.run_rules.specs.Serving.{AreServing, Serves}
 use Rattle.rerun_rules.specs.Leading.{Election, HoldBehind, IsAheadBy, LaterElection, OnlyDelivered}
 use Rattle.rerun_rules.proofs.Ahead.{IsAhead, IsFirsts, StaysAhead, acts_ahead}
 use Rattle.rerun_rules.proofs.Bags.{among_left, among_without, each_numbered, each_without, without_then}

@@ -11,7 +11,7 @@ use Rattle.cluster_rules.specs.Reached.{AreSure}
 use Rattle.cluster_rules.specs.Requests.{Answers, Goes, to_leader, way_of}
 use Rattle.cluster_rules.proofs.Boundary.{leading_tells}
 use Rattle.cluster_rules.proofs.Tools.{eq_tells_not, is_place, there_or_none}
-use Rattle.serving_rules.specs.Serving.{Serves, Size}
+use Rattle.run_rules.specs.Serving.{Serves, Size}
 use Rattle.rerun_rules.specs.Leading.{Election, FindsLeader, LaterElection, IsForemost, WasAt}
 use Rattle.rerun_rules.proofs.Ahead.{HoldsFirst, IsAhead, StaysAhead}
 use Rattle.rerun_rules.proofs.Beginning.{ahead_foremost, runs_on, start_ahead}

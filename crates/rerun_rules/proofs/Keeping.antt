@@ -19,7 +19,7 @@ use Rattle.raft_model.specs.World.{Acts as NodeActs, World}
 use Rattle.raft_model.proofs.Going.{longer_length}
 use Rattle.raft_model.proofs.Logs.{agree_term, front_take}
 use Rattle.raft_model.proofs.Tests.{at_bool, eq_tells}
-use Rattle.office_rules.specs.Offices.{Office, office_from}
+use Rattle.cluster_rules.specs.Offices.{Office, office_from}
 use Rattle.cluster_rules.specs.Cluster.{AtPlace, Cluster, Ended, ForIndex, InRound, Pending, Server, Stand, applied_of, clock_of, no_server, node_of, runs_leading, seated, server_of, took_office, with_office}
 use Rattle.cluster_rules.specs.Due.{Applies, Closes, Holds, IsDue, Replies, Work, Works, answered, applies_entry, did, landed, none, waiting, work}
 use Rattle.cluster_rules.specs.Proposals.{looked}

@@ -10,7 +10,7 @@ use Rattle.cluster_rules.specs.Cluster.{Cluster, no_node, node_of}
 use Rattle.cluster_rules.specs.Reached.{AreSure, MayBegin}
 use Rattle.cluster_rules.proofs.Reached.{run_sound}
 use Rattle.cluster_rules.proofs.Starting.{kept_start}
-use Rattle.serving_rules.specs.Serving.{Serves, Size}
+use Rattle.run_rules.specs.Serving.{Serves, Size}
 use Rattle.rerun_rules.specs.Leading.{HoldUpTo, IsForemost}
 use Rattle.rerun_rules.proofs.Ahead.{IsAhead}
 use Rattle.rerun_rules.proofs.Beginning.{start_ahead}

@@ -22,7 +22,7 @@ use Rattle.cluster_rules.specs.Reached.{AreSure, MayBegin}
 use Rattle.cluster_rules.proofs.Reached.{start_sound}
 use Rattle.cluster_rules.proofs.Starting.{kept_start}
 use Rattle.cluster_rules.proofs.Tools.{eq_tells_not, get_default, is_node, is_place, item_other, item_same}
-use Rattle.serving_rules.specs.Serving.{Serves, Size}
+use Rattle.run_rules.specs.Serving.{Serves, Size}
 use Rattle.rerun_rules.specs.Leading.{HoldBehind, IsAheadBy}
 use Rattle.rerun_rules.proofs.Ahead.{IsAhead, May, StaysAhead, acts_ahead}
 use Rattle.rerun_rules.proofs.Beginning.{ahead_foremost, start_ahead}

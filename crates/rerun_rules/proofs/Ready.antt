@@ -29,8 +29,8 @@ use Rattle.cluster_rules.proofs.Reached.{run_sound, start_sound}
 use Rattle.cluster_rules.proofs.Starting.{kept_start}
 use Rattle.cluster_rules.proofs.Steps.{all_applied}
 use Rattle.cluster_rules.proofs.Tools.{is_place}
-use Rattle.serving_rules.specs.Serving.{Serves}
-use Rattle.serving_rules.proofs.ServingHolds.{run_goes}
+use Rattle.run_rules.specs.Serving.{Serves}
+use Rattle.run_rules.proofs.ServingHolds.{run_goes}
 use Rattle.rerun_rules.specs.Leading.{Election, WasAt}
 use Rattle.rerun_rules.proofs.Ahead.{IsAhead, StaysAhead}
 use Rattle.rerun_rules.proofs.Beginning.{empty_foremost, runs_on, start_ahead}

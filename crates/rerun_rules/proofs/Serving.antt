@@ -10,8 +10,8 @@ use Rattle.cat_model.specs.declared.request.Request.TheVariants.{Agent as OfAgen
 use Rattle.raft_model.specs.Rules.{Beat, Input, Receive, Timeout, term_of}
 use Rattle.raft_model.specs.World.{Acts as NodeActs, Drops, Move as WorldMove, Packet, Probes, Proposes, Ticks, World, WorldStep, numbered}
 use Rattle.raft_model.proofs.Tests.{at_bool, eq_tells}
-use Rattle.agent_rules.specs.Agents.{Agent, change}
-use Rattle.office_rules.specs.Offices.{office_from}
+use Rattle.cluster_rules.specs.Agents.{Agent, change}
+use Rattle.cluster_rules.specs.Offices.{office_from}
 use Rattle.cluster_rules.specs.Cluster.{Cluster, agent_of, clock_of, node_of, seated, took_office, with_office}
 use Rattle.cluster_rules.specs.Due.{Applies, Closes, Holds, Replies, Work, Works, did, none, work}
 use Rattle.cluster_rules.specs.Proposals.{Proposals, Syncs, Tends, adopted, agent_did, breaks, breaks_off, cut_first, cut_off, did_own, enters, finds_none, idles, in_turn, looked, none_left, over_rows, plans, refuses, told, with_ends}
@@ -20,7 +20,7 @@ use Rattle.cluster_rules.specs.Replies.{Question, entered}
 use Rattle.cluster_rules.specs.Requests.{Handles, delays, full, moved, probes, proposes, reads, renews, stops, unready}
 use Rattle.cluster_rules.specs.Step.{Acts, ClusterStep, Does, Passes, act, arms, cut, cut_between, cut_early, done, handles, input_of, leaderless, loses, marked, noted, over, passed, received, replies, restarts, stays, syncs, takes, tends, ticks}
 use Rattle.cluster_rules.proofs.Boundary.{input_is}
-use Rattle.serving_rules.specs.Serving.{AreServing, IsServing}
+use Rattle.run_rules.specs.Serving.{AreServing, IsServing}
 use Rattle.rerun_rules.specs.Leading.{WasAt}
 use Rattle.rerun_rules.proofs.Ahead.{IsAhead, IsFirsts, May, StaysAhead, acts_ahead, ahead_on}
 use Rattle.std.proofs.Math.Seq.{take-length}

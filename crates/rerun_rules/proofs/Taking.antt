@@ -6,7 +6,7 @@ use Rattle.raft_model.specs.Rules.{Input}
 use Rattle.raft_model.specs.Step.{Forgets}
 use Rattle.raft_model.specs.World.{Acts as NodeActs, Drops, World, WorldStep}
 use Rattle.raft_model.proofs.Tests.{at_bool}
-use Rattle.office_rules.specs.Offices.{office_from}
+use Rattle.cluster_rules.specs.Offices.{office_from}
 use Rattle.cluster_rules.specs.Cluster.{Cluster, clock_of, seated, took_office, with_office}
 use Rattle.cluster_rules.specs.Due.{Applies, Closes, Holds, Replies, Work, Works, did, none, work}
 use Rattle.cluster_rules.specs.Proposals.{is_agents, sync_of}

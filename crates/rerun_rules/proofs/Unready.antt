@@ -24,7 +24,7 @@ use Rattle.cluster_rules.proofs.Boundary.{commit_within, leader_there}
 use Rattle.cluster_rules.proofs.Reached.{start_sound}
 use Rattle.cluster_rules.proofs.Starting.{kept_start}
 use Rattle.cluster_rules.proofs.Steps.{all_applied}
-use Rattle.serving_rules.specs.Serving.{AreServing, Serves}
+use Rattle.run_rules.specs.Serving.{AreServing, Serves}
 use Rattle.rerun_rules.specs.Leading.{CameBad, Election, WasAt}
 use Rattle.rerun_rules.proofs.Ahead.{IsAhead}
 use Rattle.rerun_rules.proofs.Answering.{IsCalm, handed_kept, run_kept, settled_kept, start_kept, step_kept, taken_kept}

@@ -18,7 +18,7 @@ use Rattle.cluster_rules.specs.Reached.{AreSure, Move, Makes, Settles, Reached}
 use Rattle.cluster_rules.specs.Reached.{at_start, by_event, by_taking, by_handing, by_settling, by_advancing}
 use Rattle.cluster_rules.specs.Requests.{Goes, way_of}
 use Rattle.cluster_rules.specs.Sound.{IsAmong}
-use Rattle.serving_rules.specs.Serving.{Serves, Size}
+use Rattle.run_rules.specs.Serving.{Serves, Size}
 
 -- each of these stores tells what it holds, with a term that is not above this one
 abbrev pub HoldUpTo : ℕ → List Store → Type 0

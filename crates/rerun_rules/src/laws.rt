@@ -12,7 +12,7 @@ ghost use Rattle.cluster_rules.specs.Lasting.{IsEntered, IsWrite};
 ghost use Rattle.cluster_rules.specs.Replies.{Question, came, entered};
 ghost use Rattle.cluster_rules.specs.Requests.{is_ready};
 ghost use Rattle.cluster_rules.specs.Sound.{IsAmong, Sound};
-ghost use Rattle.serving_rules.specs.Serving.{Serves, Size};
+ghost use Rattle.run_rules.specs.Serving.{Serves, Size};
 ghost use Rattle.rerun_rules.specs.Follows.{Follows};
 
 /// The agreed logs of both are fronts of one log.

@@ -15,7 +15,7 @@ ghost use Rattle.raft_model.specs.Node.{Kept, Store};
 ghost use Rattle.raft_model.specs.World.{AreEmpty, HoldAll, nothing_kept};
 ghost use Rattle.rerun_rules.specs.Leading.{CameBad, Election, FindsLeader, IsAheadBy, IsForemost, LaterElection};
 ghost use Rattle.rerun_rules.specs.Leading.{OnlyFirstLeads, TellsLoss, WasAt};
-ghost use Rattle.serving_rules.specs.Serving.{Serves, Size};
+ghost use Rattle.run_rules.specs.Serving.{Serves, Size};
 
 /// Empty stores hold no term that is above server 1's.
 pub fn empty_stores_are_foremost()

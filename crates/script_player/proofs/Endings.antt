@@ -3,8 +3,8 @@ use Rattle.std.proofs.Common.{◌≡◌, ◌⊎◌, inr, ℕ, List, [], ◌++◌
 use Rattle.std.specs.Io.KnownBytes.{Appends}
 use Rattle.cluster_rules.specs.Cluster.{Cluster}
 use Rattle.script_lang.specs.Text.{reason_text}
-use Rattle.script_runs.specs.Plays.{Refused as RefusedEnd}
-use Rattle.script_runs.specs.Holds.{IsFirstStart}
+use Rattle.run_rules.specs.Plays.{Refused as RefusedEnd}
+use Rattle.run_rules.specs.Holds.{IsFirstStart}
 use Rattle.script_player.specs.declared.openings.Opening.{Opening}
 use Rattle.script_player.specs.declared.refused.Refused.{Refused}
 use Rattle.script_player.specs.declared.report.Report.{Report}

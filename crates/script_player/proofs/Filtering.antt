@@ -13,16 +13,16 @@ use Rattle.cluster_rules.specs.Reached.{IsStart, Settling, none, pair}
 use Rattle.cluster_rules.specs.Sound.{Sound, is_of, one_if, out_times, taken_times}
 use Rattle.cluster_rules.proofs.Answers.{found_none}
 use Rattle.cluster_rules.proofs.Tools.{eq_self, eq_tells_not, le_tells_not}
-use Rattle.serving_rules.specs.Keeping.{Keeps}
-use Rattle.serving_rules.proofs.Keeping.{step_keeps}
+use Rattle.run_rules.specs.Keeping.{Keeps}
+use Rattle.run_rules.proofs.Keeping.{step_keeps}
 use Rattle.script_lang.specs.Lines.{filter_of_line}
-use Rattle.script_runs.specs.Holds.{IsFirstStart}
-use Rattle.script_runs.specs.Lines.{Said, Nothing, Makes, Settles, Refuses}
-use Rattle.script_runs.specs.Plays.{Broken, breaks, taken, all_taken, emptied, settled}
-use Rattle.script_runs.proofs.Fitting.{event_fits}
-use Rattle.script_runs.proofs.Holding.{a_start, run_is_sound, start_run}
-use Rattle.script_runs.proofs.Reaching.{IsRun, event_run, plays_run, settled_run}
-use Rattle.script_runs.proofs.Taking.{step_run, step_takes}
+use Rattle.run_rules.specs.Holds.{IsFirstStart}
+use Rattle.run_rules.specs.Lines.{Said, Nothing, Makes, Settles, Refuses}
+use Rattle.run_rules.specs.Plays.{Broken, breaks, taken, all_taken, emptied, settled}
+use Rattle.run_rules.proofs.Fitting.{event_fits}
+use Rattle.run_rules.proofs.Holding.{a_start, run_is_sound, start_run}
+use Rattle.run_rules.proofs.Reaching.{IsRun, event_run, plays_run, settled_run}
+use Rattle.run_rules.proofs.Taking.{step_run, step_takes}
 use Rattle.script_player.specs.Filters.{Filters, asks, filter_in, filter_of, is_request}
 use Rattle.script_player.specs.declared.stage.Turn.TheVariants as turn
 use Rattle.script_player.specs.Stage.{AreFor, AreForAll, KeepsWaiting, LeadsTo, TakesAll, Turns, filter_said, put_for, through}

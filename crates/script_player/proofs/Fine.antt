@@ -4,8 +4,8 @@ use Rattle.std.proofs.lemmas.Bool.Decides.{nat_tests}
 use Rattle.cat_model.specs.declared.request.Asked.{Asked}
 use Rattle.cat_model.specs.declared.request.Event.{Event}
 use Rattle.cat_model.specs.declared.request.Event.TheVariants as event
-use Rattle.script_runs.specs.declared.misfit.Misfit.{Misfit}
-use Rattle.script_runs.specs.declared.misfit.Misfit.TheVariants.{NoServer, NoAgent, NoMessage, Clock}
+use Rattle.run_rules.specs.declared.misfit.Misfit.{Misfit}
+use Rattle.run_rules.specs.declared.misfit.Misfit.TheVariants.{NoServer, NoAgent, NoMessage, Clock}
 use Rattle.cluster_rules.specs.Cluster.{Cluster}
 use Rattle.script_lang.specs.Answers.{◌>>=◌}
 use Rattle.script_lang.specs.declared.bad_line.BadLine.{BadLine}
@@ -23,7 +23,7 @@ use Rattle.cat_model.specs.Taken.{IsTakenAsked}
 use Rattle.script_lang.specs.Words.{words_of, is_nothing, rest_of}
 use Rattle.script_lang.specs.Lines.{form_of, opening, asking, said, formed, worded, line_of, servers, agents, any32, any64, tick_ms, messages, calls}
 use Rattle.script_lang.specs.Text.{reason_text}
-use Rattle.script_runs.specs.Lines.{Said, Makes, Refuses, misfit, misfit_text}
+use Rattle.run_rules.specs.Lines.{Said, Makes, Refuses, misfit, misfit_text}
 use Rattle.script_player.specs.declared.reader.Says.{Says}
 use Rattle.script_player.specs.Script.{bad_of, said as said_by_line}
 use Rattle.filter_expr.specs.Expressions.{Expression}

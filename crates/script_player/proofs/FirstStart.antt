@@ -5,13 +5,13 @@ use Rattle.std.specs.Option.{ForSome}
 use Rattle.std.proofs.lemmas.List.{length-map, length-replicate}
 use Rattle.std.proofs.lemmas.List.Elements.{All-tail}
 use Rattle.cat_model.specs.Keeping.{nothing_kept}
-use Rattle.cat_outside.specs.KeepersInMemory.{FaultyKeeper, empty_store, is_sure}
+use Rattle.outside.specs.KeepersInMemory.{FaultyKeeper, empty_store, is_sure}
 use Rattle.raft_model.specs.Node.{Node, Store}
 use Rattle.raft_model.specs.World.{AreEmpty, StartAll}
 use Rattle.cluster_interface.specs.Starting.{KeepsLimits, store_of}
 use Rattle.cluster_rules.specs.Cluster.{Cluster, no_server}
 use Rattle.cluster_rules.specs.Reached.{AreSure, IsBegun}
-use Rattle.script_runs.specs.Holds.{IsFirstStart}
+use Rattle.run_rules.specs.Holds.{IsFirstStart}
 
 abbrev pub in_memory : FaultyKeeper → Store
 in_memory k = store_of (Some k.kept) k.armed k.faults (is_sure k)

@@ -8,8 +8,8 @@ use Rattle.cluster_rules.specs.Replies.{Out}
 use Rattle.cluster_rules.specs.Cluster.{Cluster}
 use Rattle.script_lang.specs.declared.bad_line.BadLine.{BadLine}
 use Rattle.script_lang.specs.Text.{reason_text}
-use Rattle.script_runs.specs.Lines.{Said, Nothing, Makes, Settles, Refuses}
-use Rattle.script_runs.specs.Plays.{Ending, Whole, Refused, Broken, Plays, over, breaks, skips, makes, settles, refuses, misfits, emptied, settled}
+use Rattle.run_rules.specs.Lines.{Said, Nothing, Makes, Settles, Refuses}
+use Rattle.run_rules.specs.Plays.{Ending, Whole, Refused, Broken, Plays, over, breaks, skips, makes, settles, refuses, misfits, emptied, settled}
 use Rattle.script_player.specs.declared.stage.Turn.TheVariants as turn
 use Rattle.script_player.specs.Stage.{Turns, GoesOn, TakesAll, TakesFirst, PlaysTo, PlaysPart}
 use Rattle.script_player.specs.Run.{WritesPart, made_in}

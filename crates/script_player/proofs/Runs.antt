@@ -6,11 +6,11 @@ use Rattle.std.proofs.KnownBytes.{Appends-trans}
 use Rattle.cluster_rules.specs.Replies.{Out}
 use Rattle.cluster_rules.specs.Cluster.{Cluster, Pending}
 use Rattle.cluster_rules.specs.Sound.{Ascends}
-use Rattle.script_runs.specs.Plays.{Ending, Whole, Refused, Broken, Plays}
-use Rattle.script_runs.specs.Holds.{IsFirstStart}
-use Rattle.script_runs.proofs.Holding.{a_start, run_is_sound, start_run, run_holds}
-use Rattle.script_runs.proofs.Reaching.{plays_run}
-use Rattle.script_runs.proofs.Legality.{first_run_legal}
+use Rattle.run_rules.specs.Plays.{Ending, Whole, Refused, Broken, Plays}
+use Rattle.run_rules.specs.Holds.{IsFirstStart}
+use Rattle.run_rules.proofs.Holding.{a_start, run_is_sound, start_run, run_holds}
+use Rattle.run_rules.proofs.Reaching.{plays_run}
+use Rattle.run_rules.proofs.Legality.{first_run_legal}
 use Rattle.script_player.specs.declared.openings.Opening.{Opening}
 use Rattle.script_player.specs.declared.report.Report.{Report}
 use Rattle.script_player.specs.Script.{Script, Opened, Closed, said}

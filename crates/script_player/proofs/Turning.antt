@@ -9,8 +9,8 @@ use Rattle.cluster_rules.specs.Cluster.{Cluster}
 use Rattle.cluster_rules.specs.Step.{ClusterStep}
 use Rattle.script_lang.specs.declared.bad_line.BadLine.{BadLine}
 use Rattle.script_lang.specs.Text.{reason_text}
-use Rattle.script_runs.specs.Lines.{Said, Nothing, Makes, Settles, Refuses, misfit}
-use Rattle.script_runs.specs.Plays.{emptied, settled, taken, all_taken}
+use Rattle.run_rules.specs.Lines.{Said, Nothing, Makes, Settles, Refuses, misfit}
+use Rattle.run_rules.specs.Plays.{emptied, settled, taken, all_taken}
 use Rattle.script_player.specs.declared.stage.Turn.TheVariants as turn
 use Rattle.cluster_interface.specs.Interface.{SettlesTo}
 use Rattle.filter_expr.specs.Expressions.{Expression}

@@ -6,7 +6,7 @@ use Rattle.cat_model.specs.declared.request.Event.TheVariants.{Ask}
 use Rattle.filter_expr.specs.Expressions.{Expression}
 use Rattle.cluster_rules.specs.Replies.{Out, number_of}
 use Rattle.script_lang.specs.Lines.{filter_of_line}
-use Rattle.script_runs.specs.Lines.{Said, Makes}
+use Rattle.run_rules.specs.Lines.{Said, Makes}
 
 abbrev pub Filters : Type 0
 Filters = ℕ → Option Expression

@@ -6,10 +6,10 @@ use Rattle.std.specs.List.{AllByRecursion as Each}
 use Rattle.cluster_rules.specs.Replies.{Out}
 use Rattle.cluster_rules.specs.Cluster.{Cluster}
 use Rattle.cluster_rules.specs.Reached.{Reached, moves_of}
-use Rattle.script_runs.specs.Lines.{Said}
-use Rattle.script_runs.specs.Plays.{Ending, Whole, Refused, Plays, over, breaks, skips, makes, settles, refuses, misfits, emptied, settled}
-use Rattle.script_runs.specs.Holds.{IsFirstStart, Holds}
-use Rattle.script_runs.specs.Legal.{RunIsLegal}
+use Rattle.run_rules.specs.Lines.{Said}
+use Rattle.run_rules.specs.Plays.{Ending, Whole, Refused, Plays, over, breaks, skips, makes, settles, refuses, misfits, emptied, settled}
+use Rattle.run_rules.specs.Holds.{IsFirstStart, Holds}
+use Rattle.run_rules.specs.Legal.{RunIsLegal}
 use Rattle.script_player.specs.declared.openings.Opening.{Opening}
 use Rattle.script_player.specs.declared.report.Report.{Report}
 use Rattle.script_player.specs.Script.{Script, Opened, Closed, said, filters_of}

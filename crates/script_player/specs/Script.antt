@@ -1,14 +1,14 @@
 -- A script: the line that opens its cluster, and what each later line says.
 use Rattle.std.specs.Prelude.{ℕ, ◌+◌, if◌then◌else◌, List, [], ◌∷◌, None, Result, Ok, Err, codes}
-use Rattle.script_runs.specs.declared.misfit.Misfit.{Misfit}
-use Rattle.script_runs.specs.declared.misfit.Misfit.TheVariants.{NoServer, NoAgent, NoMessage, Clock}
+use Rattle.run_rules.specs.declared.misfit.Misfit.{Misfit}
+use Rattle.run_rules.specs.declared.misfit.Misfit.TheVariants.{NoServer, NoAgent, NoMessage, Clock}
 use Rattle.script_lang.specs.declared.bad_line.BadLine.{BadLine}
 use Rattle.script_lang.specs.declared.bad_line.BadLine.TheVariants as bad
 use Rattle.script_lang.specs.declared.line.Line.{Line}
 use Rattle.script_lang.specs.declared.line.Line.TheVariants as line
 use Rattle.script_lang.specs.Lines.{line_of, opens_cluster}
 use Rattle.script_lang.specs.Text.{reason_text}
-use Rattle.script_runs.specs.Lines.{Said, Nothing, Makes, Settles, Refuses}
+use Rattle.run_rules.specs.Lines.{Said, Nothing, Makes, Settles, Refuses}
 use Rattle.script_player.specs.declared.openings.Opening.{Opening}
 use Rattle.script_player.specs.Line.{lines_of, is_nothing}
 use Rattle.script_player.specs.Filters.{Filters, filter_in}

@@ -4,11 +4,11 @@ use Rattle.std.specs.List.{flat_map}
 use Rattle.std.specs.BTreeMap.{get}
 use Rattle.std.specs.Ordering.{nat_cmp}
 use Rattle.std.specs.Io.KnownBytes.{Appends}
-use Rattle.cat_outside.specs.Causes.{Rose}
-use Rattle.cat_outside.specs.declared.faults.KeepFail.{KeepFail}
-use Rattle.cat_outside.specs.declared.faults.KeepFail.TheVariants as keep_fail
+use Rattle.outside.specs.Causes.{Rose}
+use Rattle.outside.specs.declared.faults.KeepFail.{KeepFail}
+use Rattle.outside.specs.declared.faults.KeepFail.TheVariants as keep_fail
 use Rattle.cat_model.specs.declared.request.Event.{Event}
-use Rattle.script_runs.specs.declared.misfit.Misfit.{Misfit}
+use Rattle.run_rules.specs.declared.misfit.Misfit.{Misfit}
 use Rattle.cluster_rules.specs.Replies.{Out}
 use Rattle.cluster_rules.specs.Cluster.{Cluster}
 use Rattle.cluster_rules.specs.Step.{ClusterStep}
@@ -21,8 +21,8 @@ use Rattle.script_lang.specs.Lines.{filter_of_line}
 use Rattle.filter_expr.specs.Expressions.{Expression, expression_of}
 use Rattle.cat_model.specs.declared.reply.Mark.{Mark}
 use Rattle.cluster_rules.specs.Sound.{out_times, taken_times}
-use Rattle.script_runs.specs.Lines.{Said, Nothing, Makes, Settles, Refuses, misfit, misfit_text}
-use Rattle.script_runs.specs.Plays.{Ending, Whole, Refused, Broken, Plays, emptied, settled}
+use Rattle.run_rules.specs.Lines.{Said, Nothing, Makes, Settles, Refuses, misfit, misfit_text}
+use Rattle.run_rules.specs.Plays.{Ending, Whole, Refused, Broken, Plays, emptied, settled}
 use Rattle.script_player.specs.declared.openings.Opening.{Opening}
 use Rattle.script_player.specs.declared.openings.NotOpened.{NotOpened}
 use Rattle.script_player.specs.declared.openings.NotOpened.TheVariants as not_opened

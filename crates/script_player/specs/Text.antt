@@ -9,7 +9,7 @@ use Rattle.filter_expr.specs.Expressions.{Expression}
 use Rattle.reply_body.specs.Filtered.{shown}
 use Rattle.reply_body.specs.Written.{written}
 use Rattle.script_lang.specs.Text.{out_text, end_text}
-use Rattle.script_runs.specs.Plays.{Ending, Whole, Refused, Broken}
+use Rattle.run_rules.specs.Plays.{Ending, Whole, Refused, Broken}
 use Rattle.cluster_interface.specs.Interface.{held_numbers}
 use Rattle.script_player.specs.Filters.{Filters, filter_of}
 

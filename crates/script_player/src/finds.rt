@@ -15,9 +15,9 @@ use crate::report::Report;
 use crate::stage::{Played, play};
 use crate::start::start;
 use cat_model::{List, Memory};
-use cat_outside::MemKeeper;
 use cluster_interface::ClusterInterface;
 use http_routes::Routes;
+use outside::MemKeeper;
 use std::alloc::Global;
 
 /// Plays the script as `play_script` does, but writes nothing: it reports the run, with the numbers of the requests

@@ -1,12 +1,12 @@
 ghost use Rattle.std.specs.Prelude.{◌≡◌, ◌∷◌, [], IfOk, MatchOption};
-ghost use Rattle.open_requests.specs.Contents.{content_of, out_of};
+ghost use Rattle.cluster_requests.specs.Contents.{content_of, out_of};
 ghost use Rattle.script_player.specs.Found as spec;
 
 use crate::taker::Taker;
 use cat_model::{List, Memory};
-use cat_outside::KeepFail;
+use cluster_requests::{Content, Given, Out, Reply};
 use filter_expr::Filter;
-use open_requests::{Content, Given, Out, Reply};
+use outside::KeepFail;
 use reply_body::written;
 use std::alloc::Global;
 

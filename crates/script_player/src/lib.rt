@@ -7,7 +7,7 @@
 //! their outs, in order, each reply through the filter of the line that asked for it, and a last line. The report
 //! of a whole run has the number of events and requests, the agreed log, the applied lengths, and the requests
 //! without a reply in ascending order; what has happened, taken as moves, leads from the start to the end; all that
-//! `script_runs` says of a run holds of it. Where a line is refused there is no report: then the last line gives
+//! `run_rules` says of a run holds of it. Where a line is refused there is no report: then the last line gives
 //! its number and reason, and what stands before is all that the lines before it gave. After a failed write, which
 //! the sink counts, or where memory ran out, what was written is a first part of the text of a run whose lines may
 //! break off. Carried by: `play_script`, the trait `ClusterInterface`.

@@ -3,7 +3,7 @@ ghost use Rattle.std.specs.Io.KnownBytes.{Appends, WriteAppends};
 ghost use Rattle.script_player.specs.Run.{WritesPart};
 ghost use Rattle.script_player.specs.Stage.{CountsWrite};
 
-use cat_outside::{KeepFail, Sink};
+use outside::{KeepFail, Sink};
 
 /// Writes a whole piece, or a first part of it.
 #[tactic(auto, using(crate::proofs::Written::part_kept))]

@@ -1,7 +1,7 @@
 ghost use Rattle.std.specs.Prelude.{◌≡◌, ◌⊎◌, ◌<◌, ◌^◌, ◌+◌, IfOk, OnOk, OnErr, IfSome, MatchResult, MatchOption, None, Some, length, []};
 ghost use Rattle.std.specs.Io.KnownBytes.{Appends};
 ghost use Rattle.script_lang.specs.Text.{reason_text};
-ghost use Rattle.script_runs.specs.Plays.{Whole};
+ghost use Rattle.run_rules.specs.Plays.{Whole};
 ghost use Rattle.script_player.specs.Line.{lines_of};
 ghost use Rattle.script_player.specs.Script as script;
 ghost use Rattle.script_player.specs.Script.{script_of};
@@ -18,9 +18,9 @@ use crate::stage::{Played, play};
 use crate::start::start;
 use crate::text::{end_text, refused_text};
 use cat_model::{Bytes, List, Memory};
-use cat_outside::{KeepFail, MemKeeper, Sink};
 use cluster_interface::ClusterInterface;
 use http_routes::Routes;
+use outside::{KeepFail, MemKeeper, Sink};
 use std::alloc::Global;
 
 /// Plays the script on servers of the type `S` that are started as its first line says, writes what its lines give and

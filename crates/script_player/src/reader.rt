@@ -2,7 +2,7 @@ ghost use Rattle.std.specs.Prelude.{◌≡◌, suc, ◌+◌, ℕ, List, IfOk, Ok
 ghost use Rattle.filter_expr.specs.Expressions.{expression_of};
 ghost use Rattle.script_lang.specs.Answers.{line_in};
 ghost use Rattle.script_lang.specs.Lines.{filter_of_line, line_of};
-ghost use Rattle.script_runs.specs.Lines.{Said};
+ghost use Rattle.run_rules.specs.Lines.{Said};
 ghost use Rattle.script_player.specs.Filters.{is_request};
 ghost use Rattle.script_player.specs.Script.{said, said_of as said_by_words, bad_of as bad_for};
 ghost use Rattle.script_player.specs.Stage.{IsFine, IsWorded, IsRead, filter_said};
@@ -11,8 +11,8 @@ use cat_model::{Event, Memory};
 use cluster_interface::ClusterInterface;
 use filter_expr::Filter;
 use http_routes::Routes;
+use run_rules::Misfit;
 use script_lang::{BadLine, Line, ReadLine, opens_cluster, read_line};
-use script_runs::Misfit;
 use std::alloc::Global;
 
 /// What a line after the opening says: nothing, an event, a settling of at most so many messages, or why it is refused.

@@ -2,9 +2,9 @@ ghost use Rattle.std.specs.Prelude.{◌≡◌, ℕ, suc, ◌+◌, ◌<◌, ◌^�
 ghost use Rattle.std.specs.Io.KnownBytes.{Appends};
 ghost use Rattle.cluster_rules.specs.Cluster.{Cluster};
 ghost use Rattle.filter_expr.specs.Expressions.{expression_of};
-ghost use Rattle.script_runs.specs.Holds.{IsFirstStart};
-ghost use Rattle.script_runs.specs.Lines.{Said, Makes, Settles, misfit};
-ghost use Rattle.script_runs.specs.Plays.{emptied};
+ghost use Rattle.run_rules.specs.Holds.{IsFirstStart};
+ghost use Rattle.run_rules.specs.Lines.{Said, Makes, Settles, misfit};
+ghost use Rattle.run_rules.specs.Plays.{emptied};
 ghost use Rattle.script_player.specs.Line.{lines_of};
 ghost use Rattle.script_player.specs.Filters.{Filters as SpecFilters, filter_in};
 ghost use Rattle.script_player.specs.Script.{said};
@@ -18,10 +18,10 @@ use crate::reader::{SaidLine, Says, next_number, said_by};
 use crate::refused::Refused;
 use crate::taker::Taker;
 use cat_model::{Event, Memory};
-use cat_outside::KeepFail;
 use cluster_interface::ClusterInterface;
 use filter_expr::Filter;
 use http_routes::Routes;
+use outside::KeepFail;
 use script_lang::BadLine;
 use std::alloc::Global;
 

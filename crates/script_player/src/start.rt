@@ -1,11 +1,11 @@
 ghost use Rattle.std.specs.Prelude.{◌≡◌, IfOk, length};
-ghost use Rattle.script_runs.specs.Holds.{IsFirstStart};
+ghost use Rattle.run_rules.specs.Holds.{IsFirstStart};
 ghost use Rattle.script_player.specs.Stage.{IsOpening};
 
 use crate::openings::Opening;
 use cat_model::Memory;
-use cat_outside::MemKeeper;
 use cluster_interface::{ClusterInterface, empty_stores};
+use outside::MemKeeper;
 use std::alloc::Global;
 
 // The servers and agents that an opening asks for, over empty stores in memory. Such stores are read without fail, but

@@ -10,9 +10,9 @@ ghost use Rattle.script_player.specs.Text as text;
 use crate::output::write_all;
 use crate::text::line_of_out;
 use cat_model::{Bytes, Memory};
-use cat_outside::{KeepFail, Sink};
+use cluster_requests::Out;
 use filter_expr::Filter;
-use open_requests::Out;
+use outside::{KeepFail, Sink};
 use std::alloc::Global;
 
 /// What takes the outs of a run, one by one.

@@ -2,13 +2,13 @@ ghost use Rattle.std.specs.Prelude.{◌≡◌, IfOk, option_map};
 ghost use Rattle.std.specs.Option.{option_copied};
 ghost use Rattle.filter_expr.specs.Expressions.{expression_of};
 ghost use Rattle.script_lang.specs.Text.{out_text, reason_text, end_text as end_text_of};
-ghost use Rattle.open_requests.specs.Contents.{out_of};
+ghost use Rattle.cluster_requests.specs.Contents.{out_of};
 ghost use Rattle.script_player.specs.Text as spec;
 
 use crate::refused::Refused;
 use cat_model::{Bytes, Memory, Out};
+use cluster_requests::Given;
 use filter_expr::Filter;
-use open_requests::Given;
 use reply_body::written_through;
 use script_lang::{print_end, print_out, print_refused};
 use std::alloc::Global;
@@ -42,7 +42,7 @@ fn printed(alloc: Global, given: &Out) -> Result<Bytes, Memory>
 /// The line of an out of the cluster, through the filter of its request.
 pub fn line_of_out(
     alloc: Global,
-    out: &open_requests::Out,
+    out: &cluster_requests::Out,
     filter: Option<&Filter>,
 ) -> Result<Bytes, Memory>
     ensures { IfOk result (λ text. text ≡ spec.line_of_out (option_map expression_of (option_copied filter.entry)) out.now) }

@@ -3,9 +3,9 @@ use Rattle.std.specs.Prelude.{◌≡◌, ℕ, ◌≤◌, Bool, false, true, List
 use Rattle.std.specs.Option.{ForSome}
 use Rattle.std.specs.Io.{ReadsAtMost, WritesAtMost}
 use Rattle.std.specs.Io.KnownBytes.{append_known}
-use Rattle.cat_outside.specs.Causes.{Rose, HasCause, WriteHasCause, CountsEnd}
-use Rattle.cat_outside.specs.declared.faults.Failed.{Failed}
-use Rattle.cat_outside.specs.declared.faults.KeepFail.{KeepFail}
+use Rattle.outside.specs.Causes.{Rose, HasCause, WriteHasCause, CountsEnd}
+use Rattle.outside.specs.declared.faults.Failed.{Failed}
+use Rattle.outside.specs.declared.faults.KeepFail.{KeepFail}
 
 -- What a connection tells: its number, the bytes read from it and written to it where it tells them, how often a read
 -- found the end, how many reads and writes failed, and whether it is shut. That its client has gone while a request

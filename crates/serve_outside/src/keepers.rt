@@ -1,14 +1,14 @@
 ghost use Rattle.std.specs.Prelude.{◌≡◌, ◌↔◌, ◌<◌, ◌≤◌, ℕ, List, [], ◌∷◌, ◌++◌, map, Option, None, Some, true, IfOk, OnErr, OnOk, IsErrOf, IsTrue, MatchResult};
 ghost use Rattle.std.specs.Option.{ForSome};
 ghost use Rattle.cat_model.specs.Keeping.{nothing_kept};
-ghost use Rattle.cat_outside.specs.Causes.{Rose, counted};
-ghost use Rattle.cat_outside.specs.InMemory.{is_listed};
-ghost use Rattle.cat_outside.specs.Keepers.{KeepHasCause};
-ghost use Rattle.cat_outside.specs.KeepersInMemory.{empty_store};
+ghost use Rattle.outside.specs.Causes.{Rose, counted};
+ghost use Rattle.outside.specs.InMemory.{is_listed};
+ghost use Rattle.outside.specs.Keepers.{KeepHasCause};
+ghost use Rattle.outside.specs.KeepersInMemory.{empty_store};
 ghost use Rattle.serve_outside.specs.Stores.{KeepsLimits, Made, also_made, made_empty, made_for};
 
 use cat_model::{List, Memory, Text};
-use cat_outside::{KeepFail, Keeper, MemKeeper, is_listed};
+use outside::{KeepFail, Keeper, MemKeeper, is_listed};
 use std::alloc::Global;
 use std::marker::Model;
 

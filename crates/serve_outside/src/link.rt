@@ -1,9 +1,9 @@
 ghost use Rattle.std.specs.Prelude.{◌≡◌, ℕ, ◌+◌, List, [], ◌∷◌, ◌++◌, false, IfOk, MatchResult, Option, Some};
-ghost use Rattle.cat_outside.specs.Causes.{HasCause};
+ghost use Rattle.outside.specs.Causes.{HasCause};
 ghost use Rattle.serve_outside.specs.Links.{LinkState, IsNew, Reads, Writes, Leaves, Shuts};
 
 use crate::Awaited;
-use cat_outside::{Failed, KeepFail};
+use outside::{Failed, KeepFail};
 
 /// A connection. It counts its ends, its failed reads and its failed writes.
 pub trait Link: Drop {

@@ -1,10 +1,10 @@
 ghost use Rattle.std.specs.Prelude.{◌≡◌, ◌↔◌, ◌≤◌, ◌++◌, Some, min, [], length, take, drop, IfOk, OnOk, IsErr, IsErrOf, IsTrue};
-ghost use Rattle.cat_outside.specs.Causes.{counted};
-ghost use Rattle.cat_outside.specs.InMemory.{is_listed};
+ghost use Rattle.outside.specs.Causes.{counted};
+ghost use Rattle.outside.specs.InMemory.{is_listed};
 
 use crate::{Awaited, Link};
 use cat_model::{Bytes, List};
-use cat_outside::{Failed, KeepFail, is_listed};
+use outside::{Failed, KeepFail, is_listed};
 use std::alloc::Global;
 
 /// What a connection in memory does.

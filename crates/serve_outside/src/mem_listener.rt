@@ -1,14 +1,14 @@
 ghost use Rattle.std.specs.Prelude.{◌≡◌, ◌↔◌, ◌⊎◌, ◌-◌, ◌+◌, ◌<◌, ◌≤◌, ◌^◌, ◌∷◌, ◌++◌, [], length, map, vec_len, IfOk, OnOk, OnErr, IsErr, IsTrue, MatchResult, None, Some};
 ghost use Rattle.std.specs.Vec.{vec_capacity};
-ghost use Rattle.cat_outside.specs.Causes.{counted, HasCause};
-ghost use Rattle.cat_outside.specs.InMemory.{is_listed};
+ghost use Rattle.outside.specs.Causes.{counted, HasCause};
+ghost use Rattle.outside.specs.InMemory.{is_listed};
 ghost use Rattle.serve_outside.specs.Links.{IsNew};
 ghost use Rattle.serve_outside.specs.InMemory.{told};
 
 use crate::{Listener, MemLink, Script};
 use cat_model::{List, Memory};
-use cat_outside::{Failed, is_listed};
 use http_server::Log;
+use outside::{Failed, is_listed};
 use std::alloc::Global;
 
 /// What gives connections in memory, one for each script and in their order. After the last one each call fails, and

@@ -1,5 +1,5 @@
 ghost use Rattle.std.specs.Prelude.{◌≡◌, ℕ, ◌+◌, ◌≤◌, true, false, IfOk, IfErr, OnErr};
-ghost use Rattle.cat_outside.specs.Causes.{Rose};
+ghost use Rattle.outside.specs.Causes.{Rose};
 ghost use Rattle.serve_outside.specs.Tasks.{note_of, IsKept};
 
 use crate::job::{Job, NoteOf, Task, Told};

@@ -1,10 +1,10 @@
 ghost use Rattle.std.specs.Prelude.{◌≡◌, ◌≤◌, ◌+◌, false, true};
-ghost use Rattle.cat_outside.specs.Causes.{counted, Rose};
-ghost use Rattle.cat_outside.specs.InMemory.{is_listed};
+ghost use Rattle.outside.specs.Causes.{counted, Rose};
+ghost use Rattle.outside.specs.InMemory.{is_listed};
 
 use crate::Spawner;
 use cat_model::List;
-use cat_outside::is_listed;
+use outside::is_listed;
 
 /// Runs each job at once, and refuses those with the given numbers, counted from 1.
 #[derive(Drop)]

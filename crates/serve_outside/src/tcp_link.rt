@@ -2,11 +2,11 @@
 
 ghost use Rattle.std.specs.Prelude.{◌≡◌, ◌≤◌};
 ghost use Rattle.std.specs.Io.{ReadsAtMost, WritesAtMost};
-ghost use Rattle.cat_outside.specs.Causes.{counted};
+ghost use Rattle.outside.specs.Causes.{counted};
 
 use crate::linger::linger;
 use crate::{Awaited, Limits, Link};
-use cat_outside::{Failed, KeepFail};
+use outside::{Failed, KeepFail};
 use std::io;
 use std::io::{ErrorKind, Read, Write};
 use std::net::TcpStream;

@@ -1,7 +1,7 @@
 ghost use Rattle.std.specs.Prelude.{◌≡◌, List, [], ◌∷◌, ◌++◌, map, Option, Some};
 ghost use Rattle.std.specs.Option.{option_map};
 ghost use Rattle.cat_model.specs.declared.request.Draw.{Draw as SpecDraw};
-ghost use Rattle.cat_outside.specs.Causes.{counted};
+ghost use Rattle.outside.specs.Causes.{counted};
 
 use cat_model::Draw;
 use http_server::Log;

@@ -3,7 +3,7 @@ ghost use Rattle.std.specs.Option.{ForSome};
 ghost use Rattle.std.specs.Io.{ReadsAtMost};
 ghost use Rattle.server_journal.specs.Journals.{CutsTo, GivesAt, PutsAtEnd};
 
-use cat_outside::Failed;
+use outside::Failed;
 
 /// A file of a disk. What is written is shown at once, and is on the disk once a sync has answered Ok.
 pub trait Disk {

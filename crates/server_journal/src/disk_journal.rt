@@ -1,12 +1,12 @@
 ghost use Rattle.std.specs.Prelude.{◌≡◌, ◌≤◌, OnOk, OnErr, length};
 ghost use Rattle.std.specs.Option.{ForSome};
 ghost use Rattle.std.specs.Io.{ReadsAtMost};
-ghost use Rattle.cat_outside.specs.Causes.{HasCause, counted};
-ghost use Rattle.cat_outside.specs.Keepers.{KeepHasCause};
+ghost use Rattle.outside.specs.Causes.{HasCause, counted};
+ghost use Rattle.outside.specs.Keepers.{KeepHasCause};
 ghost use Rattle.server_journal.specs.Journals.{CutsTo, DiskState, GivesAt, PutsAtEnd, PutsBehind};
 
 use crate::{Disk, Journal};
-use cat_outside::{Failed, KeepFail};
+use outside::{Failed, KeepFail};
 use std::marker::Model;
 
 /// A journal in a file of a disk.

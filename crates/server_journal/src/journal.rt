@@ -1,10 +1,10 @@
 ghost use Rattle.std.specs.Prelude.{◌≡◌, ℕ, List, Option};
 ghost use Rattle.std.specs.Io.{ReadsAtMost};
-ghost use Rattle.cat_outside.specs.Causes.{HasCause};
-ghost use Rattle.cat_outside.specs.Keepers.{KeepHasCause};
+ghost use Rattle.outside.specs.Causes.{HasCause};
+ghost use Rattle.outside.specs.Keepers.{KeepHasCause};
 ghost use Rattle.server_journal.specs.Journals.{CutsTo, GivesAt, PutsBehind};
 
-use cat_outside::{Failed, KeepFail};
+use outside::{Failed, KeepFail};
 
 /// Bytes that outlive the process. More are put behind them, and the last are cut off.
 pub trait Journal {

@@ -1,13 +1,13 @@
 ghost use Rattle.std.specs.Prelude.{◌≡◌, ◌↔◌, ◌++◌, ◌≤◌, length, take, false, Some, OnOk, OnErr, IsErr, IsErrOf, IsTrue};
 ghost use Rattle.std.specs.Io.{ReadsAtMost};
-ghost use Rattle.cat_outside.specs.Causes.{counted, HasCause};
-ghost use Rattle.cat_outside.specs.InMemory.{is_listed as is_listed_of};
-ghost use Rattle.cat_outside.specs.Keepers.{KeepHasCause};
+ghost use Rattle.outside.specs.Causes.{counted, HasCause};
+ghost use Rattle.outside.specs.InMemory.{is_listed as is_listed_of};
+ghost use Rattle.outside.specs.Keepers.{KeepHasCause};
 ghost use Rattle.server_journal.specs.Journals.{CutsTo, GivesAt, GivesBytes, PutsBehind};
 
 use crate::Journal;
 use cat_model::{Bytes, List};
-use cat_outside::{Failed, KeepFail, is_listed};
+use outside::{Failed, KeepFail, is_listed};
 use std::marker::Model;
 
 // Copies the bytes from a place on, as many as there are and as there is room for.

@@ -7,7 +7,7 @@ use Rattle.std.specs.declared.cmp.Ordering.TheVariants.{Less}
 use Rattle.std.proofs.lemmas.Bool.Decides.{nat_tests}
 use Rattle.cat_model.specs.Delays.{Start as Renewal, ttl_start}
 use Rattle.cat_model.specs.Tables.{row_at, Ascends}
-use Rattle.office_rules.specs.Offices.{renewal_id}
+use Rattle.cluster_rules.specs.Offices.{renewal_id}
 
 -- from a renewal, or an earlier clock
 abbrev pub latest : Option Renewal → ℕ → ℕ

@@ -6,7 +6,7 @@ use Rattle.std.proofs.Math.Seq.{take-append-add}
 use Rattle.cat_model.specs.declared.row.Behavior.TheVariants.{Release}
 use Rattle.cat_model.specs.declared.row.SessionRow.{SessionRow}
 use Rattle.session_ttl.specs.declared.ends.Ending.{Ending}
-use Rattle.office_rules.specs.Offices.{Office, over_at, sorted_by}
+use Rattle.cluster_rules.specs.Offices.{Office, over_at, sorted_by}
 use Rattle.session_ttl.specs.Endings.{create_of, ending_in, ending_of, over_in, overdue_of}
 use Rattle.session_ttl.proofs.Sorting.{sorted_map}
 

@@ -18,7 +18,7 @@ use Rattle.cat_model.specs.declared.row.SessionRow.{SessionRow}
 use Rattle.cat_model.proofs.InOrder.{own_rows}
 use Rattle.cat_model.proofs.Lookups.{row_at-put}
 use Rattle.cat_model.proofs.TableLemmas.{All-weaker, Ascends-put}
-use Rattle.office_rules.specs.Offices.{Office, applied_at, ended_too, is_over, is_pending, looks_on, over_at, reap_pause, renew_in, renewal_id}
+use Rattle.cluster_rules.specs.Offices.{Office, applied_at, ended_too, is_over, is_pending, looks_on, over_at, reap_pause, renew_in, renewal_id}
 use Rattle.timer_wheel.specs.Dues.{AreDue}
 use Rattle.timer_wheel.proofs.Dues.{due_has}
 use Rattle.timer_wheel.proofs.Keeps.{at_itself, key_same}

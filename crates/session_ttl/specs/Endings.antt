@@ -1,7 +1,7 @@
 -- Sessions whose end is to be proposed.
 use Rattle.std.specs.Prelude.{ℕ, List}
 use Rattle.cat_model.specs.declared.row.SessionRow.{SessionRow}
-use Rattle.office_rules.specs.Offices.{Office, over_at}
+use Rattle.cluster_rules.specs.Offices.{Office, over_at}
 use Rattle.session_ttl.specs.declared.ends.Ending.{Ending}
 use Rattle.session_ttl.specs.declared.ends.Overdue.{Overdue}
 

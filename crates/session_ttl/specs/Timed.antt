@@ -5,7 +5,7 @@ use Rattle.std.specs.List.{list_any, AllByRecursion as Each}
 use Rattle.std.specs.Map.{lookup}
 use Rattle.std.specs.Ordering.{nat_cmp}
 use Rattle.cat_model.specs.declared.row.SessionRow.{SessionRow}
-use Rattle.office_rules.specs.Offices.{Office, is_pending, over_at}
+use Rattle.cluster_rules.specs.Offices.{Office, is_pending, over_at}
 
 -- timers by the identifiers of their sessions, each with its time
 abbrev pub Timers : Type 0

@@ -1,7 +1,7 @@
 //! Sessions whose end is to be proposed.
 
 ghost use Rattle.std.specs.Prelude.{◌≡◌, map, IfOk, OnOk};
-ghost use Rattle.office_rules.specs.Offices.{sorted_by};
+ghost use Rattle.cluster_rules.specs.Offices.{sorted_by};
 ghost use Rattle.session_ttl.specs.Endings.{create_of, ending_in, over_in};
 
 use cat_model::Memory;

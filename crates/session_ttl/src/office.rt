@@ -1,6 +1,6 @@
 ghost use Rattle.std.specs.Prelude.{◌≡◌, ◌==◌, ◌≤◌, ℕ, filter, length, map, not, take, nat_le, List, Some, OnErr, OnOk};
 ghost use Rattle.cat_model.specs.declared.row.SessionRow.{SessionRow as SpecSession};
-ghost use Rattle.office_rules.specs.Offices.{Office as SpecOffice, ended_too, looks_on, no_office, office_from, reap_pause, renew_in, renewal_id};
+ghost use Rattle.cluster_rules.specs.Offices.{Office as SpecOffice, ended_too, looks_on, no_office, office_from, reap_pause, renew_in, renewal_id};
 ghost use Rattle.cat_model.specs.Tables.{Ascends};
 ghost use Rattle.std.specs.Ordering.{nat_cmp};
 ghost use Rattle.session_ttl.specs.Endings.{ending_of};
@@ -29,7 +29,7 @@ pub struct Office {
 
 impl Model for Office {
     ghost use Rattle.std.specs.Prelude.{reverse};
-    ghost use Rattle.office_rules.specs.Offices as rules;
+    ghost use Rattle.cluster_rules.specs.Offices as rules;
 
     ghost Value = { rules.Office };
 

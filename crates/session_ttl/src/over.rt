@@ -5,7 +5,7 @@ ghost use Rattle.std.specs.List.{AllByRecursion as Each, cons_option, filter_map
 ghost use Rattle.std.specs.Ordering.{nat_cmp};
 ghost use Rattle.cat_model.specs.Catalog.{session_at, session_key};
 ghost use Rattle.cat_model.specs.Tables.{Ascends};
-ghost use Rattle.office_rules.specs.Offices.{applied_at, is_over, over_at, sorted_by};
+ghost use Rattle.cluster_rules.specs.Offices.{applied_at, is_over, over_at, sorted_by};
 ghost use Rattle.session_ttl.specs.Endings.{ending_in, ending_of, over_in, overdue_of};
 ghost use Rattle.session_ttl.specs.Timed.{is_one_of};
 

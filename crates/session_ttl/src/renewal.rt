@@ -6,7 +6,7 @@ ghost use Rattle.std.proofs.lemmas.Cmp.{nat_cmp_total};
 ghost use Rattle.std.proofs.lemmas.Map.Lookups.{exact_unsigned};
 ghost use Rattle.cat_model.specs.Delays.{ttl_start};
 ghost use Rattle.cat_model.specs.Tables.{put};
-ghost use Rattle.office_rules.specs.Offices.{renewal_id};
+ghost use Rattle.cluster_rules.specs.Offices.{renewal_id};
 
 use cat_model::Memory;
 use row_table::{Probe, Row, RowTable};

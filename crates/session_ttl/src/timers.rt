@@ -7,7 +7,7 @@ ghost use Rattle.std.specs.Ordering.{nat_cmp};
 ghost use Rattle.std.specs.List.Sorted.{IsStrictlySortedBy};
 ghost use Rattle.cat_model.specs.Catalog.{session_key};
 ghost use Rattle.cat_model.specs.Tables.{Ascends};
-ghost use Rattle.office_rules.specs.Offices.{is_over, is_pending, over_at, sorted_by};
+ghost use Rattle.cluster_rules.specs.Offices.{is_over, is_pending, over_at, sorted_by};
 ghost use Rattle.session_ttl.specs.Endings.{ending_of};
 ghost use Rattle.session_ttl.specs.Timed.{AreTimed, AreTimedBut, HasTimer, is_one_of};
 

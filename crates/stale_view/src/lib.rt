@@ -18,8 +18,8 @@ mod pair;
 mod publisher;
 mod readers;
 mod rule;
-mod thread_safety;
 mod side;
+mod thread_safety;
 mod viewer;
 
 pub use history::{Front, Opened};

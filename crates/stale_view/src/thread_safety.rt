@@ -6,7 +6,7 @@ ghost use Rattle.kv_table.specs.contracts.table.KvTable as kv;
 ghost use Rattle.catalog_table.specs.contracts.table.CatalogTable as catalog;
 ghost use Rattle.session_table.specs.contracts.table.SessionTable as sessions;
 ghost use Rattle.query_table.specs.contracts.table.QueryTable as queries;
-ghost use Rattle.table_index.specs.contracts.index.TableIndex as indexes;
+ghost use Rattle.touch_positions.specs.contracts.index.TableIndex as indexes;
 ghost use Rattle.cat_model.specs.contracts.command.Command as command;
 ghost use Rattle.cat_model.specs.contracts.shared.Shared as shared;
 ghost use Rattle.catalog_store.specs.contracts.store.Store as store;
@@ -28,7 +28,7 @@ use kv_table::KvTable;
 use query_table::QueryTable;
 use session_table::SessionTable;
 use std::sync::Wait;
-use table_index::TableIndex;
+use touch_positions::TableIndex;
 
 // What may go to another thread, as clauses name it.
 fn sends<T: Send + 'static>()

@@ -15,8 +15,8 @@ mod history;
 mod knowledge;
 mod lock;
 mod plays;
-mod turn;
 mod rooms;
+mod turn;
 
 pub use history::History;
 pub use knowledge::Knowledge;

@@ -3,7 +3,7 @@ use Rattle.std.proofs.lemmas.Fn.{filter_same}
 use Rattle.cat_model.specs.Keys.{pair_cmp, same_text}
 use Rattle.cat_model.proofs.Pairs.{pair_cmp_total}
 use Rattle.cat_model.proofs.TableLemmas.{Ascends-filter}
-use Rattle.agent_rules.specs.Agents.{watched_key}
+use Rattle.cluster_rules.specs.Agents.{watched_key}
 use Rattle.agent_state.specs.Order.{ChecksAscend}
 use Rattle.agent_state.proofs.checks.drop_checks.Goals as goal
 

@@ -1,5 +1,5 @@
 use Rattle.std.proofs.Common.{◌≡◌, map, rules, subst, sym}
-use Rattle.agent_rules.specs.Agents.{expired}
+use Rattle.cluster_rules.specs.Agents.{expired}
 use Rattle.agent_state.specs.Order.{ChecksAscend}
 use Rattle.agent_state.proofs.Orders.{expired_ascend}
 use Rattle.agent_state.proofs.checks.expire_checks.Goals as goal

@@ -1,5 +1,5 @@
 use Rattle.std.proofs.Common.{◌≡◌, ◌++◌, map, take}
-use Rattle.agent_rules.specs.Agents as rules
+use Rattle.cluster_rules.specs.Agents as rules
 use Rattle.agent_state.proofs.looks.add_rows.Given as goal
 
 abbrev pub invariant-loop-w : goal.invariant-loop-w

@@ -2,7 +2,7 @@ use Rattle.std.proofs.Common.{◌∙◌, ◌++◌, sym, ap, subst}
 use Rattle.cat_model.specs.declared.applied.Applied.TheVariants.{Done}
 use Rattle.cat_model.specs.declared.command.Command.TheVariants.{QueryDelete}
 use Rattle.cat_model.specs.declared.query.Chan.TheVariants.{Queries}
-use Rattle.table_index.specs.declared.positions.Table.TheVariants as table
+use Rattle.touch_positions.specs.declared.positions.Table.TheVariants as table
 use Rattle.catalog_store.specs.States.{State, now_of}
 use Rattle.catalog_store.specs.Whole.{ActsWhole}
 use Rattle.catalog_store.specs.Registering.{one_if, touched_if}

@@ -1,6 +1,6 @@
 use Rattle.std.proofs.Common.{◌++◌, ◌∷◌, [], ℕ, List, take, sym, ◌∙◌, ap, subst}
 use Rattle.std.proofs.lemmas.List.{take_more}
-use Rattle.table_index.specs.States.{TouchesName}
+use Rattle.touch_positions.specs.States.{TouchesName}
 use Rattle.catalog_store.specs.Registering.{TouchesEach}
 use Rattle.catalog_store.proofs.Marking.{touches_more, touched_name}
 use Rattle.catalog_store.proofs.registrations.touch_each.Goals as goal

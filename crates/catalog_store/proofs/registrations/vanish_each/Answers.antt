@@ -1,6 +1,6 @@
 use Rattle.std.proofs.Common.{◌++◌, ◌∷◌, [], ℕ, ◌≤◌, List, take, sym, ◌∙◌, ap, subst, arith}
 use Rattle.std.proofs.lemmas.List.{take_more}
-use Rattle.table_index.specs.States.{VanishesName}
+use Rattle.touch_positions.specs.States.{VanishesName}
 use Rattle.catalog_store.specs.Registering.{VanishesEach}
 use Rattle.catalog_store.proofs.Marking.{vanishes_more}
 use Rattle.catalog_store.proofs.registrations.vanish_each.Goals as goal

@@ -3,10 +3,10 @@ use denote.Param.Send.{IsSend, arg_send, sendable, view_send, param_send, record
 use denote.Exit.{no}
 use denote.Struct.Declared as declared
 use Rattle.std.proofs.Crossing.{crosses}
-use Rattle.cluster_parts.specs.contracts.agents.Agents as agents
-use Rattle.cluster_parts.specs.contracts.agents.Agents.TheInside as inner
-use Rattle.cluster_parts.specs.contracts.watch.Watching as watching
-use Rattle.cluster_parts.specs.contracts.watch.Watching.TheInside as watched
+use Rattle.cluster_works.specs.contracts.agents.Agents as agents
+use Rattle.cluster_works.specs.contracts.agents.Agents.TheInside as inner
+use Rattle.cluster_works.specs.contracts.watch.Watching as watching
+use Rattle.cluster_works.specs.contracts.watch.Watching.TheInside as watched
 use Rattle.cluster.specs.contracts.cluster.Cluster as whole
 use Rattle.cluster.specs.contracts.cluster.Cluster.TheInside as inside
 use Rattle.catalog_top.proofs.thread_safety.clusters_send.Goals as goal

@@ -2,9 +2,9 @@ use denote.Param.Send.{IsSend, arg_send, sendable, view_send, param_send, record
 use denote.Exit.{no}
 use denote.Struct.Declared as declared
 use Rattle.std.proofs.Crossing.{crosses}
-use Rattle.replica.specs.contracts.delays.Delays as kept
-use Rattle.replica.specs.contracts.replica.Replica as replica
-use Rattle.replica.specs.contracts.replica.Replica.TheInside as inside
+use Rattle.applied_state.specs.contracts.delays.Delays as kept
+use Rattle.applied_state.specs.contracts.replica.Replica as replica
+use Rattle.applied_state.specs.contracts.replica.Replica.TheInside as inside
 use Rattle.catalog_top.proofs.thread_safety.replicas_send.Goals as goal
 
 pub sends-requires-send-T : goal.sends-requires-send-T

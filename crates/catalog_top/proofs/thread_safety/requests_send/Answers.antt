@@ -4,10 +4,10 @@ use denote.Struct.Declared as declared
 use Rattle.std.proofs.Crossing.{crosses, Deque-send, Vec-send}
 use Rattle.cat_model.specs.contracts.request.Asked as asked
 use Rattle.cat_model.specs.contracts.shared.Shared as shared
-use Rattle.open_requests.specs.contracts.past.Past as past
-use Rattle.open_requests.specs.contracts.requests.Requests as requests
-use Rattle.open_requests.specs.contracts.requests.Requests.TheInside as inside
-use Rattle.open_requests.specs.contracts.starts.Starts as starts
+use Rattle.cluster_requests.specs.contracts.past.Past as past
+use Rattle.cluster_requests.specs.contracts.requests.Requests as requests
+use Rattle.cluster_requests.specs.contracts.requests.Requests.TheInside as inside
+use Rattle.cluster_requests.specs.contracts.starts.Starts as starts
 use Rattle.catalog_top.proofs.thread_safety.requests_send.Goals as goal
 
 pub sends-requires-send-T : goal.sends-requires-send-T

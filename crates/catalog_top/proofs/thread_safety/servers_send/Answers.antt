@@ -3,8 +3,8 @@ use denote.Param.Send.{IsSend, arg_send, view_send, param_send, recorded_send, s
 use denote.Exit.{no}
 use denote.Struct.Declared as declared
 use Rattle.std.proofs.Crossing.{Vec-send}
-use Rattle.cluster_servers.specs.contracts.servers.Servers as whole
-use Rattle.cluster_servers.specs.contracts.servers.Servers.TheInside as inside
+use Rattle.cluster_replicas.specs.contracts.servers.Servers as whole
+use Rattle.cluster_replicas.specs.contracts.servers.Servers.TheInside as inside
 use Rattle.catalog_top.proofs.thread_safety.servers_send.Goals as goal
 
 pub sends-requires-send-T : goal.sends-requires-send-T

@@ -1,6 +1,6 @@
 use Rattle.std.proofs.Common.{◌≡◌, ◌-◌, ◌≤◌, length}
 use Rattle.std.specs.Prelude.{All}
-use Rattle.cat_outside.specs.KeepersInMemory.{empty_store}
+use Rattle.outside.specs.KeepersInMemory.{empty_store}
 use Rattle.cluster_interface.proofs.stores.empty_stores.Given as goal
 
 abbrev pub invariant-loop-made : goal.invariant-loop-made

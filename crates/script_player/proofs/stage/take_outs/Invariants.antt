@@ -1,5 +1,5 @@
 use Rattle.std.proofs.Common.{◌≡◌, flat_map, length}
-use Rattle.script_runs.specs.Plays.{emptied}
+use Rattle.run_rules.specs.Plays.{emptied}
 use Rattle.script_player.specs.Filters.{Filters}
 use Rattle.script_player.specs.Stage.{AreFor, KeepsWaiting, kept_in, through}
 use Rattle.script_player.proofs.Written.{Written}

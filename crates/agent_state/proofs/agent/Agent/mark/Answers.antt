@@ -1,5 +1,5 @@
 use Rattle.std.proofs.Common.{◌≡◌, map, rules, subst, sym}
-use Rattle.agent_rules.specs.Agents.{noted_check}
+use Rattle.cluster_rules.specs.Agents.{noted_check}
 use Rattle.agent_state.specs.Order.{ChecksAscend}
 use Rattle.agent_state.proofs.Orders.{noted_ascend}
 use Rattle.agent_state.proofs.agent.Agent.mark.Goals as goal

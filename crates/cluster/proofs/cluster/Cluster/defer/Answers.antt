@@ -2,8 +2,8 @@ use Rattle.std.proofs.Common.{◌≡◌, ◌+◌, false, refl, ap, ◌∙◌, ru
 use Rattle.cat_model.specs.declared.reply.Kind.TheVariants.{Delayed}
 use Rattle.cluster_rules.specs.Cluster.{clock_of, until_at}
 use Rattle.cluster_rules.specs.Replies.{Defers, Reply}
-use Rattle.open_requests.specs.Requests.{reply_with}
-use Rattle.cluster_parts.specs.Newest.{answered_newest}
+use Rattle.cluster_requests.specs.Requests.{reply_with}
+use Rattle.cluster_works.specs.Newest.{answered_newest}
 use Rattle.cluster.proofs.Results.{either_way, ok_then, stands_alike}
 use Rattle.cluster.proofs.Handled.{delay_handles, made_last}
 use Rattle.cluster.proofs.cluster.Cluster.defer.Goals as goal

@@ -1,6 +1,6 @@
 use Rattle.std.proofs.Common.{None, ap, sym, ◌∙◌}
 use Rattle.cluster_rules.specs.Proposals.{synced}
-use Rattle.cluster_turns.specs.AgentEvents.{agent_in, event_of_agent}
+use Rattle.cluster_order.specs.AgentEvents.{agent_in, event_of_agent}
 use Rattle.cluster.specs.Syncing.{own_done}
 use Rattle.cluster.proofs.AgentParts.{own_apart, when_ok}
 use Rattle.cluster.proofs.cluster.Cluster.do_leaderless.Goals as goal

@@ -1,7 +1,7 @@
 use Rattle.std.proofs.Common.{◌∙◌, ap, sym, subst}
 use Rattle.cluster_rules.specs.Cluster.{Cluster}
-use Rattle.open_requests.specs.Past.{IsJustMade, but_last}
-use Rattle.open_requests.specs.Requests.{Requests, cluster_of}
+use Rattle.cluster_requests.specs.Past.{IsJustMade, but_last}
+use Rattle.cluster_requests.specs.Requests.{Requests, cluster_of}
 use Rattle.cluster.proofs.cluster.Cluster.forget_event.Goals as goal
 
 pub forget-requires : goal.forget-requires

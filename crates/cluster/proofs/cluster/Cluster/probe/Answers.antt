@@ -2,7 +2,7 @@ use Rattle.std.proofs.Common.{◌≡◌, ◌<◌, ◌+◌, ◌-◌, ◌∙◌, a
 use Rattle.std.specs.List.{AllByRecursion as Each}
 use Rattle.std.specs.Prelude.{◌^◌}
 use Rattle.cluster_rules.specs.Cluster.{Cluster, Pending, node_of}
-use Rattle.open_requests.specs.Requests.{Requests}
+use Rattle.cluster_requests.specs.Requests.{Requests}
 use Rattle.cluster.proofs.Handled.{below_next, made_last}
 use Rattle.cluster.proofs.Rounds.{done_probe, read_probed, rounds_fit}
 use Rattle.cluster.proofs.cluster.Cluster.probe.Goals as goal

@@ -2,7 +2,7 @@ use Rattle.std.proofs.Common.{◌≡◌, ◌<◌, ◌+◌, ◌∙◌, ap, refl, 
 use Rattle.std.specs.List.{AllByRecursion as Each}
 use Rattle.cluster_rules.specs.Cluster.{Cluster, Pending}
 use Rattle.cluster_rules.specs.Replies.{Question}
-use Rattle.open_requests.specs.Requests.{Requests}
+use Rattle.cluster_requests.specs.Requests.{Requests}
 use Rattle.cluster.proofs.Handled.{below_next, made_last}
 use Rattle.cluster.proofs.Proposing.{done_write, write_handled}
 use Rattle.cluster.proofs.cluster.Cluster.propose.Goals as goal

@@ -1,7 +1,7 @@
 use Rattle.std.proofs.Common.{◌∙◌, ap, subst}
 use Rattle.cluster_rules.specs.Cluster.{Cluster, runs_leading}
 use Rattle.cluster_rules.specs.Proposals.{Proposals}
-use Rattle.open_requests.specs.Requests.{cluster_of}
+use Rattle.cluster_requests.specs.Requests.{cluster_of}
 use Rattle.cluster.proofs.cluster.Cluster.propose_all.Goals as goal
 
 pub propose_all-requires-clause-stands : goal.propose_all-requires-clause-stands

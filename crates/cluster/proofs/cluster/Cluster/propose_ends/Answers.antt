@@ -1,10 +1,10 @@
 use Rattle.std.proofs.Common.{take, sym, subst}
-use Rattle.office_rules.specs.Offices.{ended_too}
+use Rattle.cluster_rules.specs.Offices.{ended_too}
 use Rattle.cluster_rules.specs.Cluster.{office_of, server_of}
 use Rattle.cluster_rules.specs.Proposals.{over_rows}
-use Rattle.cluster_servers.specs.Servers.{Servers}
-use Rattle.cluster_parts.specs.Standing.{Stands}
-use Rattle.cluster_parts.proofs.Acting.{stands_officed}
+use Rattle.cluster_replicas.specs.Servers.{Servers}
+use Rattle.cluster_works.specs.Standing.{Stands}
+use Rattle.cluster_works.proofs.Acting.{stands_officed}
 use Rattle.cluster.proofs.Tending.{ends_done, proposed_office}
 use Rattle.cluster.proofs.cluster.Cluster.propose_ends.Goals as goal
 

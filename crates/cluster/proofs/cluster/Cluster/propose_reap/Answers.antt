@@ -1,9 +1,9 @@
 use Rattle.std.proofs.Common.{sym, subst}
-use Rattle.office_rules.specs.Offices.{looks_on}
+use Rattle.cluster_rules.specs.Offices.{looks_on}
 use Rattle.cluster_rules.specs.Cluster.{clock_of, server_of}
-use Rattle.cluster_servers.specs.Servers.{Servers}
-use Rattle.cluster_parts.specs.Standing.{Stands}
-use Rattle.cluster_parts.proofs.Acting.{stands_officed}
+use Rattle.cluster_replicas.specs.Servers.{Servers}
+use Rattle.cluster_works.specs.Standing.{Stands}
+use Rattle.cluster_works.proofs.Acting.{stands_officed}
 use Rattle.cluster.proofs.cluster.Cluster.propose_reap.Goals as goal
 
 pub invariant_of-self : goal.invariant_of-self

@@ -1,11 +1,11 @@
 use Rattle.std.proofs.Common.{◌∷◌, [], true, false, Bool, ◌∙◌, sym, subst}
 use Rattle.cat_model.specs.declared.command.Command.TheVariants.{Reap}
-use Rattle.office_rules.specs.Offices.{looks_on}
+use Rattle.cluster_rules.specs.Offices.{looks_on}
 use Rattle.cluster_rules.specs.Cluster.{clock_of, server_of}
 use Rattle.cluster_rules.specs.Proposals.{Proposals, looked}
-use Rattle.cluster_servers.specs.Servers.{Servers}
-use Rattle.cluster_parts.specs.Standing.{Stands}
-use Rattle.cluster_parts.proofs.Acting.{stands_officed}
+use Rattle.cluster_replicas.specs.Servers.{Servers}
+use Rattle.cluster_works.specs.Standing.{Stands}
+use Rattle.cluster_works.proofs.Acting.{stands_officed}
 use Rattle.cluster.proofs.Tending.{looked_is, reaps_none, reaps_told}
 use Rattle.cluster.proofs.cluster.Cluster.reap.Goals as goal
 

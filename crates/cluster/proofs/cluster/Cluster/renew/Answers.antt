@@ -1,6 +1,6 @@
 use Rattle.std.proofs.Common.{◌+◌, refl, subst, sym}
-use Rattle.cluster_servers.specs.Servers.{Servers}
-use Rattle.cluster_parts.specs.Standing as standing
+use Rattle.cluster_replicas.specs.Servers.{Servers}
+use Rattle.cluster_works.specs.Standing as standing
 use Rattle.cluster.proofs.Handled.{made_last, renew_handles}
 use Rattle.cluster.proofs.Results.{either_way, err_both, ok_both, ok_then, stands_alike}
 use Rattle.cluster.proofs.cluster.Cluster.renew.Goals as goal

@@ -1,4 +1,4 @@
-use Rattle.script_runs.proofs.Fitting.{event_fits}
+use Rattle.run_rules.proofs.Fitting.{event_fits}
 use Rattle.cluster.proofs.cluster.Cluster.step.Goals as goal
 
 pub make-requires-clause-fits : goal.make-requires-clause-fits

@@ -2,9 +2,9 @@ use Rattle.std.proofs.Common.{◌≡◌, ◌≢◌, ◌<◌, None, true, IfOk, O
 use Rattle.cluster_rules.specs.Cluster.{Cluster}
 use Rattle.cluster_rules.specs.Due.{due}
 use Rattle.cluster_rules.specs.Left.{left}
-use Rattle.cluster_turns.specs.Evaluations.{EvaluatesIn, lacking}
-use Rattle.cluster_turns.specs.Turns.{Turned}
-use Rattle.open_requests.specs.Requests.{cluster_of}
+use Rattle.cluster_order.specs.Evaluations.{EvaluatesIn, lacking}
+use Rattle.cluster_order.specs.Turns.{Turned}
+use Rattle.cluster_requests.specs.Requests.{cluster_of}
 use Rattle.cluster.proofs.cluster.Cluster.turn.Goals as goal
 
 pub invariant_of-self : goal.invariant_of-self

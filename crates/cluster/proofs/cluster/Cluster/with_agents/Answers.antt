@@ -1,7 +1,7 @@
 use Rattle.std.proofs.Common.{length, sym, subst}
 use Rattle.std.proofs.lemmas.List.{length-map}
-use Rattle.open_requests.specs.Requests as own
-use Rattle.cluster_parts.specs.Standing.{Stands}
+use Rattle.cluster_requests.specs.Requests as own
+use Rattle.cluster_works.specs.Standing.{Stands}
 use Rattle.cluster.proofs.Beginning.{begun_stands}
 use Rattle.cluster.proofs.cluster.Cluster.with_agents.Goals as goal
 

@@ -1,6 +1,6 @@
 use Rattle.std.proofs.Common.{OnOk, ap, refl, subst, sym}
-use Rattle.cluster_turns.specs.declared.impulse.Impulse.TheVariants as impulse
-use Rattle.cluster_turns.specs.Turns.{ActsWhole, event_of}
+use Rattle.cluster_order.specs.declared.impulse.Impulse.TheVariants as impulse
+use Rattle.cluster_order.specs.Turns.{ActsWhole, event_of}
 use Rattle.cluster.proofs.Impulses.{as_named}
 use Rattle.cluster.proofs.parts.ClusterParts.act.Goals as goal
 

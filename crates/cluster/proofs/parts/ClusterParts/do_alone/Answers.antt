@@ -1,5 +1,5 @@
 use Rattle.std.proofs.Common.{sym, ◌∙◌}
-use Rattle.cluster_turns.specs.AgentEvents.{event_of_agent}
+use Rattle.cluster_order.specs.AgentEvents.{event_of_agent}
 use Rattle.cluster.proofs.AgentParts.{when_err}
 use Rattle.cluster.proofs.parts.ClusterParts.do_alone.Goals as goal
 

@@ -1,5 +1,5 @@
 use Rattle.std.proofs.Common.{refl, sym, ◌∙◌}
-use Rattle.cluster_turns.specs.AgentEvents.{agent_in, event_of_agent}
+use Rattle.cluster_order.specs.AgentEvents.{agent_in, event_of_agent}
 use Rattle.cluster.specs.Syncing.{own_done}
 use Rattle.cluster.proofs.AgentParts.{synced_none}
 use Rattle.cluster.proofs.parts.ClusterParts.sync_at.Goals as goal

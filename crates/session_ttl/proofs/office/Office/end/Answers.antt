@@ -1,5 +1,5 @@
 use Rattle.std.proofs.Common.{ℕ, List, map, reverse, ◌∙◌, ap, ◌++◌}
-use Rattle.office_rules.specs.Offices.{Office}
+use Rattle.cluster_rules.specs.Offices.{Office}
 use Rattle.session_ttl.proofs.TimesOver.{ends_more}
 use Rattle.session_ttl.proofs.office.Office.end.Goals as goal
 

@@ -1,5 +1,5 @@
 use Rattle.std.proofs.Common.{◌≡◌, ℕ, arith, List, ◌++◌, length, map, reverse, take, ◌+◌, ◌-◌, ◌∙◌, ap}
-use Rattle.office_rules.specs.Offices.{Office}
+use Rattle.cluster_rules.specs.Offices.{Office}
 use Rattle.session_ttl.proofs.TimesOver.{ends_kept}
 use Rattle.session_ttl.proofs.office.Office.keep_first.Goals as goal
 

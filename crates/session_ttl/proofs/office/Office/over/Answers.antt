@@ -1,9 +1,9 @@
 use Rattle.std.proofs.Common.{map, filter, ◌∙◌, ap}
 use Rattle.std.proofs.lemmas.Result.{IfOk-weaker}
-use Rattle.office_rules.specs.Offices.{is_over}
+use Rattle.cluster_rules.specs.Offices.{is_over}
 use Rattle.session_ttl.specs.Endings.{ending_in, over_in}
 use Rattle.session_ttl.proofs.TimesOver.{in_turn}
-use Rattle.office_rules.specs.Offices.{sorted_by}
+use Rattle.cluster_rules.specs.Offices.{sorted_by}
 use Rattle.session_ttl.proofs.office.Office.over.Goals as goal
 
 pub returns : goal.returns

@@ -1,6 +1,6 @@
 use Rattle.std.proofs.Common.{map, filter, ◌∙◌, ap}
 use Rattle.std.proofs.lemmas.Result.{IfOk-weaker}
-use Rattle.office_rules.specs.Offices.{is_over, sorted_by}
+use Rattle.cluster_rules.specs.Offices.{is_over, sorted_by}
 use Rattle.session_ttl.specs.Endings.{ending_in, over_in, overdue_of}
 use Rattle.session_ttl.proofs.Among.{passing_among}
 use Rattle.session_ttl.proofs.TimesOver.{in_turn}

@@ -1,5 +1,5 @@
 use Rattle.std.proofs.Common.{◌≡◌, ◌++◌, filter, map}
-use Rattle.office_rules.specs.Offices.{is_over}
+use Rattle.cluster_rules.specs.Offices.{is_over}
 use Rattle.session_ttl.specs.Endings.{overdue_of}
 use Rattle.session_ttl.proofs.office.Office.overdue.Given as goal
 

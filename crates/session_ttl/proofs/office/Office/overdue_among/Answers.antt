@@ -1,5 +1,5 @@
 use Rattle.cat_model.specs.Catalog.{session_at}
-use Rattle.office_rules.specs.Offices.{is_over}
+use Rattle.cluster_rules.specs.Offices.{is_over}
 use Rattle.session_ttl.specs.Endings.{overdue_of}
 use Rattle.session_ttl.proofs.Among.{found_more}
 use Rattle.session_ttl.proofs.office.Office.overdue_among.Goals as goal

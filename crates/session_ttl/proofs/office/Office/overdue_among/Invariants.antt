@@ -1,7 +1,7 @@
 use Rattle.std.proofs.Common.{◌≡◌, filter, map, take}
 use Rattle.std.specs.List.{filter_map}
 use Rattle.cat_model.specs.Catalog.{session_at}
-use Rattle.office_rules.specs.Offices.{is_over}
+use Rattle.cluster_rules.specs.Offices.{is_over}
 use Rattle.session_ttl.specs.Endings.{overdue_of}
 use Rattle.session_ttl.proofs.office.Office.overdue_among.Given as goal
 

@@ -3,7 +3,7 @@ use Rattle.std.specs.Prelude.{◌==◌}
 use Rattle.std.specs.Ordering.{nat_cmp}
 use Rattle.cat_model.specs.Delays.{Start}
 use Rattle.cat_model.specs.Tables.{put}
-use Rattle.office_rules.specs.Offices.{Office, renewal_id}
+use Rattle.cluster_rules.specs.Offices.{Office, renewal_id}
 use Rattle.session_ttl.proofs.TimesOver.{filter_reverse}
 use Rattle.session_ttl.proofs.office.Office.renew.Goals as goal
 

@@ -1,7 +1,7 @@
 use Rattle.std.proofs.Common.{◌≡◌, List, ℕ, Option, Some, true, subst, sym, ◌∙◌}
 use Rattle.std.specs.List.{AllByRecursion as Each}
 use Rattle.cat_model.specs.declared.row.SessionRow.{SessionRow}
-use Rattle.office_rules.specs.Offices.{is_over}
+use Rattle.cluster_rules.specs.Offices.{is_over}
 use Rattle.session_ttl.specs.Timed.{AreTimed, Timers, is_one_of}
 use Rattle.session_ttl.proofs.Timing.{over_due}
 use Rattle.session_ttl.proofs.timers.SessionTimers.over.Goals as goal

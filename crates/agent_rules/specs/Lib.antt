@@ -1,3 +1,0 @@
-pub mod AgentBodies
-pub mod Agents
-pub mod Own

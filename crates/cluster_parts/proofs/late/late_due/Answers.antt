@@ -1,6 +1,0 @@
-use Rattle.cluster_parts.specs.Working.{whole}
-use Rattle.cluster_parts.proofs.Finding.{none_due}
-use Rattle.cluster_parts.proofs.late.late_due.Goals as goal
-
-pub returns-in-None-clause-found : goal.returns-in-None-clause-found
-returns-in-None-clause-found g c = none_due (whole c.args.servers.now c.args.requests.now) c.args.server c.requires.none c.requires.applied c.in-None.ensures.none

@@ -1,6 +1,0 @@
-use Rattle.std.proofs.Common.{refl}
-use Rattle.cluster_parts.proofs.Awake.{stay_by}
-use Rattle.cluster_parts.proofs.watch.Watching.fire.Goals as goal
-
-pub returns-clause-kept : goal.returns-clause-kept
-returns-clause-kept c = stay_by c.args.self.now (record { watch = c.self.inside.watch; seen = c.self.inside.seen }) (record { watch = c.fire.new.self; seen = c.self.inside.seen }) c.self.view_is refl c.fire.ensures.kept

@@ -1,0 +1,23 @@
+use Rattle.std.proofs.Common.{ap, length, sym, ◌∙◌, arith, ℕ}
+use Rattle.cluster_rules.specs.Offices.{office_from}
+use Rattle.applied_state.specs.States.{in_office}
+use Rattle.cluster_rules.specs.Cluster.{clock_of}
+use Rattle.cluster_replicas.specs.Servers.{Servers}
+use Rattle.cluster_replicas.proofs.Following.{same_length}
+use Rattle.cluster_replicas.proofs.Leading.{office_it}
+use Rattle.cluster_replicas.proofs.servers.Servers.lead.Goals as goal
+
+pub index_mut-leader-requires : goal.index_mut-leader-requires
+index_mut-leader-requires g c =
+    let e = same_length c.self.inside.world.nodes c.self.inside.replicas.items c.self.invariant in
+    omega (arith, e, c.place-at.ensures, c.requires.0, c.requires.1, ap (λ (v : Servers). length v.world.nodes) c.self.view_is)
+
+pub invariant_of-self : goal.invariant_of-self
+invariant_of-self g c =
+    (office_it c.self.inside.world c.self.inside.replicas.items c.args.self.now c.self.view_is c.self.invariant c.place-at.result c.args.s c.place-at.ensures c.requires c.index_mut-leader.result.now (sym c.index_mut-leader.ensures.value)
+    (office_from (clock_of c.args.self.now.world c.args.s)) c.lead.new.self (c.lead.ensures ∙ ap (λ (k : ℕ). in_office (office_from k) c.index_mut-leader.result.now) (c.clock-clock.ensures ∙ ap (λ (v : Servers). clock_of v.world c.args.s) c.self.view_is))).0
+
+pub returns : goal.returns
+returns g c =
+    (office_it c.self.inside.world c.self.inside.replicas.items c.args.self.now c.self.view_is c.self.invariant c.place-at.result c.args.s c.place-at.ensures c.requires c.index_mut-leader.result.now (sym c.index_mut-leader.ensures.value)
+    (office_from (clock_of c.args.self.now.world c.args.s)) c.lead.new.self (c.lead.ensures ∙ ap (λ (k : ℕ). in_office (office_from k) c.index_mut-leader.result.now) (c.clock-clock.ensures ∙ ap (λ (v : Servers). clock_of v.world c.args.s) c.self.view_is))).1

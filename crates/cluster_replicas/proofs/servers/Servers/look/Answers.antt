@@ -1,0 +1,20 @@
+use Rattle.std.proofs.Common.{ap, length, sym, arith}
+use Rattle.cluster_replicas.specs.Servers.{Servers}
+use Rattle.cluster_replicas.proofs.Following.{same_length}
+use Rattle.cluster_replicas.proofs.Leading.{look_it}
+use Rattle.cluster_replicas.proofs.servers.Servers.look.Goals as goal
+
+pub index_mut-leader-requires : goal.index_mut-leader-requires
+index_mut-leader-requires g c =
+    let e = same_length c.self.inside.world.nodes c.self.inside.replicas.items c.self.invariant in
+    omega (arith, e, c.place-at.ensures, c.requires.0, c.requires.1, ap (λ (v : Servers). length v.world.nodes) c.self.view_is)
+
+pub invariant_of-self : goal.invariant_of-self
+invariant_of-self g c =
+    (look_it c.self.inside.world c.self.inside.replicas.items c.args.self.now c.self.view_is c.self.invariant c.place-at.result c.args.s c.place-at.ensures c.requires c.index_mut-leader.result.now (sym c.index_mut-leader.ensures.value)
+    c.clock-clock.result c.clock-clock.ensures c.look.new.self c.look.ensures).0
+
+pub returns : goal.returns
+returns g c =
+    (look_it c.self.inside.world c.self.inside.replicas.items c.args.self.now c.self.view_is c.self.invariant c.place-at.result c.args.s c.place-at.ensures c.requires c.index_mut-leader.result.now (sym c.index_mut-leader.ensures.value)
+    c.clock-clock.result c.clock-clock.ensures c.look.new.self c.look.ensures).1

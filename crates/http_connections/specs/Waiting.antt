@@ -1,0 +1,71 @@
+-- A request from its asking to its reply, over the marks that a pass has seen and the numbers that it opened.
+use Rattle.std.specs.Prelude.{◌≡◌, ℕ, true, List, ◌++◌, Result, Ok, Err}
+use Rattle.cat_model.specs.declared.reply.Mark.{Mark}
+use Rattle.cluster_rules.specs.Replies.{Reply}
+use Rattle.cluster_rules.specs.Sound.{IsAmong}
+use Rattle.serve_outside.specs.Links.{LinkState, Leaves}
+use mathlib.Core.List.{IsPrefix}
+use Rattle.turn_lock.specs.Lists.{Among, EachOnce, numbers}
+use Rattle.http_connections.specs.declared.cluster.Ask.{Ask}
+use Rattle.http_connections.specs.declared.cluster.Collected.{Collected}
+use Rattle.http_connections.specs.declared.cluster.Collected.TheVariants as collected
+use Rattle.http_connections.specs.declared.turns.NoReply.{NoReply}
+use Rattle.http_connections.specs.declared.turns.NoReply.TheVariants as no_reply
+use Rattle.http_connections.specs.Knowing.{Known}
+use Rattle.http_connections.specs.Marks.{answered_mark, answers, asked_mark, opens, takes}
+
+-- what was seen, opened and read begins as before
+pub record Grows (v w : Known) : Type 0 where
+  pub rest : List Mark
+  pub more : List ℕ
+  pub seen : w.seen ≡ v.seen ++ rest
+  pub mine : w.mine ≡ v.mine ++ more
+  pub read : IsPrefix v.read w.read
+
+-- the request was asked by this pass, and its reply is not taken
+pub record Waits (n : ℕ) (ask : Ask) (seen : List Mark) (mine : List ℕ) : Type 0 where
+  pub own : Among n mine
+  pub asked : IsAmong (asked_mark n ask) seen
+  pub untaken : Among n (numbers takes seen) → ⊥
+
+-- the request was asked by this pass and is held, its reply is not taken
+abbrev pub IsHeld : Ask → Known → Type 0
+IsHeld ask known = (n : ℕ) × Waits n ask known.seen known.mine
+
+-- A link behind a request that has a reply or none: where there is none since its client went away that is counted, and
+-- else nothing has changed.
+abbrev pub IsAfterAsk : {T : Type 0} → Result T NoReply → LinkState → LinkState → Type 0
+IsAfterAsk (Err no_reply.Left) old new = Leaves old true new
+IsAfterAsk (Err no_reply.Memory) old new = new ≡ old
+IsAfterAsk (Ok reply) old new = new ≡ old
+
+-- The reply to a request that was asked once, by this pass: it is that of the one Answered mark of its number among
+-- the marks that were seen then, and shows what they tell.
+pub record IsAnswered (shows : ℕ → Ask → Reply → List Mark → Type 0) (ask : Ask) (reply : Reply) (seen : List Mark) (mine : List ℕ) : Type 0 where
+  pub own : Among reply.number mine
+  pub front : List Mark
+  pub rest : List Mark
+  pub seen_is : seen ≡ front ++ rest
+  pub asked : IsAmong (asked_mark reply.number ask) front
+  pub once : EachOnce (numbers opens front)
+  pub answered : IsAmong (answered_mark reply) front
+  pub only : EachOnce (numbers answers front)
+  pub shown : shows reply.number ask reply front
+
+-- after a turn there is the reply, or the request still waits
+abbrev pub Stands : (ℕ → Ask → Reply → List Mark → Type 0) → ℕ → Ask → Collected → Known → Type 0
+Stands shows n ask (collected.Ready reply) k = IsAnswered shows ask reply k.seen k.mine
+Stands shows n ask collected.NotYet k = Waits n ask k.seen k.mine
+Stands shows n ask collected.Gone k = ⊥
+
+-- the loop of a request that waits: whatever stood at its start stands now
+pub record Looks (shows : ℕ → Ask → Reply → List Mark → Type 0) (n : ℕ) (got : Collected) (v : Known) (n' : ℕ) (got' : Collected) (w : Known) : Type 0 where
+  pub grows : Grows v w
+  pub some : (ask : Ask) × Stands shows n' ask got' w
+  pub each : (ask : Ask) → Stands shows n ask got v → Stands shows n' ask got' w
+
+-- the request was asked behind all that had been seen
+pub record IsBehind (n : ℕ) (ask : Ask) (before seen : List Mark) : Type 0 where
+  pub more : List Mark
+  pub seen_is : seen ≡ before ++ more
+  pub asked : IsAmong (asked_mark n ask) more

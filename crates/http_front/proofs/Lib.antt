@@ -1,0 +1,15 @@
+pub mod Counts
+pub mod Numbers
+pub mod Making
+pub mod Failing
+pub mod Texts
+pub mod Asking
+pub mod Naming
+pub mod Ends
+pub mod Complete
+pub mod Reverses
+pub mod Marks
+pub mod Steps
+pub mod Clocks
+pub mod Agreeing
+pub mod Crossing

@@ -1,9 +1,0 @@
-use Rattle.std.proofs.Common.{ap, ◌∙◌, sym}
-use Rattle.load_script.specs.LoadScript.{request}
-use Rattle.load_script.proofs.Texts.{put_text}
-use Rattle.load_script.proofs.script.request.Goals as goal
-
-pub returns-in_ok-format-in-Put : goal.returns-in_ok-format-in-Put
-returns-in_ok-format-in-Put c =
-    put_text c.args.number c.args.key _ (ap (λ v. v.items) c.into_bytes.ensures.value ∙ c.in_ok-format-in-Put.ensures.ok)
-    ∙ ap (λ m. request m c.args.number c.args.key) (sym c.in-Put.is)

@@ -1,2 +1,0 @@
-pub mod LoadScript
-pub mod Summary

@@ -1,7 +1,0 @@
-use Rattle.std.proofs.Common.{subst}
-use Rattle.open_requests.specs.Ordered.{IsOrdered}
-use Rattle.open_requests.proofs.Ordering.{front_ordered}
-use Rattle.open_requests.proofs.outs.take_back.Goals as goal
-
-pub returns-clause-ordered : goal.returns-clause-ordered
-returns-clause-ordered c = front_ordered c.pop.new.self.items _ (subst IsOrdered c.pop.ensures.items c.requires.ordered)

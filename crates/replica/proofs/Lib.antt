@@ -1,9 +1,0 @@
-pub mod Delaying
-pub mod Gone
-pub mod Replying
-pub mod Standing
-pub mod Making
-pub mod Waiting
-pub mod InTime
-pub mod Channels
-pub mod Sparing

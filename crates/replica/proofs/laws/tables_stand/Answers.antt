@@ -1,5 +1,0 @@
-use Rattle.replica.proofs.Standing.{tables_stand}
-use Rattle.replica.proofs.laws.tables_stand.Goals as goal
-
-pub returns : goal.returns
-returns c = λ kv rows sessions queries index log keys lists same_sessions same_queries. tables_stand kv rows sessions queries index log keys lists same_sessions same_queries

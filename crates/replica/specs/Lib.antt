@@ -1,5 +1,0 @@
-pub mod Delays
-pub mod Removing
-pub mod States
-pub mod Making
-pub mod Sparing

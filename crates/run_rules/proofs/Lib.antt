@@ -1,0 +1,14 @@
+pub mod Fitting
+pub mod Onward
+pub mod Reaching
+pub mod Taking
+pub mod Indexes
+pub mod Holding
+pub mod Legality
+pub mod Held
+pub mod Waiting
+pub mod Fresh
+pub mod Moves
+pub mod Keeping
+pub mod Serving
+pub mod ServingHolds

@@ -1,4 +1,0 @@
-pub mod Lines
-pub mod Plays
-pub mod Holds
-pub mod Legal

@@ -1,9 +1,0 @@
-pub mod Counts
-pub mod Numbers
-pub mod Making
-pub mod Failing
-pub mod Texts
-pub mod Asking
-pub mod Naming
-pub mod Ends
-pub mod Complete

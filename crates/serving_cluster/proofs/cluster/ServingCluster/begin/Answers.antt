@@ -1,6 +1,0 @@
-use Rattle.std.proofs.Common.{sym}
-use Rattle.serving_cluster.proofs.Steps.{begun_serves}
-use Rattle.serving_cluster.proofs.cluster.ServingCluster.begin.Goals as goal
-
-pub invariant_of-result : goal.invariant_of-result
-invariant_of-result g c = begun_serves _ g.J.ClusterSize.size c.args.most _ _ c.in-Ok.field-0 (sym c.requires.size) c.in_ok-cluster.ensures.serves (rw c.in-Ok.is at c.settle.ensures.whole)

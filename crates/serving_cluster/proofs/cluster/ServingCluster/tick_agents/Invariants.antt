@@ -1,9 +1,0 @@
-use Rattle.std.proofs.Common.{◌-◌, reverse}
-use Rattle.serve_loop.specs.Marks.{AddsQuiet, TicksNone}
-use Rattle.serving_cluster.proofs.cluster.ServingCluster.tick_agents.Given as goal
-
-abbrev pub invariant-loop-agent : goal.invariant-loop-agent
-invariant-loop-agent g l = AddsQuiet (reverse l.fn.self.past) (reverse l.self.past) × TicksNone (reverse l.fn.self.past) (reverse l.self.past)
-
-abbrev pub decreases-loop-agent : goal.decreases-loop-agent
-decreases-loop-agent g l = l.last - l.agent

@@ -1,4 +1,0 @@
-pub mod Begun
-pub mod Shown
-pub mod Shared
-pub mod Ticks

@@ -1,4 +1,0 @@
-pub mod Moves
-pub mod Keeping
-pub mod Serving
-pub mod ServingHolds

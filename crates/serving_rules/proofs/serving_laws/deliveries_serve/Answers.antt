@@ -1,8 +1,0 @@
-use Rattle.serving_rules.proofs.Serving.{settled_on, partly_on}
-use Rattle.serving_rules.proofs.serving_laws.deliveries_serve.Goals as goal
-
-pub returns-clause-whole : goal.returns-clause-whole
-returns-clause-whole c = settled_on
-
-pub returns-clause-cut : goal.returns-clause-cut
-returns-clause-cut c = partly_on

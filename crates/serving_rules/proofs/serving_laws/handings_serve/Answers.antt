@@ -1,5 +1,0 @@
-use Rattle.serving_rules.proofs.Serving.{handed_on}
-use Rattle.serving_rules.proofs.serving_laws.handings_serve.Goals as goal
-
-pub returns : goal.returns
-returns c = handed_on

@@ -1,4 +1,0 @@
-pub mod Holds
-pub mod Buckets
-pub mod Hits
-pub mod Leaves

@@ -1,7 +1,0 @@
-use Rattle.std.proofs.Common.{◌≡◌, ◌<◌, take}
-use Rattle.std.specs.List.{fold}
-use Rattle.watch_registry.specs.Buckets.{mixed}
-use Rattle.watch_registry.proofs.bucket.text_bucket.Given as goal
-
-abbrev pub invariant-loop-byte : goal.invariant-loop-byte
-invariant-loop-byte l = (l.hash ≡ fold mixed l.start (take l.byte-index l.text)) × (l.hash < 65536)

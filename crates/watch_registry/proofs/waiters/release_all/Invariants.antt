@@ -1,6 +1,0 @@
-use Rattle.std.proofs.Common.{◌≡◌, take, filter}
-use Rattle.watch_registry.specs.Held.{Held, is_off}
-use Rattle.watch_registry.proofs.waiters.release_all.Given as goal
-
-abbrev pub invariant-loop-waiter : goal.invariant-loop-waiter
-invariant-loop-waiter l = Held l.waiters.entries l.list × (l.waiters.entries ≡ filter (is_off (take l.waiter-index l.gone)) l.fn.waiters.entries)
