@@ -26,7 +26,7 @@ use Rattle.http_connections.specs.declared.turns.NoReply.{NoReply}
 use Rattle.http_connections.specs.declared.turns.NoReply.TheVariants as no_reply
 use Rattle.http_connections.specs.Knowing.{HasLearned, Known}
 use Rattle.http_connections.specs.Replies.{IsViewed, is_viewed, refusing}
-use Rattle.http_connections.specs.Waiting.{Grows, IsAnswered, IsHeld}
+use Rattle.http_connections.specs.Waiting.{Grows, IsAnswered, IsBehind, IsHeld}
 use Rattle.http_connections.specs.Serving.{Connection, Exchange, continued, replied, items_of, answer_bytes, bytes_of, count_of, last_bytes, AreOpen, OpenBefore, asked_by, IsReply, IsReplyTo, IsUnanswered, draw_of, unrouted, stale, answered, AreTrue, IsLater, Passed, Came, IsCut, EndsBy}
 use Rattle.http_connections.specs.Stages.{IsAfterWrite, StopsBy, Wrote, Stage, Talks, Owes, OwesRefusal, Comes, GoesOn, IsTaking}
 use Rattle.http_connections.proofs.OwnTurns.{grows_none, grows_on}
@@ -76,7 +76,7 @@ module _ (shows : ℕ → Ask → Reply → List Mark → Type 0) (agrees : Type
   true_later : (es : List Exchange) (v w : Known) → Grows v w → AreTrue shows agrees c es v → AreTrue shows agrees c es w
   true_later [] v w g a = a
   true_later (continued ∷ es) v w g a = true_later es v w g a
-  true_later (replied m reply ∷ es) v w g a = (a.0, a.1, grows_on a.0 v w a.2 g, a.3)
+  true_later (replied m reply ∷ es) v w g a = (a.0, a.1, a.2, a.3, a.4, grows_on a.1 v w a.5 g)
 
   pub passed_later : (link : LinkState) (v w : Known) (es : List Exchange) (read written : List ℕ) → Grows v w → Passed shows agrees c link v es read written → Passed shows agrees c link w es read written
   passed_later link v w es read written g p = record { heard = p.heard; said = p.said; are_true = true_later es v w g p.are_true; grown = grows_on c.begun v w p.grown g; later = p.later }
@@ -116,22 +116,26 @@ module _ (shows : ℕ → Ask → Reply → List Mark → Type 0) (agrees : Type
   cut_later link v w requests g x = cut_by link link v w requests (λ es read written p. passed_later link v w es read written g p) x
 
   -- replies by the way in which they were made
-  pub refused_reply : (why : Refusal) (n : ℕ) (r : Result Reply NoReply) (v : Known) → IfOk r (λ reply. reply ≡ refusing why) → IfOk r (λ reply. IsReply shows agrees c (Bad why) n reply v)
-  refused_reply why n (Ok reply) v is = unrouted why refl is
-  refused_reply why n (Err f) v is = tt
+  pub refused_reply : (why : Refusal) (n : ℕ) (r : Result Reply NoReply) (u v : Known) → IfOk r (λ reply. reply ≡ refusing why) → IfOk r (λ reply. IsReply shows agrees c (Bad why) n reply u v)
+  refused_reply why n (Ok reply) u v is = unrouted why refl is
+  refused_reply why n (Err f) u v is = tt
 
-  pub viewed_reply : (request : Request) (n : ℕ) (r : Result Reply NoReply) (v : Known) → is_viewed request ≡ true → IfOk r (IsViewed request v.read) → IfOk r (λ reply. IsReply shows agrees c (Good request) n reply v)
-  viewed_reply request n (Ok reply) v e is = stale request refl e is
-  viewed_reply request n (Err f) v e is = tt
+  pub viewed_reply : (request : Request) (n : ℕ) (r : Result Reply NoReply) (u v : Known) → is_viewed request ≡ true → IfOk r (IsViewed request v.read) → IfOk r (λ reply. IsReply shows agrees c (Good request) n reply u v)
+  viewed_reply request n (Ok reply) u v e is = stale request refl e is
+  viewed_reply request n (Err f) u v e is = tt
 
-  pub asked_reply : (request : Request) (n : ℕ) (r : Result Reply NoReply) (v : Known) → is_viewed request ≡ false → IfOk r (IsReplyTo shows agrees c request n v) → IfOk r (λ reply. IsReply shows agrees c (Good request) n reply v)
-  asked_reply request n (Ok reply) v e is = answered request refl e is
-  asked_reply request n (Err f) v e is = tt
+  pub asked_reply : (request : Request) (n : ℕ) (r : Result Reply NoReply) (u v : Known) → is_viewed request ≡ false → IfOk r (IsReplyTo shows agrees c request n u v) → IfOk r (λ reply. IsReply shows agrees c (Good request) n reply u v)
+  asked_reply request n (Ok reply) u v e is = answered request refl e is
+  asked_reply request n (Err f) u v e is = tt
 
-  pub answered_by : (request : Request) (n : ℕ) (a : Ask) (r : Result Reply NoReply) (v : Known) → a ≡ record { agent = c.agent; asked = Good request; draw = draw_of c.draw n }
-      → IfOk r (λ reply. IsAnswered shows a reply v.seen v.mine) → OnOk r (HasLearned agrees v) → IfOk r (IsReplyTo shows agrees c request n v)
-  answered_by request n a (Ok reply) v e x l = record { answered = subst (λ (z : Ask). IsAnswered shows z reply v.seen v.mine) e x; learned = l }
-  answered_by request n a (Err why) v e x l = tt
+  pub answered_by : (request : Request) (n : ℕ) (a : Ask) (r : Result Reply NoReply) (u v : Known) → a ≡ record { agent = c.agent; asked = Good request; draw = draw_of c.draw n }
+      → IfOk r (λ reply. IsBehind reply.number a u.seen v.seen) → IfOk r (λ reply. IsAnswered shows a reply v.seen v.mine) → OnOk r (HasLearned agrees v) → IfOk r (IsReplyTo shows agrees c request n u v)
+  answered_by request n a (Ok reply) u v e b x l = record {
+    behind = subst (λ (z : Ask). IsBehind reply.number z u.seen v.seen) e b;
+    answered = subst (λ (z : Ask). IsAnswered shows z reply v.seen v.mine) e x;
+    learned = l;
+  }
+  answered_by request n a (Err why) u v e b x l = tt
 
   pub held_by : (request : Request) (n : ℕ) (a : Ask) (r : Result Reply NoReply) (v : Known) → a ≡ record { agent = c.agent; asked = Good request; draw = draw_of c.draw n } → is_viewed request ≡ false
       → IfErr r (λ why. why ≡ no_reply.Left → IsHeld a v) → IfErr r (λ why. why ≡ no_reply.Left → IsUnanswered shows agrees c (Good request) n v)
@@ -200,12 +204,12 @@ module _ (shows : ℕ → Ask → Reply → List Mark → Type 0) (agrees : Type
   })
 
   -- the reply to a request
-  module _ (s : Stage) (before : Known) (rest : List ℕ) (m : Raw) (reply : Reply) (n : ℕ) (o : Owes shows agrees c (record s { known = before }) rest (whole m)) (g : Grows before s.known) (e : n ≡ s.requests + 1) (is : IsReply shows agrees c (asked_by m) n reply s.known) where
+  module _ (s : Stage) (before : Known) (rest : List ℕ) (m : Raw) (reply : Reply) (n : ℕ) (o : Owes shows agrees c (record s { known = before }) rest (whole m)) (g : Grows before s.known) (e : n ≡ s.requests + 1) (is : IsReply shows agrees c (asked_by m) n reply before s.known) where
     abbrev es : List Exchange
     es = replied m reply ∷ o.es
 
     are_true : AreTrue shows agrees c es s.known
-    are_true = (s.known, subst (λ (z : ℕ). IsReply shows agrees c (asked_by m) z reply s.known) (e ∙ ap (λ z. z + 1) o.count) is, grows_none s.known, true_later o.es before s.known g o.passed.are_true)
+    are_true = (before, s.known, o.passed.are_true, subst (λ (z : ℕ). IsReply shows agrees c (asked_by m) z reply before s.known) (e ∙ ap (λ z. z + 1) o.count) is, g, grows_none s.known)
 
     passed : Passed shows agrees c s.link s.known es (o.stream ++ rest) (bytes_of o.es)
     passed = passed_true s.link s.known o.es es _ _ are_true (passed_later s.link before s.known o.es _ _ g o.passed)

@@ -161,7 +161,7 @@ given shows n ask reply mid new mine w is answered shown e k = record {
 
 -- what stands, of what was seen and opened
 pub StandsOver : (ℕ → Ask → Reply → List Mark → Type 0) → ℕ → Ask → Collected → List Mark → List ℕ → Type 0
-StandsOver shows n ask (collected.Ready reply) seen mine = IsAnswered shows ask reply seen mine
+StandsOver shows n ask (collected.Ready reply) seen mine = (reply.number ≡ n) × IsAnswered shows ask reply seen mine
 StandsOver shows n ask collected.NotYet seen mine = Waits n ask seen mine
 StandsOver shows n ask collected.Gone seen mine = ⊥
 
@@ -175,7 +175,7 @@ stands_known shows n ask collected.Gone k s = s
 pub stands : (shows : ℕ → Ask → Reply → List Mark → Type 0) (n : ℕ) (ask : Ask) (got : Collected) (mid new : List Mark) (mine : List ℕ)
     → Waits n ask mid mine → Collects shows n got mid new → AreKept new → StandsOver shows n ask got new mine
 unfolding StandsOver
-stands shows n ask (collected.Ready reply) mid new mine w x k = given shows n ask reply mid new mine w x.0 x.1.answered x.1.shown (sym x.1.number_is) k
+stands shows n ask (collected.Ready reply) mid new mine w x k = (x.1.number_is, given shows n ask reply mid new mine w x.0 x.1.answered x.1.shown (sym x.1.number_is) k)
 stands shows n ask collected.NotYet mid new mine w x k = subst (λ (l : List Mark). Waits n ask l mine) (sym x) w
 stands shows n ask collected.Gone mid new mine w x k = ⊎_elim (λ (f : Among n (numbers opens mid) → ⊥). f (asked_opens n ask mid w.asked)) (λ (a : Among n (numbers takes mid)). w.untaken a) x.1
 
@@ -253,6 +253,12 @@ pub turned_next : (shows : ℕ → Ask → Reply → List Mark → Type 0) (k : 
 turned_next shows k (Ok t) seen old new mine w e x after s m = λ ask waits. stands_next shows ask k t seen old new mine w waits e x after s m
 turned_next shows k (Err e) seen old new mine w ext x after s m = tt
 
+-- who asks nothing waits for the request that it names
+pub numbered_next : (shows : ℕ → Ask → Reply → List Mark → Type 0) (k : ℕ) (r : Result Turned Memory) (old new : List Mark)
+    → MatchResult r (λ t. Exchanged shows None k t old new) (λ _. AddsCut old new) → IfOk r (λ t. t.number ≡ k)
+numbered_next shows k (Ok t) old new x = x.made.0
+numbered_next shows k (Err e) old new x = tt
+
 pub behind : (shows : ℕ → Ask → Reply → List Mark → Type 0) (ask : Ask) (k : ℕ) (r : Result Turned Memory) (seen old new seen' : List Mark) (mine : List ℕ)
     → Extends opens takes mine seen old → MatchResult r (λ t. Exchanged shows (Some ask) k t old new) (λ _. AddsCut old new) → seen' ≡ new → IfOk r (λ t. IsBehind t.number ask seen seen')
 behind shows ask k (Ok t) seen old new seen' mine e x s =
@@ -262,6 +268,19 @@ behind shows ask k (Ok t) seen old new seen' mine e x s =
       asked = in_right (asked_mark t.number ask) e.0 (m.rest ++ l.rest) (in_left (asked_mark t.number ask) m.rest l.rest m.asked);
     }
 behind shows ask k (Err m) seen old new seen' mine e x s = tt
+
+-- what was asked behind all that had been seen still was, once more is seen, by whatever name its number goes
+pub behind_on : (n n' : ℕ) (ask : Ask) (before : List Mark) (v w : Known) → n' ≡ n → IsBehind n ask before v.seen → Grows v w → IsBehind n' ask before w.seen
+behind_on n n' ask before v w e b g = record {
+  more = b.more ++ g.rest;
+  seen_is = joined before v.seen w.seen b.more g.rest b.seen_is g.seen;
+  asked = in_left (asked_mark n' ask) b.more g.rest (subst (λ (z : ℕ). IsAmong (asked_mark z ask) b.more) (sym e) b.asked);
+}
+
+pub behind_or : {E : Type 0} (n : ℕ) (ask : Ask) (before : List Mark) (v w : Known) (r : Result Reply E) → IfOk r (λ reply. reply.number ≡ n) → IsBehind n ask before v.seen → Grows v w
+    → IfOk r (λ reply. IsBehind reply.number ask before w.seen)
+behind_or n ask before v w (Ok reply) e b g = behind_on n reply.number ask before v w e b g
+behind_or n ask before v w (Err why) e b g = tt
 
 pub grows_none : (v : Known) → Grows v v
 grows_none v = record { rest = []; more = []; seen = sym (append-nil v.seen); mine = sym (append-nil v.mine); read = prefix_self v.read }
@@ -296,7 +315,7 @@ held_looking v w marks e s m ask h =
 
 module _ (shows : ℕ → Ask → Reply → List Mark → Type 0) where
   pub looks_first : (n : ℕ) (got : Collected) (v : Known) → (ask : Ask) × Stands shows n ask got v → Looks shows n got v n got v
-  looks_first n got v s = record { grows = grows_none v; some = s; each = λ ask x. x }
+  looks_first n got v s = record { grows = grows_none v; same = refl; some = s; each = λ ask x. x }
 
   waiting : (n : ℕ) (ask : Ask) (got : Collected) (k : Known) → got ≡ collected.NotYet → Stands shows n ask got k → Waits n ask k.seen k.mine
   waiting n ask got k e s = subst (λ (x : Collected). Stands shows n ask x k) e s
@@ -304,17 +323,21 @@ module _ (shows : ℕ → Ask → Reply → List Mark → Type 0) where
   pub waits_own : (n : ℕ) (got : Collected) (v : Known) (n' : ℕ) (got' : Collected) (w : Known) → got' ≡ collected.NotYet → Looks shows n got v n' got' w → Among n' w.mine
   waits_own n got v n' got' w e l = (waiting n' l.some.0 got' w e l.some.1).own
 
-  pub looks_next : (n : ℕ) (got : Collected) (u : Known) (n₁ : ℕ) (got₁ : Collected) (v : Known) (n₂ : ℕ) (got₂ : Collected) (w : Known) → got₁ ≡ collected.NotYet → Looks shows n got u n₁ got₁ v → Grows v w
+  pub looks_next : (n : ℕ) (got : Collected) (u : Known) (n₁ : ℕ) (got₁ : Collected) (v : Known) (n₂ : ℕ) (got₂ : Collected) (w : Known) → got₁ ≡ collected.NotYet → n₂ ≡ n₁ → Looks shows n got u n₁ got₁ v → Grows v w
       → ((ask : Ask) → Waits n₁ ask v.seen v.mine → Stands shows n₂ ask got₂ w) → Looks shows n got u n₂ got₂ w
-  looks_next n got u n₁ got₁ v n₂ got₂ w e l g f = record {
+  looks_next n got u n₁ got₁ v n₂ got₂ w e same l g f = record {
     grows = grows_on u v w l.grows g;
+    same = same ∙ l.same;
     some = (l.some.0, f l.some.0 (waiting n₁ l.some.0 got₁ v e l.some.1));
     each = λ ask x. f ask (waiting n₁ ask got₁ v e (l.each ask x));
   }
 
   pub looks_ready : (n : ℕ) (got : Collected) (u : Known) (n' : ℕ) (got' : Collected) (w : Known) (reply : Reply) → got' ≡ collected.Ready reply → Looks shows n got u n' got' w
       → (ask : Ask) → Stands shows n ask got u → IsAnswered shows ask reply w.seen w.mine
-  looks_ready n got u n' got' w reply e l ask x = subst (λ (z : Collected). Stands shows n' ask z w) e (l.each ask x)
+  looks_ready n got u n' got' w reply e l ask x = let s : Stands shows n' ask (collected.Ready reply) w = subst (λ (z : Collected). Stands shows n' ask z w) e (l.each ask x) in s.1
+
+  pub looks_numbered : (n : ℕ) (got : Collected) (u : Known) (n' : ℕ) (got' : Collected) (w : Known) (reply : Reply) → got' ≡ collected.Ready reply → Looks shows n got u n' got' w → reply.number ≡ n
+  looks_numbered n got u n' got' w reply e l = let s : Stands shows n' l.some.0 (collected.Ready reply) w = subst (λ (z : Collected). Stands shows n' l.some.0 z w) e l.some.1 in s.0 ∙ l.same
 
   pub never_gone : (n : ℕ) (got : Collected) (u : Known) (n' : ℕ) (got' : Collected) (w : Known) → got' ≡ collected.Gone → Looks shows n got u n' got' w → ⊥
   never_gone n got u n' got' w e l = subst (λ (z : Collected). Stands shows n' l.some.0 z w) e l.some.1

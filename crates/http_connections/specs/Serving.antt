@@ -23,7 +23,7 @@ use Rattle.http_connections.specs.declared.cause.Cause.{Cause}
 use Rattle.http_connections.specs.declared.cause.Cause.TheVariants as cause
 use Rattle.http_connections.specs.Knowing.{Known, HasLearned}
 use Rattle.http_connections.specs.Replies.{IsViewed, is_viewed, refusing, text_of, head_of}
-use Rattle.http_connections.specs.Waiting.{Grows, IsAnswered, IsHeld}
+use Rattle.http_connections.specs.Waiting.{Grows, IsAnswered, IsBehind, IsHeld}
 
 -- A connection: the agent that is asked for it, the words that were drawn for it, and its link and what was known when it
 -- began.
@@ -109,25 +109,28 @@ pub record IsLater (first now : LinkState) : Type 0 where
 
 -- `shows` is the cluster's, and `agrees` tells whether its servers agree
 module _ (shows : ℕ → Ask → Reply → List Mark → Type 0) (agrees : Type 0) (c : Connection) where
-  -- The reply to the n-th request that was asked, with what was known then: its answer, and by then the viewer had read all
-  -- that was agreed.
-  pub record IsReplyTo (request : Request) (n : ℕ) (known : Known) (reply : Reply) : Type 0 where
+  -- The reply to the n-th request that was asked, with what was known before it was asked and when its reply was made: it
+  -- was asked behind all that was known before, the reply is its answer, and by then the viewer had read all that was agreed.
+  pub record IsReplyTo (request : Request) (n : ℕ) (before known : Known) (reply : Reply) : Type 0 where
+    pub behind : IsBehind reply.number (record { agent = c.agent; asked = Good request; draw = draw_of c.draw n }) before.seen known.seen
     pub answered : IsAnswered shows (record { agent = c.agent; asked = Good request; draw = draw_of c.draw n }) reply known.seen known.mine
     pub learned : HasLearned agrees known
 
   -- The reply to the n-th request, which asks for this: the refusal of its route; for a stale read that waits for no index
   -- the answer over the list that the viewer had read then; or the answer to what was asked.
-  pub data IsReply (asked : Asked) (n : ℕ) (reply : Reply) (known : Known) : Type 0 where
-    unrouted : (why : Refusal) → asked ≡ Bad why → reply ≡ refusing why → IsReply asked n reply known
-    stale : (request : Request) → asked ≡ Good request → is_viewed request ≡ true → IsViewed request known.read reply → IsReply asked n reply known
-    answered : (request : Request) → asked ≡ Good request → is_viewed request ≡ false → IsReplyTo request n known reply → IsReply asked n reply known
+  pub data IsReply (asked : Asked) (n : ℕ) (reply : Reply) (before known : Known) : Type 0 where
+    unrouted : (why : Refusal) → asked ≡ Bad why → reply ≡ refusing why → IsReply asked n reply before known
+    stale : (request : Request) → asked ≡ Good request → is_viewed request ≡ true → IsViewed request known.read reply → IsReply asked n reply before known
+    answered : (request : Request) → asked ≡ Good request → is_viewed request ≡ false → IsReplyTo request n before known reply → IsReply asked n reply before known
 
-  -- Each reply is that to its request. Nothing that was seen, opened or read when a reply was made is lost later, so a
-  -- stale read shows all that was agreed when an earlier reply was collected, and no shorter list than an earlier one.
+  -- Each reply is that to its request, by what was known before the request was asked and when the reply was made. Nothing
+  -- that was seen, opened or read when a reply was made is lost later. So a request is asked behind the answers to all that
+  -- were asked before it on its connection, which reads what it wrote; and a stale read shows all that was agreed when an
+  -- earlier reply was collected, and no shorter list than an earlier one.
   abbrev pub AreTrue : List Exchange → Known → Type 0
   AreTrue [] known = Unit {0}
   AreTrue (continued ∷ es) known = AreTrue es known
-  AreTrue (replied raw reply ∷ es) known = (had : Known) × IsReply (asked_by raw) (count_of es + 1) reply had × Grows had known × AreTrue es had
+  AreTrue (replied raw reply ∷ es) known = (before : Known) × (had : Known) × AreTrue es before × IsReply (asked_by raw) (count_of es + 1) reply before had × Grows before had × Grows had known
 
   -- what came and went since the connection began: bytes that were read and bytes that were written, where the link
   -- tells them, and true replies

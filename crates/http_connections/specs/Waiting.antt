@@ -52,15 +52,16 @@ pub record IsAnswered (shows : ℕ → Ask → Reply → List Mark → Type 0) (
   pub only : EachOnce (numbers answers front)
   pub shown : shows reply.number ask reply front
 
--- after a turn there is the reply, or the request still waits
+-- after a turn there is the reply, which has the request's number, or the request still waits
 abbrev pub Stands : (ℕ → Ask → Reply → List Mark → Type 0) → ℕ → Ask → Collected → Known → Type 0
-Stands shows n ask (collected.Ready reply) k = IsAnswered shows ask reply k.seen k.mine
+Stands shows n ask (collected.Ready reply) k = (reply.number ≡ n) × IsAnswered shows ask reply k.seen k.mine
 Stands shows n ask collected.NotYet k = Waits n ask k.seen k.mine
 Stands shows n ask collected.Gone k = ⊥
 
--- the loop of a request that waits: whatever stood at its start stands now
+-- the loop of a request that waits: whatever stood at its start stands now, of the same number
 pub record Looks (shows : ℕ → Ask → Reply → List Mark → Type 0) (n : ℕ) (got : Collected) (v : Known) (n' : ℕ) (got' : Collected) (w : Known) : Type 0 where
   pub grows : Grows v w
+  pub same : n' ≡ n
   pub some : (ask : Ask) × Stands shows n' ask got' w
   pub each : (ask : Ask) → Stands shows n ask got v → Stands shows n' ask got' w
 

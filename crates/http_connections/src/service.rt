@@ -139,7 +139,7 @@ fn ask<R: Wait, C: SharedCluster, Cl: Clock, G: Gate, L: Link>(
     ensures ours { IsOurs (arc_value service.now.board) pass.new }
     ensures grown { Grows (known_by pass.old viewer.old) (known_by pass.new viewer.new) }
     ensures link { IsAfterAsk result (L.state link.old) (L.state link.new) }
-    ensures reply { IfOk result (IsReplyTo C.shows C.agrees (connection L.state service.now) request n (known_by pass.new viewer.new)) }
+    ensures reply { IfOk result (IsReplyTo C.shows C.agrees (connection L.state service.now) request n (known_by pass.old viewer.old) (known_by pass.new viewer.new)) }
     ensures left { IfErr result (λ why. why ≡ no_reply.Left → IsUnanswered C.shows C.agrees (connection L.state service.now) (Good request) n (known_by pass.new viewer.new)) }
 {
     match asking(service, request, n) {
@@ -188,7 +188,7 @@ fn reply_by<R: Wait, C: SharedCluster, Cl: Clock, G: Gate, L: Link>(
     ensures unturned { TakesNoTurn (Good request) pass.old pass.new }
     ensures grown { Grows (known_by pass.old viewer.old) (known_by pass.new viewer.new) }
     ensures link { IsAfterAsk result (L.state link.old) (L.state link.new) }
-    ensures reply { IfOk result (λ reply. IsReply C.shows C.agrees (connection L.state service.now) (Good request) n reply (known_by pass.new viewer.new)) }
+    ensures reply { IfOk result (λ reply. IsReply C.shows C.agrees (connection L.state service.now) (Good request) n reply (known_by pass.old viewer.old) (known_by pass.new viewer.new)) }
     ensures left { IfErr result (λ why. why ≡ no_reply.Left → IsUnanswered C.shows C.agrees (connection L.state service.now) (Good request) n (known_by pass.new viewer.new)) }
 {
     if !is_viewed(&request) {
@@ -215,7 +215,7 @@ fn respond<R: Wait, C: SharedCluster, Cl: Clock, G: Gate, L: Link>(
     ensures unturned { TakesNoTurn asked pass.old pass.new }
     ensures grown { Grows (known_by pass.old viewer.old) (known_by pass.new viewer.new) }
     ensures link { IsAfterAsk result (L.state link.old) (L.state link.new) }
-    ensures reply { IfOk result (λ reply. IsReply C.shows C.agrees (connection L.state service.now) asked n reply (known_by pass.new viewer.new)) }
+    ensures reply { IfOk result (λ reply. IsReply C.shows C.agrees (connection L.state service.now) asked n reply (known_by pass.old viewer.old) (known_by pass.new viewer.new)) }
     ensures left { IfErr result (λ why. why ≡ no_reply.Left → IsUnanswered C.shows C.agrees (connection L.state service.now) asked n (known_by pass.new viewer.new)) }
 {
     match asked {
@@ -254,7 +254,7 @@ fn reply_to<R: Wait, C: SharedCluster, Cl: Clock, G: Gate, L: Link>(
     ensures unturned { OnOk result (TakesNoTurn (asked_by (raw message.now)) pass.old pass.new) }
     ensures grown { Grows (known_by pass.old viewer.old) (known_by pass.new viewer.new) }
     ensures link { IsAfterAsk result (L.state link.old) (L.state link.new) }
-    ensures reply { IfOk result (λ r. IsReply C.shows C.agrees (connection L.state service.now) (asked_by (raw message.now)) n r.reply (known_by pass.new viewer.new)) }
+    ensures reply { IfOk result (λ r. IsReply C.shows C.agrees (connection L.state service.now) (asked_by (raw message.now)) n r.reply (known_by pass.old viewer.old) (known_by pass.new viewer.new)) }
     ensures filter { IfOk result (λ r. option_map expression_of r.filter ≡ filter_at (raw message.now).target) }
     ensures left { IfErr result (λ why. why ≡ no_reply.Left → IsUnanswered C.shows C.agrees (connection L.state service.now) (asked_by (raw message.now)) n (known_by pass.new viewer.new)) }
 {
@@ -293,7 +293,7 @@ impl<L: Link, C: SharedCluster> Serving<L, Served<C>, Viewer<C::Pair>> {
         requires filter { option_map expression_of response.now.filter ≡ filter_at (raw message.now).target }
         ensures pass { (self.new.pass ≡ self.old.pass) × (self.new.viewer ≡ self.old.viewer) }
         ensures gives { (before : Known) (rest : List ℕ) → Owes C.shows C.agrees (connection L.state service.now) (record (stage L.state self.old) { known = before }) rest (whole (raw message.now)) → Grows before (known_by self.old.pass self.old.viewer)
-            → IsReply C.shows C.agrees (connection L.state service.now) (asked_by (raw message.now)) n response.now.reply (known_by self.old.pass self.old.viewer)
+            → IsReply C.shows C.agrees (connection L.state service.now) (asked_by (raw message.now)) n response.now.reply before (known_by self.old.pass self.old.viewer)
             → GoesOn C.shows C.agrees (connection L.state service.now) result (stage L.state self.new) rest }
     {
         match send_answer(&mut self.link, service.alloc, message, response) {

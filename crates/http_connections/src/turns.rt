@@ -68,6 +68,7 @@ pub(crate) fn next_turn<R: Wait, C: SharedCluster, G: Gate>(
     ensures own { IsSame pass.old.seat pass.new.seat }
     ensures free { IsFree pass.new.seat }
     ensures grown { Grows (known_by pass.old viewer.old) (known_by pass.new viewer.new) }
+    ensures number { IfOk result (λ t. t.number ≡ number) }
     ensures stands { IfOk result (λ t. (ask : SpecAsk) → Waits number ask (known pass.old).seen (known pass.old).mine → Stands C.shows t.number ask t.got (known_by pass.new viewer.new)) }
     ensures learned { OnOk result (HasLearned C.agrees (known_by pass.new viewer.new)) }
 {
@@ -140,6 +141,7 @@ pub(crate) fn ask_and_wait<R: Wait, C: SharedCluster, Cl: Clock, G: Gate, L: Lin
     ensures free { IsFree pass.new.seat }
     ensures grown { Grows (known_by pass.old viewer.old) (known_by pass.new viewer.new) }
     ensures link { IsAfterAsk result (L.state link.old) (L.state link.new) }
+    ensures behind { IfOk result (λ reply. IsBehind reply.number ask (known pass.old).seen (known pass.new).seen) }
     ensures answered { IfOk result (λ reply. IsAnswered C.shows ask reply (known pass.new).seen (known pass.new).mine) }
     ensures learned { OnOk result (HasLearned C.agrees (known_by pass.new viewer.new)) }
     ensures left { IfErr result (λ why. why ≡ no_reply.Left → IsHeld ask (known_by pass.new viewer.new)) }
@@ -175,6 +177,7 @@ fn wait_for<R: Wait, C: SharedCluster, Cl: Clock, G: Gate, L: Link>(
     ensures free { IsFree pass.new.seat }
     ensures grown { Grows (known_by pass.old viewer.old) (known_by pass.new viewer.new) }
     ensures link { IsAfterAsk result (L.state link.old) (L.state link.new) }
+    ensures number { IfOk result (λ reply. reply.number ≡ turned.number) }
     ensures answered { IfOk result (λ reply. (ask : SpecAsk) → Stands C.shows turned.number ask turned.got (known_by pass.old viewer.old)
         → IsAnswered C.shows ask reply (known pass.new).seen (known pass.new).mine) }
     ensures learned { OnOk result (HasLearned C.agrees (known_by pass.new viewer.new)) }

@@ -12,7 +12,7 @@ ask_and_wait-requires-clause-may g c = subst (MayAsk g.C.SharedCluster.agents) (
 pub returns-in-Ok-clause-reply : goal.returns-in-Ok-clause-reply
 returns-in-Ok-clause-reply g c =
     let k = connection g.L.Link.state c.args.service.now in
-    answered_by g.C.SharedCluster.shows g.C.SharedCluster.agrees k c.args.request c.args.n c.in-Ok.ask c.ask_and_wait.result (known_by c.ask_and_wait.new.pass c.ask_and_wait.new.viewer) c.in-Ok.ensures c.ask_and_wait.ensures.answered c.ask_and_wait.ensures.learned
+    answered_by g.C.SharedCluster.shows g.C.SharedCluster.agrees k c.args.request c.args.n c.in-Ok.ask c.ask_and_wait.result (known_by c.args.pass.now c.args.viewer.now) (known_by c.ask_and_wait.new.pass c.ask_and_wait.new.viewer) c.in-Ok.ensures c.ask_and_wait.ensures.behind c.ask_and_wait.ensures.answered c.ask_and_wait.ensures.learned
 
 pub returns-in-Ok-clause-left : goal.returns-in-Ok-clause-left
 returns-in-Ok-clause-left g c =

@@ -14,12 +14,12 @@ ask-requires-clause-unviewed g c = sym c.is_viewed.ensures ∙ c.if-not-is_viewe
 pub returns-then-not-is_viewed-clause-reply : goal.returns-then-not-is_viewed-clause-reply
 returns-then-not-is_viewed-clause-reply g c =
     let k = connection g.L.Link.state c.args.service.now in
-    asked_reply g.C.SharedCluster.shows g.C.SharedCluster.agrees k c.args.request c.args.n c.ask.result (known_by c.ask.new.pass c.ask.new.viewer) (sym c.is_viewed.ensures ∙ c.if-not-is_viewed.true) c.ask.ensures.reply
+    asked_reply g.C.SharedCluster.shows g.C.SharedCluster.agrees k c.args.request c.args.n c.ask.result (known_by c.args.pass.now c.args.viewer.now) (known_by c.ask.new.pass c.ask.new.viewer) (sym c.is_viewed.ensures ∙ c.if-not-is_viewed.true) c.ask.ensures.reply
 
 pub returns-clause-reply : goal.returns-clause-reply
 returns-clause-reply g c =
     let k = connection g.L.Link.state c.args.service.now in
-    viewed_reply g.C.SharedCluster.shows g.C.SharedCluster.agrees k c.args.request c.args.n c.view-seen.result (known_by c.args.pass.now c.view-seen.new.viewer) (sym c.is_viewed.ensures ∙ c.if-not-is_viewed.false) c.view-seen.ensures.reply
+    viewed_reply g.C.SharedCluster.shows g.C.SharedCluster.agrees k c.args.request c.args.n c.view-seen.result (known_by c.args.pass.now c.args.viewer.now) (known_by c.args.pass.now c.view-seen.new.viewer) (sym c.is_viewed.ensures ∙ c.if-not-is_viewed.false) c.view-seen.ensures.reply
 
 pub returns-clause-grown : goal.returns-clause-grown
 returns-clause-grown g c = grows_read (known_by c.args.pass.now c.args.viewer.now) c.view-seen.new.viewer c.view-seen.ensures.grown

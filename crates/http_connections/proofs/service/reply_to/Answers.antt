@@ -10,7 +10,7 @@ use Rattle.http_connections.proofs.service.reply_to.Goals as goal
 pub returns-in-Ok-respond-clause-reply : goal.returns-in-Ok-respond-clause-reply
 returns-in-Ok-respond-clause-reply g c =
     let k = connection g.L.Link.state c.args.service.now in
-    subst (λ (a : Asked). IsReply g.C.SharedCluster.shows g.C.SharedCluster.agrees k a c.args.n c.in-Ok-respond.reply (known_by c.respond.new.pass c.respond.new.viewer)) c.in-Ok.ensures.asked c.in-Ok-respond.ensures.reply
+    subst (λ (a : Asked). IsReply g.C.SharedCluster.shows g.C.SharedCluster.agrees k a c.args.n c.in-Ok-respond.reply (known_by c.args.pass.now c.args.viewer.now) (known_by c.respond.new.pass c.respond.new.viewer)) c.in-Ok.ensures.asked c.in-Ok-respond.ensures.reply
 
 pub returns-in-Err-clause-grown : goal.returns-in-Err-clause-grown
 returns-in-Err-clause-grown g c = grows_none (known_by c.args.pass.now c.args.viewer.now)

@@ -19,7 +19,7 @@ returns-in-Bad-clause-link g c = after_refused c.refused.result (g.L.Link.state 
 pub returns-in-Bad-clause-reply : goal.returns-in-Bad-clause-reply
 returns-in-Bad-clause-reply g c =
     let shows = g.C.SharedCluster.shows in let agrees = g.C.SharedCluster.agrees in let k = connection g.L.Link.state c.args.service.now in let v = known_by c.args.pass.now c.args.viewer.now in
-    subst (λ (a : Asked). IfOk c.refused.result (λ reply. IsReply shows agrees k a c.args.n reply v)) (sym c.in-Bad.is) (refused_reply shows agrees k c.in-Bad.why c.args.n c.refused.result v c.refused.ensures.reply)
+    subst (λ (a : Asked). IfOk c.refused.result (λ reply. IsReply shows agrees k a c.args.n reply v v)) (sym c.in-Bad.is) (refused_reply shows agrees k c.in-Bad.why c.args.n c.refused.result v v c.refused.ensures.reply)
 
 pub returns-in-Bad-clause-left : goal.returns-in-Bad-clause-left
 returns-in-Bad-clause-left g c =

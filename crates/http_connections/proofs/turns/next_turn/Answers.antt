@@ -5,7 +5,7 @@ use Rattle.turn_lock.specs.Passes.{MayEnd}
 use Rattle.http_connections.specs.Knowing.{known_by}
 use Rattle.http_connections.specs.Marks.{opens, takes}
 use Rattle.http_connections.proofs.Agreeing.{learned_by}
-use Rattle.http_connections.proofs.OwnTurns.{exchanged_or, may_end, grows, rests_next_or, turned_next}
+use Rattle.http_connections.proofs.OwnTurns.{exchanged_or, may_end, grows, numbered_next, rests_next_or, turned_next}
 use Rattle.http_connections.proofs.turns.next_turn.Goals as goal
 
 pub give-requires-clause-may : goal.give-requires-clause-may
@@ -18,6 +18,11 @@ give-requires-clause-may g c =
     let own = subst (Among c.args.number) (sym c.take-turn.ensures.mine.0) c.requires.mine in
     let rests = rests_next_or g.C.SharedCluster.shows mine c.args.number c.turn-turned.result old new own turned in
     subst (λ (l : List Mark). MayEnd opens takes l mine new) (sym same) (may_end mine old new rests c.turn-turned.ensures.after)
+
+pub returns-clause-number : goal.returns-clause-number
+returns-clause-number g c =
+    let turned = exchanged_or g.C.SharedCluster.marks g.C.SharedCluster.idle g.C.SharedCluster.servers g.C.SharedCluster.clock g.C.SharedCluster.shows c.state.result.now.last_ms c.args.now None c.args.number c.turn-turned.result c.state.result.now.cluster c.turn-turned.new.self.cluster c.turn-turned.ensures.turned in
+    numbered_next g.C.SharedCluster.shows c.args.number c.turn-turned.result (g.C.SharedCluster.marks c.state.result.now.cluster) (g.C.SharedCluster.marks c.turn-turned.new.self.cluster) turned
 
 pub returns-clause-stands : goal.returns-clause-stands
 returns-clause-stands g c =
