@@ -6,7 +6,7 @@ use std::alloc::Global;
 use std::test::Fail;
 
 /// How many keys there are. They are set in the order `k0`, `k1`, `k2` and so on, which is not their own.
-const KEYS: u64 = 250_000;
+const KEYS: u64 = 100_000;
 
 // Sets a key at a position. Its row is lost where memory is out.
 fn put(alloc: Global, table: &mut KvTable, key: &str, position: u64) -> Result<(), Memory> {
