@@ -6,7 +6,7 @@ use Rattle.cat_model.specs.declared.command.Command.{Command}
 use Rattle.raft_model.specs.declared.message.Place.{Place}
 use Rattle.raft_model.specs.declared.message.Sent.{Sent}
 use Rattle.raft_model.specs.Log.{entry_at}
-use Rattle.raft_model.specs.Node.{Node, Store}
+use Rattle.raft_model.specs.Node.{Node, Store, last}
 use Rattle.raft_model.specs.Rules.{Input, Timeout, Beat, Receive, Propose}
 use Rattle.raft_model.specs.Step.{Forgets, LogFails, NodeStep, RestartFails, RestartWorks, Starts}
 use Rattle.raft_node.specs.Steps.{MayPropose, Proposes}
@@ -97,6 +97,7 @@ status_of h = record {
   role = h.node.role;
   term = h.node.term;
   leader = h.node.leader;
+  last = last h.node;
   commit = h.node.commit;
   applied = h.applied;
   lost = h.outbox.lost;

@@ -211,6 +211,7 @@ impl<K: Keeper + Drop> Host<K> {
             role: self.node.role(),
             term: self.node.term(),
             leader: self.node.leader(),
+            last: self.node.last(),
             commit: self.node.commit(),
             applied: self.applied,
             lost: self.outbox.lost(),

@@ -6,7 +6,7 @@ use Rattle.raft_model.specs.Rules.{Receive}
 use Rattle.raft_node.specs.Steps.{Steps}
 use Rattle.raft_node.specs.declared.fault.ProposeFault.{ProposeFault}
 use Rattle.raft_node.specs.declared.fault.ProposeFault.TheVariants as faults
-use Rattle.node_link.specs.Hosts.{Hosted, Answers, FindsNoMemory, Makes}
+use Rattle.node_link.specs.Hosts.{Hosted, Answers, FindsNoMemory, Makes, status_of}
 use Rattle.peer_frames.specs.declared.frame.Frame.{Frame}
 use Rattle.peer_frames.specs.declared.frame.Frame.TheVariants.{Peer, Placed, Propose, Refused, State, Status}
 use Rattle.peer_frames.specs.declared.frame.Peers.{Peers}
@@ -15,6 +15,10 @@ use Rattle.peer_frames.specs.declared.frame.Why.TheVariants as whys
 -- whose frames the host's reader reads
 abbrev pub peers_of : Hosted → Peers
 peers_of h = record { id = h.node.id; servers = h.node.servers }
+
+-- how the node stands, for a client
+abbrev pub state_of : Hosted → Frame
+state_of h = let status = status_of h in State status.term status.role status.commit status.last
 
 -- The frame that says how a proposal ended. Want of memory has none.
 abbrev pub Says : Result Place ProposeFault → Option Frame → Type 0
@@ -25,12 +29,12 @@ Says (Err faults.Halted) answer = answer ≡ Some (Refused whys.Halted)
 Says (Err faults.Memory) answer = ⊥
 
 -- A server's message is received, and what the node says to it waits in the outbox. A client's proposal is made or
--- refused. Other frames change nothing and have no answer.
+-- refused, and its question is answered by the node's state. A frame that is itself an answer changes nothing.
 abbrev pub IsAnswered : Hosted → Frame → Option Frame → Hosted → Type 0
 IsAnswered old (Peer sender message) answer new = Makes Steps old (Receive sender message) new × (answer ≡ None)
 IsAnswered old (Propose command) answer new =
     (end : Result Place ProposeFault) × Answers old command new end × Says end answer
-IsAnswered old Status answer new = (new ≡ old) × (answer ≡ None)
+IsAnswered old Status answer new = (new ≡ old) × (answer ≡ Some (state_of old))
 IsAnswered old (Placed index term) answer new = (new ≡ old) × (answer ≡ None)
 IsAnswered old (Refused why) answer new = (new ≡ old) × (answer ≡ None)
 IsAnswered old (State term role commit last) answer new = (new ≡ old) × (answer ≡ None)

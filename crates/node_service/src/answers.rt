@@ -3,7 +3,7 @@
 ghost use Rattle.std.specs.Prelude.{◌≡◌, IfOk, OnErr};
 ghost use Rattle.peer_frames.specs.Spelling.{Accepts};
 ghost use Rattle.peer_frames.specs.declared.frame.Frame.TheVariants as frames;
-ghost use Rattle.node_service.specs.Answering.{AnswersFrame, IsAnswered, peers_of};
+ghost use Rattle.node_service.specs.Answering.{AnswersFrame, IsAnswered, peers_of, state_of};
 
 use cat_model::{Command, Memory, Shared};
 use node_link::Host;
@@ -29,7 +29,7 @@ pub fn answer<K: Keeper + Drop>(
             Ok(None)
         }
         Frame::Propose { command } => propose(host, alloc, command.share()?),
-        Frame::Status => Ok(None),
+        Frame::Status => Ok(Some(state(host))),
         Frame::Placed { .. } | Frame::Refused { .. } | Frame::State { .. } => Ok(None),
     }
 }
@@ -51,4 +51,16 @@ fn propose<K: Keeper + Drop>(
         Err(ProposeFault::Memory) => return Err(Memory),
     };
     Ok(Some(Frame::Refused { why }))
+}
+
+fn state<K: Keeper + Drop>(host: &Host<K>) -> Frame
+    ensures { result ≡ state_of host.now }
+{
+    let status = host.status();
+    Frame::State {
+        term: status.term,
+        role: status.role,
+        commit: status.commit,
+        last: status.last,
+    }
 }

@@ -3,11 +3,11 @@
 //!
 //! # What is proved
 //!
-//! A frame of a peer is received, and a proposal is answered by its place or by why it has none; nothing else changes
-//! the host or is answered. An alarm makes a leader's heartbeat, or another server's election timeout, exactly where it
-//! is due. The dialer is brought the frames of the outbox, each once and in order, whatever became of those before it;
-//! where none of its calls failed it took them all. No server uses it yet. Carried by: `answer`, clauses of `Alarm`,
-//! `send_all`, the trait `Dialer`.
+//! A frame of a peer is received, a proposal is answered by its place or by why it has none, and a question by the
+//! node's state; nothing else changes the host or is answered. An alarm makes a leader's heartbeat, or another server's
+//! election timeout, exactly where it is due. The dialer is brought the frames of the outbox, each once and in order,
+//! whatever became of those before it; where none of its calls failed it took them all. No server uses it yet.
+//! Carried by: `answer`, clauses of `Alarm`, `send_all`, the trait `Dialer`.
 #![tactic(auto)]
 
 mod alarm;
