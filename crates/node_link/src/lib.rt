@@ -16,6 +16,8 @@ mod host;
 pub mod laws;
 mod outbox;
 mod status;
+#[cfg(test)]
+mod tests;
 
 pub use host::Host;
 pub use status::Status;
