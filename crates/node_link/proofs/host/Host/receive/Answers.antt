@@ -3,7 +3,7 @@ use Rattle.raft_model.specs.Rules.{Receive}
 use Rattle.raft_model.specs.Step.{Forgets}
 use Rattle.raft_node.specs.Steps.{Steps}
 use Rattle.node_journals.specs.Journals.{Given}
-use Rattle.node_link.specs.Hosts.{Hosted, Receives, told}
+use Rattle.node_link.specs.Hosts.{Hosted, Receives, has_grant, told}
 use Rattle.node_link.proofs.Hosting.{as_before, forgets, host_noted, host_same, is_step}
 use Rattle.node_link.proofs.host.Host.receive.Goals as goal
 
@@ -30,7 +30,7 @@ pub returns-in-Ok-clause-ok : goal.returns-in-Ok-clause-ok
 returns-in-Ok-clause-ok g c =
     let i = c.self.inside in
     subst (λ (z : Hosted). Receives z c.args.from c.args.message.now c.has_grant-granted.result (record { process = c.received-self-inside.result.process; node = c.receive.new.self; outbox = c.post_all.new.self; applied = i.applied })) c.self.view_is
-    (record { sent = c.in-Ok.sent; step = c.in-Ok.ensures.ok; noted = record { process = c.received-self-inside.ensures; outbox = c.post_all.ensures; applied = refl } }, c.has_grant-granted.ensures)
+    (record { sent = c.in-Ok.sent; step = c.in-Ok.ensures.ok; noted = record { process = c.received-self-inside.ensures; outbox = c.post_all.ensures; applied = refl } }, c.has_grant-granted.ensures ∙ ap has_grant c.as_slice.ensures)
 
 pub returns-else-term-before-clause-memory : goal.returns-else-term-before-clause-memory
 returns-else-term-before-clause-memory g c =
