@@ -44,7 +44,7 @@ impl Answer {
 }
 
 /// Answers a frame that the host's reader accepted.
-pub fn answer<K: Keeper + Drop>(
+pub fn answer_frame<K: Keeper + Drop>(
     host: &mut Host<K>,
     alloc: Global,
     frame: &Frame,

@@ -12,7 +12,7 @@ ghost use Rattle.node_service.specs.Processes.{TakesFrame};
 ghost use Rattle.node_service.specs.Sending.{SendsAll, TakesAll, pieces_of};
 
 use crate::alarm::Alarm;
-use crate::answers::{Answer, answer};
+use crate::answers::{Answer, answer_frame};
 use crate::dialer::Dialer;
 use crate::outbox::send_all;
 use cat_model::{Command, Memory, Shared};
@@ -85,7 +85,7 @@ impl<K: Keeper + Drop> NodeProcess<K> {
         ensures taken { TakesFrame self.old frame.now now_ms word result self.new }
         ensures peers { peers_of self.new.host ≡ peers_of self.old.host }
     {
-        match answer(&mut self.host, alloc, frame) {
+        match answer_frame(&mut self.host, alloc, frame) {
             Ok(
                 Answer {
                     frame: told,
