@@ -1,3 +1,4 @@
 mod Hosting
 mod Linked
 mod Lists
+pub mod Staying

@@ -1,15 +1,17 @@
 -- A host: a node with its history, and what links have still to send of what it made.
-use Rattle.std.specs.Prelude.{◌≡◌, ℕ, ◌+◌, nat_lt, true, if◌then◌else◌, ◌⊎◌, List, [], ◌∷◌, ◌++◌, length, Contains, Option, Some, None, Result, Ok, Err}
-use Rattle.std.specs.List.{AllByRecursion}
+use Rattle.std.specs.Prelude.{◌≡◌, ℕ, ◌+◌, nat_lt, true, if◌then◌else◌, ◌⊎◌, Bool, false, List, [], ◌∷◌, ◌++◌, length, Contains, Option, Some, None, Result, Ok, Err}
+use Rattle.std.specs.List.{AllByRecursion, list_any}
 use Rattle.std.specs.Option.{option_map}
 use Rattle.cat_model.specs.declared.command.Command.{Command}
+use Rattle.raft_model.specs.declared.message.Message.{Message}
+use Rattle.raft_model.specs.declared.message.Message.TheVariants.{AskVote, Vote, Append, Yes, No}
 use Rattle.raft_model.specs.declared.message.Place.{Place}
 use Rattle.raft_model.specs.declared.message.Sent.{Sent}
 use Rattle.raft_model.specs.Log.{entry_at}
-use Rattle.raft_model.specs.Node.{Node, Store}
+use Rattle.raft_model.specs.Node.{Node, Store, last}
 use Rattle.raft_model.specs.Rules.{Input, Timeout, Beat, Receive, Propose}
 use Rattle.raft_model.specs.Step.{Forgets, LogFails, NodeStep, RestartFails, RestartWorks, Starts}
-use Rattle.raft_node.specs.Steps.{MayPropose, Proposes}
+use Rattle.raft_node.specs.Steps.{MayPropose, Proposes, Steps}
 use Rattle.raft_node.specs.declared.fault.ProposeFault.{ProposeFault}
 use Rattle.raft_node.specs.declared.fault.ProposeFault.TheVariants.{Halted}
 use Rattle.node_journals.specs.Journals.{Event, Given, Restart, Step, Process, IsJournal, ended}
@@ -71,6 +73,22 @@ pub record Makes (By : Node → Input → Node → List Sent → Type 0) (old : 
   pub step : By old.node input new.node sent
   pub noted : IsNoted old (Given input) sent new
 
+-- a message that grants a vote
+abbrev pub grants : Message → Bool
+grants (Vote term granted) = granted
+grants (AskVote term last_index last_term) = false
+grants (Append term prev_index prev_term entries commit round) = false
+grants (Yes term matched round) = false
+grants (No term last) = false
+
+-- one of these messages grants a vote
+abbrev pub has_grant : List Sent → Bool
+has_grant sent = list_any (λ m. grants m.message) sent
+
+-- A message was received; `granted` says whether the node granted a vote in that step.
+abbrev pub Receives : Hosted → ℕ → Message → Bool → Hosted → Type 0
+Receives old from message granted new = (made : Makes Steps old (Receive from message) new) × (granted ≡ has_grant made.sent)
+
 -- A step found no memory: all is as before, or the node kept its vote and forgot the rest, which is a step too.
 abbrev pub FindsNoMemory : Hosted → Input → Hosted → Type 0
 FindsNoMemory old input new =
@@ -97,6 +115,7 @@ status_of h = record {
   role = h.node.role;
   term = h.node.term;
   leader = h.node.leader;
+  last = last h.node;
   commit = h.node.commit;
   applied = h.applied;
   lost = h.outbox.lost;
@@ -110,3 +129,13 @@ next_of h = if nat_lt h.applied h.node.commit then option_map (λ e. e.command) 
 abbrev pub handed : Hosted → Option Command → Hosted
 handed h None = h
 handed h (Some command) = record h { applied = h.applied + 1 }
+
+-- the same server of a cluster of as many
+pub record IsSameServer (old new : Node) : Type 0 where
+  pub id : new.id ≡ old.id
+  pub servers : new.servers ≡ old.servers
+
+-- A host was always the same server of a cluster of as many: at its start, after each step, and now.
+pub record KeepsPlace (h : Hosted) : Type 0 where
+  pub ever : (s : Step) → Contains h.process.steps s → IsSameServer h.process.start s.node
+  pub now : IsSameServer h.process.start h.node

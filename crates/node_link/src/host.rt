@@ -7,7 +7,7 @@ ghost use Rattle.raft_model.specs.Step.{NodeStep, Works};
 ghost use Rattle.raft_node.specs.Nodes.{KeepsLimits};
 ghost use Rattle.raft_node.specs.Receiving.{CarriesAllowed, IsOther};
 ghost use Rattle.raft_node.specs.Steps.{FailsToLoad, Steps, stored};
-ghost use Rattle.node_link.specs.Hosts.{Answers, Begins, BeginsAgain, FindsNoMemory, IsHost, Makes, handed, next_of, status_of};
+ghost use Rattle.node_link.specs.Hosts.{Answers, Begins, BeginsAgain, FindsNoMemory, IsHost, Makes, Receives, grants, handed, has_grant, next_of, status_of};
 
 use crate::happened::Happened;
 use crate::history::History;
@@ -90,19 +90,20 @@ impl<K: Keeper + Drop> Host<K> {
         }
     }
 
-    /// Takes a message of another server.
-    pub fn receive(&mut self, alloc: Global, from: u32, message: &Message) -> Result<(), Memory>
+    /// Takes a message of another server. Says whether it granted a vote.
+    pub fn receive(&mut self, alloc: Global, from: u32, message: &Message) -> Result<bool, Memory>
         requires other { IsOther self.old.node from }
         requires entries { CarriesAllowed message.now }
-        ensures ok { OnOk result (Makes Steps self.old (Receive from message.now) self.new) }
+        ensures ok { IfOk result (λ granted. Receives self.old from message.now granted self.new) }
         ensures memory { OnErr result (FindsNoMemory self.old (Receive from message.now) self.new) }
     {
         let before = self.node.term();
         match self.node.receive(alloc, from, message) {
             Ok(sent) => {
+                let granted = has_grant(sent.as_slice());
                 self.history = self.history.received(from, message, &self.node, &sent);
                 self.outbox.post_all(sent);
-                Ok(())
+                Ok(granted)
             }
             Err(Memory) => {
                 if self.node.term() != before {
@@ -211,9 +212,26 @@ impl<K: Keeper + Drop> Host<K> {
             role: self.node.role(),
             term: self.node.term(),
             leader: self.node.leader(),
+            last: self.node.last(),
             commit: self.node.commit(),
             applied: self.applied,
             lost: self.outbox.lost(),
         }
+    }
+}
+
+// Whether one of the messages grants a vote.
+fn has_grant(sent: &[Sent]) -> bool
+    ensures { result ≡ has_grant sent.now }
+{
+    sent.iter().any(|one| grants(&one.message))
+}
+
+fn grants(message: &Message) -> bool
+    ensures { result ≡ grants message.now }
+{
+    match message {
+        Message::Vote { granted, .. } => *granted,
+        _ => false,
     }
 }

@@ -1,9 +1,14 @@
-//! What holds of hosts whose links deliver only what was sent, each the contract of a function with an empty body.
+//! What holds of each host, and of hosts whose links deliver only what was sent, each the contract of a function with an empty body.
 
 ghost use Rattle.std.specs.Prelude.{List};
 ghost use Rattle.node_journals.specs.Agreement.{Agree, HaveOneLeader, HaveOneLog};
-ghost use Rattle.node_link.specs.Hosts.{Hosted};
+ghost use Rattle.node_link.specs.Hosts.{Hosted, IsHost, KeepsPlace};
 ghost use Rattle.node_link.specs.Links.{AreHosts, AreLinked, processes_of};
+
+/// A host is always the same server of a cluster of as many servers.
+pub fn a_host_keeps_its_place()
+    ensures { (host : Hosted) → IsHost host → KeepsPlace host }
+{}
 
 /// Each host has always committed a front of one log.
 pub fn hosts_have_one_log()

@@ -5,8 +5,9 @@
 //!
 //! What a process with one node did is a journal that Raft's rules allow, told in proofs alone; each call is one
 //! step of it or changes nothing, also where memory ran out after a vote was kept; and what waits to be sent was
-//! sent in a step of it, but for messages that found no room, which are counted. So hosts whose links deliver only
-//! what was sent have one log and one leader a term. Carried by: clauses of `Host`, `laws::*`.
+//! sent in a step of it, but for messages that found no room, which are counted. A host is always the same server of a
+//! cluster of as many servers. Hosts whose links deliver only what was sent have one log and one leader a term.
+//! Carried by: clauses of `Host`, `laws::*`.
 #![tactic(auto)]
 
 mod happened;
@@ -15,6 +16,8 @@ mod host;
 pub mod laws;
 mod outbox;
 mod status;
+#[cfg(test)]
+mod tests;
 
 pub use host::Host;
 pub use status::Status;

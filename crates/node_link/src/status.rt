@@ -7,6 +7,8 @@ pub struct Status {
     pub term: u64,
     /// The known leader. A leader knows none.
     pub leader: Option<u32>,
+    /// The index of the log's last entry.
+    pub last: u64,
     /// The index up to which the log is committed.
     pub commit: u64,
     /// The index of the last entry that was handed out to be applied.

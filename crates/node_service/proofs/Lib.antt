@@ -1,2 +1,3 @@
 mod Brought
 mod Frames
+mod Places

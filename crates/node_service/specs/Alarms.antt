@@ -1,5 +1,5 @@
 -- When a node's alarm is due, and what is done then. Times are in milliseconds.
-use Rattle.std.specs.Prelude.{◌≡◌, ℕ, ◌+◌, ◌-◌, ◌%◌, ◌==◌, nat_le, max, Bool, true, false, ◌&&◌, if◌then◌else◌, Option, Some, None, Result, Ok, Err}
+use Rattle.std.specs.Prelude.{◌≡◌, ℕ, ◌+◌, ◌-◌, ◌%◌, ◌==◌, nat_le, max, Bool, true, false, ◌&&◌, ◌||◌, if◌then◌else◌, Option, Some, None, Result, Ok, Err}
 use Rattle.cat_model.specs.declared.memory.Memory.{Memory}
 use Rattle.cat_model.specs.declared.reply.Role.{Role}
 use Rattle.cat_model.specs.declared.reply.Role.TheVariants.{Candidate, Follower, Leader}
@@ -50,6 +50,6 @@ is_from_leader h (Peer sender (Append term prev_index prev_term entries commit r
     (term == h.node.term) && is_known h.node.leader sender
 is_from_leader h other = false
 
--- The election timeout begins anew with each word of the leader.
-abbrev pub heard : Hosted → Frame → ℕ → ℕ → Alarm → Alarm
-heard h frame now word alarm = if is_from_leader h frame then set_at (max alarm.since_ms now) word else alarm
+-- The election timeout begins anew with each word of the leader, and with each vote that is granted.
+abbrev pub heard : Hosted → Frame → Bool → ℕ → ℕ → Alarm → Alarm
+heard h frame granted now word alarm = if granted || is_from_leader h frame then set_at (max alarm.since_ms now) word else alarm

@@ -17,8 +17,8 @@ const HEARTBEAT_MS: u64 = 100;
 const ELECTION_MS: u64 = 300;
 
 /// When a host is to do something by itself: a leader sends heartbeats, and any other server stands for election where
-/// it has long heard nothing of a leader. It is set when it is made, when it rings, and when the leader is heard. Times
-/// are milliseconds of one clock.
+/// it has long heard nothing of a leader. It is set when it is made, when it rings, when the leader is heard, and when a
+/// vote is granted. Times are milliseconds of one clock.
 #[derive(Clone, Copy, Debug, PartialEq, Eq)]
 pub struct Alarm {
     since_ms: u64,
@@ -73,11 +73,19 @@ impl Alarm {
         }
     }
 
-    /// Takes note of a frame that the host has received: where the leader sent it, the election timeout begins anew.
-    pub fn hear<K: Keeper + Drop>(&mut self, host: &Host<K>, frame: &Frame, now_ms: u64, word: u64)
-        ensures { self.new ≡ heard host.now frame.now now_ms word self.old }
+    /// Takes note of a frame that the host has received: where the leader sent it, or the host granted a vote, the
+    /// election timeout begins anew.
+    pub fn hear<K: Keeper + Drop>(
+        &mut self,
+        host: &Host<K>,
+        frame: &Frame,
+        granted: bool,
+        now_ms: u64,
+        word: u64,
+    )
+        ensures { self.new ≡ heard host.now frame.now granted now_ms word self.old }
     {
-        if is_from_leader(host, frame) {
+        if granted || is_from_leader(host, frame) {
             *self = Alarm::set_at(self.since_ms.max(now_ms), word);
         }
     }

@@ -3,7 +3,7 @@ use Rattle.raft_model.specs.Rules.{Receive}
 use Rattle.raft_model.specs.Step.{Forgets}
 use Rattle.raft_node.specs.Steps.{Steps}
 use Rattle.node_journals.specs.Journals.{Given}
-use Rattle.node_link.specs.Hosts.{Hosted, Makes, told}
+use Rattle.node_link.specs.Hosts.{Hosted, Receives, has_grant, told}
 use Rattle.node_link.proofs.Hosting.{as_before, forgets, host_noted, host_same, is_step}
 use Rattle.node_link.proofs.host.Host.receive.Goals as goal
 
@@ -29,8 +29,8 @@ invariant_of-self-else-term-before g c =
 pub returns-in-Ok-clause-ok : goal.returns-in-Ok-clause-ok
 returns-in-Ok-clause-ok g c =
     let i = c.self.inside in
-    subst (λ (z : Hosted). Makes Steps z (Receive c.args.from c.args.message.now) (record { process = c.received-self-inside.result.process; node = c.receive.new.self; outbox = c.post_all.new.self; applied = i.applied })) c.self.view_is
-    (record { sent = c.in-Ok.sent; step = c.in-Ok.ensures.ok; noted = record { process = c.received-self-inside.ensures; outbox = c.post_all.ensures; applied = refl } })
+    subst (λ (z : Hosted). Receives z c.args.from c.args.message.now c.has_grant-granted.result (record { process = c.received-self-inside.result.process; node = c.receive.new.self; outbox = c.post_all.new.self; applied = i.applied })) c.self.view_is
+    (record { sent = c.in-Ok.sent; step = c.in-Ok.ensures.ok; noted = record { process = c.received-self-inside.ensures; outbox = c.post_all.ensures; applied = refl } }, c.has_grant-granted.ensures ∙ ap has_grant c.as_slice.ensures)
 
 pub returns-else-term-before-clause-memory : goal.returns-else-term-before-clause-memory
 returns-else-term-before-clause-memory g c =
