@@ -94,7 +94,7 @@ fn propose(alloc: Global, processes: &mut [Process], server: u16) -> Result<Opti
     hand(
         process(processes, server)?,
         alloc,
-        &[0, 0, 0, 4, 6, 7, 1, 97],
+        &[0, 0, 0, 5, 6, 1, 7, 1, 97],
         1300,
     )
 }
