@@ -1,7 +1,7 @@
 //! Plays the worked cases of questions of names over a catalog, and says of each whether each packet gets the reply that
 //! it should. They lie in `data/`, as `bench/dns` made them by a program of its own from the rules.
 //!
-//! `cases.txt` has the name of a case in each line. A line of the case `NAME.case` registers, as `registering.rt` says,
+//! `cases.txt` has the name of a case in each line. A line of the case `NAME.case` registers, as `registrations.rt` says,
 //! or is a packet, ` => ` and its reply, both in hexadecimal digits, where `-` is nothing; a line after `#` is a comment.
 #![tactic(auto)]
 

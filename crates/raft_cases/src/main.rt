@@ -2,7 +2,7 @@
 //! should. They lie in `data/`.
 //!
 //! `cases.txt` has the name of a case in each line. A line of the case `NAME.txt` says what is done, then ` => ` and
-//! what that gives; other lines are nothing. `playing.rt` says which lines there are.
+//! what that gives; other lines are nothing. `cases.rt` says which lines there are.
 #![tactic(auto)]
 
 mod cases;

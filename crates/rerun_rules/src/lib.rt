@@ -1,5 +1,5 @@
 //! Runs over the stores that an earlier run left, and who leads in a cluster that serves: `laws` says what a later run
-//! has of the earlier one, and `leading` that server 1 leads and nobody else.
+//! has of the earlier one, and `leader` that server 1 leads and nobody else.
 //!
 //! # What is proved
 //!
@@ -18,7 +18,7 @@
 //! entry of its own term, and where nothing is due there it has applied one; and no request is refused because it is
 //! not. Over stores that were kept server 1 is elected in the same way, if its own store has the highest term and a log
 //! that is as up to date as every other, and its term can still rise; empty stores are such, and so are those that a
-//! cluster leaves that served over such ones. Carried by: `leading::*`.
+//! cluster leaves that served over such ones. Carried by: `leader::*`.
 #![tactic(auto)]
 
 pub mod laws;
