@@ -1,54 +1,48 @@
 -- How far clocks go, over marks that stand one behind another.
-use Rattle.std.proofs.Common.{◌≡◌, ℕ, List, [], ◌∷◌, ◌++◌, refl, sym, ◌∙◌, subst, append-nil, arith, Result, Ok, Err}
-use Rattle.std.specs.Prelude.{IfOk, OnOk}
+use Rattle.std.proofs.Common.{◌≡◌, ℕ, List, [], ◌∷◌, ◌++◌, refl, sym, ◌∙◌, subst, append-nil, arith, Option, Some, None, Result, Ok, Err}
+use Rattle.std.specs.Prelude.{IfOk, OnOk, option_map}
 use Rattle.std.specs.List.{AllByRecursion}
 use Rattle.cat_model.specs.declared.memory.Memory.{Memory}
-use Rattle.cat_model.specs.declared.request.Event.TheVariants as event
 use Rattle.cat_model.specs.declared.reply.Mark.{Mark}
 use Rattle.cat_model.specs.declared.reply.Mark.TheVariants as mark
 use Rattle.cluster_rules.specs.Replies.{Reply}
-use Rattle.turn_lock.specs.Lists.{EachOnce, numbers}
+use Rattle.turn_lock.specs.Lists.{EachOnce, ahead, numbers}
 use Rattle.http_connections.specs.declared.cluster.Ask.{Ask}
 use Rattle.http_connections.specs.declared.cluster.Collected.{Collected}
 use Rattle.http_connections.specs.declared.cluster.Collected.TheVariants as collected
 use Rattle.http_connections.specs.Collects.{Collects}
-use Rattle.http_connections.specs.Marks.{AddsQuiet, Delivers, TicksBy, TicksNone, ticks, ticks_by}
+use Rattle.http_connections.specs.Marks.{AddsQuiet, Delivers, TicksBy, TicksNone, Whose, going, ticks, ticks_by}
 use Rattle.http_connections.specs.Turns.{GoesOn, Settles, StandsStill, passed}
 use Rattle.http_connections.proofs.MarkLists.{append_none, joined, none_append}
 
--- where no clock went on, none did by any milliseconds
-pub by_none : (xs : List Mark) → numbers ticks xs ≡ [] → numbers ticks_by xs ≡ []
-by_none [] e = refl
-by_none (mark.Made (event.Tick server ms) ∷ xs) e = absurd (cc e)
-by_none (mark.Made (event.Timeout server) ∷ xs) e = by_none xs e
-by_none (mark.Made (event.Beat server) ∷ xs) e = by_none xs e
-by_none (mark.Made (event.Deliver number) ∷ xs) e = by_none xs e
-by_none (mark.Made (event.Drop number) ∷ xs) e = by_none xs e
-by_none (mark.Made (event.Restart server) ∷ xs) e = by_none xs e
-by_none (mark.Made (event.FailKeep server n) ∷ xs) e = by_none xs e
-by_none (mark.Made (event.Ask agent asked draw) ∷ xs) e = by_none xs e
-by_none (mark.Made (event.Sync agent) ∷ xs) e = by_none xs e
-by_none (mark.Made (event.AgentTick agent ms) ∷ xs) e = by_none xs e
-by_none (mark.Asked number agent asked draw ∷ xs) e = by_none xs e
-by_none (mark.Taken number ∷ xs) e = by_none xs e
-by_none (mark.Settled pairs whole ∷ xs) e = by_none xs e
-by_none (mark.Advanced ms made ∷ xs) e = by_none xs e
-by_none (mark.Halted server ∷ xs) e = by_none xs e
-by_none (mark.Entry entry ∷ xs) e = by_none xs e
-by_none (mark.Answered number kind known contact ∷ xs) e = by_none xs e
+-- where no clock of theirs went on, none did by any milliseconds
+pub by_none : (whose : Whose) (xs : List Mark) → numbers (ticks whose) xs ≡ [] → numbers (ticks_by whose) xs ≡ []
+by_none whose [] e = refl
+by_none whose (mark.Made made ∷ xs) e = by_event (going whose made) (by_none whose xs) e
+  where
+    by_event : (t : Option (ℕ × ℕ)) → (numbers (ticks whose) xs ≡ [] → numbers (ticks_by whose) xs ≡ []) → ahead (option_map (λ t. t.0) t) (numbers (ticks whose) xs) ≡ [] → ahead (option_map (λ t. t.1) t) (numbers (ticks_by whose) xs) ≡ []
+    by_event None more f = more f
+    by_event (Some t) more f = absurd (cc f)
+by_none whose (mark.Asked number agent asked draw ∷ xs) e = by_none whose xs e
+by_none whose (mark.Taken number ∷ xs) e = by_none whose xs e
+by_none whose (mark.Settled pairs whole ∷ xs) e = by_none whose xs e
+by_none whose (mark.Advanced ms made ∷ xs) e = by_none whose xs e
+by_none whose (mark.Halted server ∷ xs) e = by_none whose xs e
+by_none whose (mark.Entry entry ∷ xs) e = by_none whose xs e
+by_none whose (mark.Answered number kind known contact ∷ xs) e = by_none whose xs e
 
 pub ticks_none : (old : List Mark) → TicksNone old old
-ticks_none old = record { rest = []; are = sym (append-nil old); none = refl }
+ticks_none old = record { rest = []; are = sym (append-nil old); none = λ w. refl }
 
 pub none_none : (a b c : List Mark) → TicksNone a b → TicksNone b c → TicksNone a c
-none_none a b c x y = record { rest = x.rest ++ y.rest; are = joined a b c x.rest y.rest x.are y.are; none = none_append ticks x.rest y.rest x.none ∙ y.none }
+none_none a b c x y = record { rest = x.rest ++ y.rest; are = joined a b c x.rest y.rest x.are y.are; none = λ w. none_append (ticks w) x.rest y.rest (x.none w) ∙ y.none w }
 
 ticks_still : (ms : ℕ) (a b c : List Mark) → TicksBy ms a b → TicksNone b c → TicksBy ms a c
 ticks_still ms a b c x y = record {
   rest = x.rest ++ y.rest;
   are = joined a b c x.rest y.rest x.are y.are;
-  once = subst EachOnce (sym (append_none ticks x.rest y.rest y.none)) x.once;
-  by_ms = subst (AllByRecursion (λ n. n ≡ ms)) (sym (append_none ticks_by x.rest y.rest (by_none y.rest y.none))) x.by_ms;
+  once = λ w. subst EachOnce (sym (append_none (ticks w) x.rest y.rest (y.none w))) (x.once w);
+  by_ms = λ w. subst (AllByRecursion (λ n. n ≡ ms)) (sym (append_none (ticks_by w) x.rest y.rest (by_none w y.rest (y.none w)))) (x.by_ms w);
 }
 
 -- clocks that stand still
@@ -63,10 +57,10 @@ goes_still k l m now a b c x y = (y.0 ∙ x.0, ticks_still (passed k now) a b c 
 
 -- a time that is not later than the last one
 pub goes_nowhere : (last now : ℕ) (old : List Mark) → passed last now ≡ 0 → GoesOn last last now old old
-goes_nowhere last now old e = (let z = e in omega arith, record { rest = []; are = sym (append-nil old); once = tt; by_ms = tt })
+goes_nowhere last now old e = (let z = e in omega arith, record { rest = []; are = sym (append-nil old); once = λ w. tt; by_ms = λ w. tt })
 
 still_taken : (n : ℕ) (old new : List Mark) → new ≡ old ++ mark.Taken n ∷ [] → TicksNone old new
-still_taken n old new e = record { rest = mark.Taken n ∷ []; are = e; none = refl }
+still_taken n old new e = record { rest = mark.Taken n ∷ []; are = e; none = λ w. refl }
 
 still_same : (old new : List Mark) → new ≡ old → TicksNone old new
 still_same old new e = subst (TicksNone old) (sym e) (ticks_none old)

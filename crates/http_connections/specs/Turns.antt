@@ -5,7 +5,7 @@ use Rattle.cat_model.specs.Taken.{IsTakenAsked}
 use Rattle.cluster_rules.specs.Replies.{Reply}
 use Rattle.http_connections.specs.declared.cluster.Ask.{Ask}
 use Rattle.http_connections.specs.declared.served.Turned.{Turned}
-use Rattle.http_connections.specs.Marks.{AddsAsked, AddsQuiet, Delivers, Fits, TicksAll, TicksBy, TicksNone}
+use Rattle.http_connections.specs.Marks.{AddsAsked, AddsCut, AddsQuiet, Delivers, Fits, TicksAll, TicksBy, TicksNone}
 use Rattle.http_connections.specs.Collects.{Collects}
 
 -- the agent is one of the cluster's, and the cluster takes what is asked
@@ -29,6 +29,11 @@ StandsStill last last' old new = (last' ≡ last) × TicksNone old new
 abbrev pub Makes : Option Ask → ℕ → ℕ → List Mark → List Mark → Type 0
 Makes None number n old new = (n ≡ number) × AddsQuiet old new
 Makes (Some ask) number n old new = AddsAsked n ask old new
+
+-- memory ran out: nothing was taken, and nothing asked but the request, if there is one
+abbrev pub FallsShort : Option Ask → List Mark → List Mark → Type 0
+FallsShort None old new = AddsQuiet old new
+FallsShort (Some ask) old new = AddsCut old new
 
 -- `marks` are a cluster's, and `idle` says that no message is under way in it.
 module _ {C : Type 0} (marks : C → List Mark) (idle : C → Type 0) where
@@ -54,17 +59,17 @@ module _ {C : Type 0} (marks : C → List Mark) (idle : C → Type 0) where
     pub calm : idle settled → idle new
 
   -- All clocks went on by the time that had passed, and then messages were delivered, so that what became due by then is
-  -- done. `servers` and `clock` tell of a cluster's clocks.
-  pub record Readies (servers : C → ℕ) (clock : C → ℕ → ℕ) (last now : ℕ) (old new : C) : Type 0 where
+  -- done. `servers`, `agents` and `clock` tell of a cluster's clocks.
+  pub record Readies (servers : C → ℕ) (agents : ℕ) (clock : C → ℕ → ℕ) (last now : ℕ) (old new : C) : Type 0 where
     pub timed : C
     pub quiet : AddsQuiet (marks old) (marks timed)
     pub by : TicksBy (passed last now) (marks old) (marks timed)
-    pub all : 0 < passed last now → TicksAll (servers old) (clock old) (passed last now) (marks old) (marks timed)
+    pub all : 0 < passed last now → TicksAll (servers old) agents (clock old) (passed last now) (marks old) (marks timed)
     pub settled : Settles timed new
 
   -- A turn: first the clocks went on and what that brought was settled, and only then the request was asked, settled and
   -- collected.
-  pub record Turns (servers : C → ℕ) (clock : C → ℕ → ℕ) (shows : ℕ → Ask → Reply → List Mark → Type 0) (last now : ℕ) (ask : Option Ask) (number : ℕ) (t : Turned) (old new : C) : Type 0 where
+  pub record Turns (servers : C → ℕ) (agents : ℕ) (clock : C → ℕ → ℕ) (shows : ℕ → Ask → Reply → List Mark → Type 0) (last now : ℕ) (ask : Option Ask) (number : ℕ) (t : Turned) (old new : C) : Type 0 where
     pub ready : C
-    pub readied : Readies servers clock last now old ready
+    pub readied : Readies servers agents clock last now old ready
     pub exchanged : Exchanges shows ask number t ready new

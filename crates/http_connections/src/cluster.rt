@@ -68,12 +68,12 @@ pub trait SharedCluster: Drop {
     fn kept(&self)
         ensures { AreKept (marks self.now) };
 
-    /// All clocks go on by so many milliseconds, but for those that would pass their end, and what is due by then happens.
-    /// No request is asked or taken.
+    /// All clocks, servers' and agents', go on by so many milliseconds, but for those of servers that would pass their end, and
+    /// what is due by then happens. No request is asked or taken.
     fn advance(&mut self, alloc: Global, ms: u64) -> Result<(), Memory>
         ensures quiet { AddsQuiet (marks self.old) (marks self.new) }
         ensures ticks { TicksBy ms (marks self.old) (marks self.new) }
-        ensures all { OnOk result (0 < ms → TicksAll (servers self.old) (clock self.old) ms (marks self.old) (marks self.new)) };
+        ensures all { OnOk result (0 < ms → TicksAll (servers self.old) agents (clock self.old) ms (marks self.old) (marks self.new)) };
 
     /// Asks an agent, and gives the request's number, which was never given before. The reply comes later. An ask that
     /// finds no memory may have put its mark.

@@ -22,7 +22,7 @@ returns-in-Ok-clause-time g c =
 pub returns-in-Ok-clause-readied : goal.returns-in-Ok-clause-readied
 returns-in-Ok-clause-readied g c =
     let C = g.C.SharedCluster in
-    let is : _ → Type 0 = λ x. Readies C.marks C.idle C.servers C.clock c.args.self.now.last_ms c.args.now c.args.self.now.cluster x in
+    let is : _ → Type 0 = λ x. Readies C.marks C.idle C.servers C.agents C.clock c.args.self.now.last_ms c.args.now c.args.self.now.cluster x in
     on_ok c.show.result (is c.show.new.self) (subst is (sym c.show.ensures.same) c.in-Ok.ensures.readied)
 
 pub returns-in-Err-clause-viewed : goal.returns-in-Err-clause-viewed
