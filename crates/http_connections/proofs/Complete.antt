@@ -55,6 +55,7 @@ module _ (shows : ℕ → Ask → Reply → List Mark → Type 0) (agrees : Type
         gives = w.came.gives;
         said = subst (λ (z : List ℕ). ForSome link.said (λ b. b ≡ z)) (sym (w.came.due ∙ append-nil w.came.written)) (appended first.said link.said w.came.written new.nothing_said passed.said);
         are_true = passed.are_true;
+        own = w.own;
         ends = last w.es w.rest w.ends;
         shut = shut;
       }

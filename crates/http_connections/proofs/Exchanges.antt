@@ -1,6 +1,6 @@
 -- What is exchanged over a connection, step by step.
-use Rattle.std.proofs.Common.{◌≡◌, ℕ, ◌+◌, ◌<◌, inl, inr, true, false, List, [], ◌∷◌, ◌++◌, length, take, drop, refl, sym, ap, ◌∙◌, subst, arith, append_assoc, append-nil, take-append-drop, Option, Some, None, Result, Ok, Err}
-use Rattle.std.specs.Prelude.{◌≢◌, MatchResult, IfErr, IfOk, OnOk}
+use Rattle.std.proofs.Common.{◌≡◌, ℕ, ◌+◌, ◌<◌, inl, inr, Bool, true, false, List, [], ◌∷◌, ◌++◌, length, take, drop, refl, sym, ap, ◌∙◌, subst, arith, append_assoc, append-nil, take-append-drop, Option, Some, None, Result, Ok, Err}
+use Rattle.std.specs.Prelude.{◌≢◌, if◌then◌else◌, MatchResult, IfErr, IfOk, OnOk}
 use Rattle.std.specs.Io.KnownBytes.{append_known}
 use Rattle.std.proofs.Math.Seq.{drop-length}
 use Rattle.cat_model.specs.declared.request.Asked.TheVariants.{Good, Bad}
@@ -26,8 +26,8 @@ use Rattle.http_connections.specs.declared.turns.NoReply.{NoReply}
 use Rattle.http_connections.specs.declared.turns.NoReply.TheVariants as no_reply
 use Rattle.http_connections.specs.Knowing.{HasLearned, Known}
 use Rattle.http_connections.specs.Replies.{IsViewed, is_viewed, refusing}
-use Rattle.http_connections.specs.Waiting.{Grows, IsAnswered, IsBehind, IsHeld}
-use Rattle.http_connections.specs.Serving.{Connection, Exchange, continued, replied, items_of, answer_bytes, bytes_of, count_of, last_bytes, AreOpen, OpenBefore, asked_by, IsReply, IsReplyTo, IsUnanswered, draw_of, unrouted, stale, answered, AreTrue, IsLater, Passed, Came, IsCut, EndsBy}
+use Rattle.http_connections.specs.Waiting.{Grows, IsAnswered, IsBehind, IsHeld, OpensFew}
+use Rattle.http_connections.specs.Serving.{Connection, Exchange, continued, replied, items_of, answer_bytes, bytes_of, count_of, last_bytes, AreOpen, OpenBefore, asked_by, IsReply, IsReplyTo, IsUnanswered, draw_of, unrouted, stale, answered, AreTrue, IsLater, Passed, Came, IsCut, EndsBy, Opens, number_of, asked_numbers, asked_so_far}
 use Rattle.http_connections.specs.Stages.{IsAfterWrite, StopsBy, Wrote, Stage, Talks, Owes, OwesRefusal, Comes, GoesOn, IsTaking}
 use Rattle.http_connections.proofs.OwnTurns.{grows_none, grows_on}
 use Rattle.http_connections.proofs.Written.{known_nil, known_on, rose_from}
@@ -72,6 +72,32 @@ some_of used piece (gots.Message raw) old new m t k l = t
 some_of used piece (gots.Refused why) old new m t k l = absurd k
 some_of used piece gots.Memory old new m t k l = absurd k
 
+-- what was opened, at most one number more than what a list tells
+pub opens_none : (mine : List ℕ) → OpensFew mine mine
+opens_none mine = record { last = []; are = sym (append-nil mine); few = omega arith }
+
+pub opens_as : (base mine mine' : List ℕ) → mine ≡ base → OpensFew mine mine' → OpensFew base mine'
+opens_as base mine mine' e x = subst (λ (l : List ℕ). OpensFew l mine') e x
+
+pub opens_just : (base mine : List ℕ) → mine ≡ base → OpensFew base mine
+opens_just base mine e = opens_as base mine mine e (opens_none mine)
+
+pub opens_same : (base mine mine' : List ℕ) → mine' ≡ mine → OpensFew base mine → OpensFew base mine'
+opens_same base mine mine' e x = record { last = x.last; are = e ∙ x.are; few = x.few }
+
+-- what was opened for a request, by the way in which its reply was made
+pub opens_refused : {E : Type 0} (why : Refusal) (r : Result Reply E) (mine : List ℕ) → Opens (Bad why) r mine mine
+opens_refused why (Ok reply) mine = sym (append-nil mine)
+opens_refused why (Err e) mine = opens_none mine
+
+pub opens_viewed : {E : Type 0} (request : Request) (r : Result Reply E) (mine : List ℕ) → is_viewed request ≡ true → Opens (Good request) r mine mine
+opens_viewed request (Ok reply) mine e = sym (append-nil mine) ∙ ap (λ (b : Bool). mine ++ (if b then [] else (reply.number ∷ []))) (sym e)
+opens_viewed request (Err why) mine e = opens_none mine
+
+pub opens_asked : {E : Type 0} (request : Request) (r : Result Reply E) (old new : List ℕ) → is_viewed request ≡ false → MatchResult r (λ reply. new ≡ old ++ reply.number ∷ []) (λ _. OpensFew old new) → Opens (Good request) r old new
+opens_asked request (Ok reply) old new e x = x ∙ ap (λ (b : Bool). old ++ (if b then [] else (reply.number ∷ []))) (sym e)
+opens_asked request (Err why) old new e x = x
+
 module _ (shows : ℕ → Ask → Reply → List Mark → Type 0) (agrees : Type 0) (c : Connection) where
   true_later : (es : List Exchange) (v w : Known) → Grows v w → AreTrue shows agrees c es v → AreTrue shows agrees c es w
   true_later [] v w g a = a
@@ -99,9 +125,9 @@ module _ (shows : ℕ → Ask → Reply → List Mark → Type 0) (agrees : Type
   passed_as link v es read read' written e p = subst (λ (l : List ℕ). Passed shows agrees c link v es l written) (sym e) p
 
   -- what was cut off, over another link or by what is known later
-  pub cut_by : (link now : LinkState) (v w : Known) (requests : ℕ) → ((es : List Exchange) (read written : List ℕ) → Passed shows agrees c link v es read written → Passed shows agrees c now w es read written)
+  pub cut_by : (link now : LinkState) (v w : Known) (requests : ℕ) → w.mine ≡ v.mine → ((es : List Exchange) (read written : List ℕ) → Passed shows agrees c link v es read written → Passed shows agrees c now w es read written)
       → IsCut shows agrees c link v requests → IsCut shows agrees c now w requests
-  cut_by link now v w requests f x = record {
+  cut_by link now v w requests same f x = record {
     es = x.es;
     rejection = x.rejection;
     rest = x.rest;
@@ -110,10 +136,23 @@ module _ (shows : ℕ → Ask → Reply → List Mark → Type 0) (agrees : Type
     most = x.most;
     open_before = x.open_before;
     came = record { stream = x.came.stream; written = x.came.written; passed = f x.es _ _ x.came.passed; gives = x.came.gives; due = x.came.due };
+    own = opens_same (asked_so_far c x.es) v.mine w.mine same x.own;
   }
 
-  pub cut_later : (link : LinkState) (v w : Known) (requests : ℕ) → Grows v w → IsCut shows agrees c link v requests → IsCut shows agrees c link w requests
-  cut_later link v w requests g x = cut_by link link v w requests (λ es read written p. passed_later link v w es read written g p) x
+  -- what was owed is cut off, over another link and by what is known later
+  cut_owed : (s : Stage) (now : LinkState) (w : Known) (rest : List ℕ) (given : Given) → ((es : List Exchange) (read written : List ℕ) → Passed shows agrees c s.link s.known es read written → Passed shows agrees c now w es read written)
+      → OpensFew s.known.mine w.mine → Owes shows agrees c s rest given → IsCut shows agrees c now w s.requests
+  cut_owed s now w rest given f few o = let k = o.count in record {
+    es = o.es;
+    rejection = None;
+    rest = o.untaken;
+    unwritten = [];
+    came = record { stream = o.before.stream; written = o.before.written; passed = f o.es _ _ o.before.passed; gives = o.before.gives; due = o.before.due };
+    least = omega arith;
+    most = omega arith;
+    open_before = open_before o.es o.are_open;
+    own = opens_as (asked_so_far c o.es) s.known.mine w.mine o.own few;
+  }
 
   -- replies by the way in which they were made
   pub refused_reply : (why : Refusal) (n : ℕ) (r : Result Reply NoReply) (u v : Known) → IfOk r (λ reply. reply ≡ refusing why) → IfOk r (λ reply. IsReply shows agrees c (Bad why) n reply u v)
@@ -137,10 +176,10 @@ module _ (shows : ℕ → Ask → Reply → List Mark → Type 0) (agrees : Type
   }
   answered_by request n a (Err why) u v e b x l = tt
 
-  pub held_by : (request : Request) (n : ℕ) (a : Ask) (r : Result Reply NoReply) (v : Known) → a ≡ record { agent = c.agent; asked = Good request; draw = draw_of c.draw n } → is_viewed request ≡ false
-      → IfErr r (λ why. why ≡ no_reply.Left → IsHeld a v) → IfErr r (λ why. why ≡ no_reply.Left → IsUnanswered shows agrees c (Good request) n v)
-  held_by request n a (Ok reply) v e unviewed x = tt
-  held_by request n a (Err why) v e unviewed x = λ l. (unviewed, subst (λ (z : Ask). IsHeld z v) e (x l))
+  pub held_by : (request : Request) (n : ℕ) (a : Ask) (r : Result Reply NoReply) (mine : List ℕ) (v : Known) → a ≡ record { agent = c.agent; asked = Good request; draw = draw_of c.draw n } → is_viewed request ≡ false
+      → IfErr r (λ why. why ≡ no_reply.Left → IsHeld a mine v) → IfErr r (λ why. why ≡ no_reply.Left → IsUnanswered shows agrees c (Good request) n mine v)
+  held_by request n a (Ok reply) mine v e unviewed x = tt
+  held_by request n a (Err why) mine v e unviewed x = λ l. (unviewed, subst (λ (z : Ask). IsHeld z mine v) e (x l))
 
   -- all that is due was written
   came_whole : (link : LinkState) (v : Known) (es : List Exchange) (stream rest : List ℕ) → Passed shows agrees c link v es (stream ++ rest) (bytes_of es) → GivesAll stream (items_of es) None → Came shows agrees c link v es None rest []
@@ -156,6 +195,7 @@ module _ (shows : ℕ → Ask → Reply → List Mark → Type 0) (agrees : Type
     least = omega arith;
     most = omega arith;
     open_before = open_before x.es x.are_open;
+    own = opens_just (asked_so_far c x.es) s.known.mine x.own;
   }
 
   -- what is due was written in part
@@ -190,6 +230,7 @@ module _ (shows : ℕ → Ask → Reply → List Mark → Type 0) (agrees : Type
     unshut = w.after.shut ∙ o.unshut;
     are_open = o.are_open;
     unended = w.after.ends ∙ o.unended;
+    own = o.own;
   }
   continues s new rest (Err why) w o = stopped why s.link new s.known s.requests o.passed.later w.stopped (let n = o.count in record {
     es = continued ∷ o.es;
@@ -201,10 +242,11 @@ module _ (shows : ℕ → Ask → Reply → List Mark → Type 0) (agrees : Type
     least = omega arith;
     most = omega arith;
     open_before = o.are_open;
+    own = opens_just (asked_so_far c o.es) s.known.mine o.own;
   })
 
   -- the reply to a request
-  module _ (s : Stage) (before : Known) (rest : List ℕ) (m : Raw) (reply : Reply) (n : ℕ) (o : Owes shows agrees c (record s { known = before }) rest (whole m)) (g : Grows before s.known) (e : n ≡ s.requests + 1) (is : IsReply shows agrees c (asked_by m) n reply before s.known) where
+  module _ (s : Stage) (before : Known) (rest : List ℕ) (m : Raw) (reply : Reply) (n : ℕ) (o : Owes shows agrees c (record s { known = before }) rest (whole m)) (g : Grows before s.known) (e : n ≡ s.requests + 1) (own : s.known.mine ≡ before.mine ++ number_of (asked_by m) reply) (is : IsReply shows agrees c (asked_by m) n reply before s.known) where
     abbrev es : List Exchange
     es = replied m reply ∷ o.es
 
@@ -216,6 +258,9 @@ module _ (shows : ℕ → Ask → Reply → List Mark → Type 0) (agrees : Type
 
     counted : n ≡ count_of es
     counted = e ∙ ap (λ z. z + 1) o.count
+
+    asked : s.known.mine ≡ asked_so_far c es
+    asked = own ∙ (ap (λ (l : List ℕ). l ++ number_of (asked_by m) reply) o.own ∙ append_assoc c.begun.mine (asked_numbers o.es) (number_of (asked_by m) reply))
 
     gives : GivesAll o.stream (items_of es) None
     gives = gives_none o.stream (items_of es) s.reader.held o.told
@@ -231,6 +276,7 @@ module _ (shows : ℕ → Ask → Reply → List Mark → Type 0) (agrees : Type
       unshut = w.after.shut ∙ o.unshut;
       are_open = (goes_on, o.are_open);
       unended = w.after.ends ∙ o.unended;
+      own = asked;
     }
 
     pub gave_last : (new : LinkState) {u : Unit {0}} → Wrote s.link (answer_bytes m reply) (Ok u) new → m.close ≡ true → EndsBy shows agrees c cause.Closed new s.known n
@@ -239,6 +285,7 @@ module _ (shows : ℕ → Ask → Reply → List Mark → Type 0) (agrees : Type
       rest = rest;
       came = came_whole new s.known es o.stream rest (passed_wrote s.link new s.known es _ _ (answer_bytes m reply) w.after (wrote_whole s.link new _ w) passed) gives;
       count = counted;
+      own = asked;
       ends = inr ((closes, o.are_open), w.after.ends ∙ o.unended);
     }
 
@@ -252,6 +299,7 @@ module _ (shows : ℕ → Ask → Reply → List Mark → Type 0) (agrees : Type
       least = omega arith;
       most = omega arith;
       open_before = o.are_open;
+      own = opens_just (asked_so_far c es) s.known.mine asked;
     })
 
     pub gave_next : (new : LinkState) {u : Unit {0}} (r : Result Unit Cause) → Wrote s.link (answer_bytes m reply) (Ok u) new → MatchResult r (λ _. m.close ≡ false) (λ why. (m.close ≡ true) × (why ≡ cause.Closed))
@@ -269,9 +317,9 @@ module _ (shows : ℕ → Ask → Reply → List Mark → Type 0) (agrees : Type
   }
 
   -- the client went away while its request waited
-  pub leaves : (s : Stage) (new : LinkState) (w : Known) (rest : List ℕ) (m : Raw) (n : ℕ) → Owes shows agrees c s rest (whole m) → Grows s.known w → Leaves s.link true new → n ≡ s.requests + 1 → IsUnanswered shows agrees c (asked_by m) n w
+  pub leaves : (s : Stage) (new : LinkState) (w : Known) (rest : List ℕ) (m : Raw) (n : ℕ) → Owes shows agrees c s rest (whole m) → Grows s.known w → Leaves s.link true new → n ≡ s.requests + 1 → OpensFew s.known.mine w.mine → IsUnanswered shows agrees c (asked_by m) n s.known.mine w
       → EndsBy shows agrees c cause.Left new w s.requests
-  leaves s new w rest m n o g gone e u = (
+  leaves s new w rest m n o g gone e few u = (
     record {
       es = o.es;
       last = m;
@@ -279,8 +327,8 @@ module _ (shows : ℕ → Ask → Reply → List Mark → Type 0) (agrees : Type
       rest = rest;
       passed = passed_left s.link new s.known w o.es _ _ gone g o.passed;
       gives = gives_none o.stream (items_of o.es ++ whole m ∷ []) s.reader.held o.told;
-      unanswered = subst (λ (k : ℕ). IsUnanswered shows agrees c (asked_by m) k w) e u;
-      before = cut_by s.link new s.known w s.requests (λ es read written p. passed_left s.link new s.known w es read written gone g p) o.before;
+      unanswered = subst (λ (l : List ℕ). IsUnanswered shows agrees c (asked_by m) (s.requests + 1) l w) o.own (subst (λ (k : ℕ). IsUnanswered shows agrees c (asked_by m) k s.known.mine w) e u);
+      before = cut_owed s new w rest (whole m) (λ es read written p. passed_left s.link new s.known w es read written gone g p) few o;
       count = o.count;
       are_open = o.are_open;
     },
@@ -291,8 +339,12 @@ module _ (shows : ℕ → Ask → Reply → List Mark → Type 0) (agrees : Type
   pub owes_at : (s : Stage) (new : LinkState) (rest : List ℕ) (given : Given) → new ≡ s.link → Owes shows agrees c s rest given → Owes shows agrees c (record s { link = new }) rest given
   owes_at s new rest given e o = subst (λ (l : LinkState). Owes shows agrees c (record s { link = l }) rest given) (sym e) o
 
-  pub cut_at : (s : Stage) (new : LinkState) (w : Known) → new ≡ s.link → Grows s.known w → IsCut shows agrees c s.link s.known s.requests → IsCut shows agrees c new w s.requests
-  cut_at s new w e g x = subst (λ (l : LinkState). IsCut shows agrees c l w s.requests) (sym e) (cut_later s.link s.known w s.requests g x)
+  pub cut_at : (s : Stage) (new : LinkState) (w : Known) (rest : List ℕ) (given : Given) → new ≡ s.link → Grows s.known w → OpensFew s.known.mine w.mine → Owes shows agrees c s rest given → IsCut shows agrees c new w s.requests
+  cut_at s new w rest given e g few o = subst (λ (l : LinkState). IsCut shows agrees c l w s.requests) (sym e) (cut_owed s s.link w rest given (λ es read written p. passed_later s.link s.known w es read written g p) few o)
+
+  -- before anything was done for it
+  pub cut_first : (s : Stage) (rest : List ℕ) (given : Given) → Owes shows agrees c s rest given → IsCut shows agrees c s.link s.known s.requests
+  cut_first s rest given o = cut_at s s.link s.known rest given refl (grows_none s.known) (opens_none s.known.mine) o
 
   -- the reply to what is refused
   pub refuses : (s : Stage) (new : LinkState) (why : Rejection) {u : Unit {0}} → Wrote s.link (last_bytes (Some why)) (Ok u) new → OwesRefusal shows agrees c s.link s.known s.requests why → EndsBy shows agrees c (cause.Refused why) new s.known s.requests
@@ -302,6 +354,7 @@ module _ (shows : ℕ → Ask → Reply → List Mark → Type 0) (agrees : Type
     came = subst (λ (l : List ℕ). Came shows agrees c new s.known o.es (Some why) [] l) w.whole
         (came_part s.link new s.known o.es (Some why) o.stream [] (bytes_of o.es) (last_bytes (Some why)) (Ok u) (passed_as s.link s.known o.es o.stream (o.stream ++ []) _ (append-nil o.stream) o.passed) o.gives refl w);
     count = o.count;
+    own = o.own;
     ends = (refl, o.are_open);
   }
 
@@ -315,6 +368,7 @@ module _ (shows : ℕ → Ask → Reply → List Mark → Type 0) (agrees : Type
     least = omega arith;
     most = omega arith;
     open_before = o.are_open;
+    own = opens_just (asked_so_far c o.es) s.known.mine o.own;
   })
 
   -- what a read leaves
@@ -336,6 +390,7 @@ module _ (shows : ℕ → Ask → Reply → List Mark → Type 0) (agrees : Type
     unshut = w.shut ∙ x.unshut;
     are_open = x.are_open;
     unended = w.at_end.elsewhere n e some ∙ x.unended;
+    own = x.own;
   }
 
   came_read : (s : Stage) (new : LinkState) (into : List ℕ) (r : Result ℕ Failed) → new.heard ≡ s.link.heard → Reads s.link into r new → (x : Talks shows agrees c s []) → Came shows agrees c new s.known x.es None [] []
@@ -353,6 +408,7 @@ module _ (shows : ℕ → Ask → Reply → List Mark → Type 0) (agrees : Type
     rest = [];
     came = came_read s new into (Ok n) (w.heard ∙ (ap (λ (z : ℕ). append_known s.link.heard (take z into)) e ∙ known_nil s.link.heard)) w x;
     count = x.count;
+    own = x.own;
     ends = inl (refl, x.are_open, rose_from c.first.ends s.link.ends new.ends x.passed.later.ends (w.at_end.at_end (ap Ok e) room));
   }
 
@@ -362,6 +418,7 @@ module _ (shows : ℕ → Ask → Reply → List Mark → Type 0) (agrees : Type
     rest = [];
     came = came_read s new into (Err f) w.heard w x;
     count = x.count;
+    own = x.own;
     ends = (refl, x.are_open, rose_from c.first.read_faults s.link.read_faults new.read_faults x.passed.later.read_faults w.cause.failed);
   }
 
@@ -382,6 +439,7 @@ module _ (shows : ℕ → Ask → Reply → List Mark → Type 0) (agrees : Type
     unshut = unshut;
     are_open = tt;
     unended = refl;
+    own = sym (append-nil c.begun.mine);
   }
 
   -- what a call of the reader leaves to be done
@@ -401,7 +459,9 @@ module _ (shows : ℕ → Ask → Reply → List Mark → Type 0) (agrees : Type
       unshut = x.unshut;
       are_open = x.are_open;
       unended = x.unended;
-      before = so_far s piece x;
+      own = x.own;
+      untaken = piece;
+      before = came_whole s.link s.known x.es x.stream piece x.passed (gives_none x.stream (items_of x.es) s.reader.held x.told);
     }
 
     pub comes : (got : Got) → (got ≢ gots.Memory → Told (x.stream ++ seen_by got used piece) (items_of x.es ++ given_by got) after.held after.stop) → after.stop ≡ stop_of got → Moves s.reader.held piece used got after.held
@@ -418,6 +478,7 @@ module _ (shows : ℕ → Ask → Reply → List Mark → Type 0) (agrees : Type
           unshut = x.unshut;
           are_open = x.are_open;
           unended = x.unended;
+          own = x.own;
         }
     comes gots.Continue told stop moves = owes go_on (subst (λ (o : Option Stop). Told (x.stream ++ take used piece) (items_of x.es ++ go_on ∷ []) after.held o) stop (told (λ e. cc e))) stop
     comes (gots.Message m) told stop moves = owes (whole (raw m)) (subst (λ (o : Option Stop). Told (x.stream ++ take used piece) (items_of x.es ++ whole (raw m) ∷ []) after.held o) stop (told (λ e. cc e))) stop
@@ -433,6 +494,7 @@ module _ (shows : ℕ → Ask → Reply → List Mark → Type 0) (agrees : Type
       };
       count = x.count;
       are_open = x.are_open;
+      own = x.own;
     }
     comes gots.Memory told stop moves = so_far s piece x
 

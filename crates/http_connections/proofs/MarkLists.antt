@@ -1,5 +1,5 @@
 -- Lists of marks, one behind another.
-use Rattle.std.proofs.Common.{◌≡◌, ℕ, inl, inr, List, [], ◌∷◌, ◌++◌, refl, sym, ap, ◌∙◌, append_assoc, append-nil, Option, Some, None, Result, Ok, Err}
+use Rattle.std.proofs.Common.{◌≡◌, ℕ, inl, inr, List, [], ◌∷◌, ◌++◌, length, ◌≤◌, refl, sym, ap, ◌∙◌, subst, arith, append_assoc, append-nil, Option, Some, None, Result, Ok, Err}
 use Rattle.std.specs.Prelude.{MatchResult, IfOk, OnErr}
 use Rattle.cat_model.specs.declared.memory.Memory.{Memory}
 use Rattle.cat_model.specs.declared.reply.Mark.{Mark}
@@ -8,7 +8,7 @@ use Rattle.turn_lock.proofs.Lists.{numbers_append}
 use Rattle.http_connections.specs.declared.cluster.Ask.{Ask}
 use Rattle.http_connections.specs.Marks.{AddsAsked, AddsCut, AddsQuiet, asked_mark, opens, takes}
 use Rattle.cluster_rules.specs.Sound.{IsAmong}
-use Rattle.http_connections.specs.Turns.{Makes}
+use Rattle.http_connections.specs.Turns.{FallsShort, Makes}
 
 pub none_append : {I : Type 0} → (f : I → Option ℕ) (xs ys : List I) → numbers f xs ≡ [] → numbers f (xs ++ ys) ≡ numbers f ys
 none_append f xs ys e = numbers_append f xs ys ∙ ap (λ (l : List ℕ). l ++ numbers f ys) e
@@ -65,29 +65,47 @@ pub makes_quiet : (ask : Option Ask) (number n : ℕ) (a b c : List Mark) → Ma
 makes_quiet None number n a b c m q = (m.0, quiet_quiet a b c m.1 q)
 makes_quiet (Some ask) number n a b c m q = asked_quiet n ask a b c m q
 
-pub quiet_cut : (a b : List Mark) → AddsQuiet a b → AddsCut a b
-quiet_cut a b x = record { rest = x.rest; are = x.are; takes_none = x.takes_none }
+-- a list is no longer than one that it equals
+pub few_as : (xs ys : List ℕ) → xs ≡ ys → length ys ≤ 1 → length xs ≤ 1
+few_as xs ys e f = subst (λ (l : List ℕ). length l ≤ 1) (sym e) f
 
-pub cut_cut : (a b c : List Mark) → AddsCut a b → AddsCut b c → AddsCut a c
-cut_cut a b c x y = record {
-  rest = x.rest ++ y.rest;
-  are = joined a b c x.rest y.rest x.are y.are;
-  takes_none = none_append takes x.rest y.rest x.takes_none ∙ y.takes_none;
+pub quiet_cut : (a b : List Mark) → AddsQuiet a b → AddsCut a b
+quiet_cut a b x = record { rest = x.rest; are = x.are; opens_few = few_as (numbers opens x.rest) [] x.opens_none (omega arith); takes_none = x.takes_none }
+
+cut_behind : (a b c : List Mark) → AddsQuiet a b → AddsCut b c → AddsCut a c
+cut_behind a b c q y = record {
+  rest = q.rest ++ y.rest;
+  are = joined a b c q.rest y.rest q.are y.are;
+  opens_few = few_as (numbers opens (q.rest ++ y.rest)) (numbers opens y.rest) (none_append opens q.rest y.rest q.opens_none) y.opens_few;
+  takes_none = none_append takes q.rest y.rest q.takes_none ∙ y.takes_none;
 }
 
-pub makes_cut : (ask : Option Ask) (number n : ℕ) (a b : List Mark) → Makes ask number n a b → AddsCut a b
-makes_cut None number n a b m = quiet_cut a b m.1
-makes_cut (Some ask) number n a b m = record { rest = m.rest; are = m.are; takes_none = m.takes_none }
+cut_before : (a b c : List Mark) → AddsCut a b → AddsQuiet b c → AddsCut a c
+cut_before a b c x q = record {
+  rest = x.rest ++ q.rest;
+  are = joined a b c x.rest q.rest x.are q.are;
+  opens_few = few_as (numbers opens (x.rest ++ q.rest)) (numbers opens x.rest) (append_none opens x.rest q.rest q.opens_none) x.opens_few;
+  takes_none = append_none takes x.rest q.rest q.takes_none ∙ x.takes_none;
+}
+
+-- memory that ran out, behind what was made, or beside what is quiet
+pub makes_short : (ask : Option Ask) (number n : ℕ) (a b : List Mark) → Makes ask number n a b → FallsShort ask a b
+makes_short None number n a b m = m.1
+makes_short (Some ask) number n a b m = record { rest = m.rest; are = m.are; opens_few = few_as (numbers opens m.rest) (n ∷ []) m.opens_it (omega arith); takes_none = m.takes_none }
+
+pub quiet_short : (ask : Option Ask) (a b : List Mark) → AddsQuiet a b → FallsShort ask a b
+quiet_short None a b q = q
+quiet_short (Some ask) a b q = quiet_cut a b q
+
+pub short_behind : (ask : Option Ask) (a b c : List Mark) → AddsQuiet a b → FallsShort ask b c → FallsShort ask a c
+short_behind None a b c q x = quiet_quiet a b c q x
+short_behind (Some ask) a b c q x = cut_behind a b c q x
+
+pub short_before : (ask : Option Ask) (a b c : List Mark) → FallsShort ask a b → AddsQuiet b c → FallsShort ask a c
+short_before None a b c x q = quiet_quiet a b c x q
+short_before (Some ask) a b c x q = cut_before a b c x q
 
 pub asks : (r : Result ℕ Memory) (ask : Ask) (number : ℕ) (a b : List Mark) → IfOk r (λ n. AddsAsked n ask a b) → OnErr r (AddsCut a b)
-    → MatchResult r (λ n. Makes (Some ask) number n a b) (λ _. AddsCut a b)
+    → MatchResult r (λ n. Makes (Some ask) number n a b) (λ _. FallsShort (Some ask) a b)
 asks (Ok n) ask number a b i o = i
 asks (Err e) ask number a b i o = o
-
-pub cut_quiet : (a b c : List Mark) → AddsCut a b → AddsQuiet b c → AddsCut a c
-cut_quiet a b c x q = cut_cut a b c x (quiet_cut b c q)
-
-pub works : (r : Result ℕ Memory) (ask : Option Ask) (number : ℕ) (a b c : List Mark) → AddsQuiet a b
-    → MatchResult r (λ n. Makes ask number n b c) (λ _. AddsCut b c) → MatchResult r (λ n. Makes ask number n a c) (λ _. AddsCut a c)
-works (Ok n) ask number a b c q m = quiet_makes ask number n a b c q m
-works (Err e) ask number a b c q m = cut_cut a b c (quiet_cut a b q) m

@@ -1,6 +1,6 @@
 -- A turn for one's own request.
-use Rattle.std.proofs.Common.{◌≡◌, ℕ, inl, inr, ⊎_elim, List, [], ◌∷◌, ◌++◌, length, drop, refl, sym, ap, ◌∙◌, subst, append_assoc, append-nil, Option, Some, None, Result, Ok, Err}
-use Rattle.std.specs.Prelude.{MatchResult, IfOk, OnErr}
+use Rattle.std.proofs.Common.{◌≡◌, ℕ, inl, inr, ⊎_elim, List, [], ◌∷◌, ◌++◌, length, drop, refl, sym, ap, ◌∙◌, subst, append_assoc, append-nil, arith, Option, Some, None, Result, Ok, Err}
+use Rattle.std.specs.Prelude.{MatchResult, IfErr, IfOk, OnErr}
 use Rattle.std.proofs.Math.Seq.{drop-append_seam}
 use Rattle.cat_model.specs.declared.memory.Memory.{Memory}
 use Rattle.cat_model.specs.declared.reply.Mark.{Mark}
@@ -17,12 +17,14 @@ use Rattle.http_connections.specs.declared.cluster.Collected.TheVariants as coll
 use Rattle.http_connections.specs.declared.served.Turned.{Turned}
 use Rattle.http_connections.specs.Marks.{AddsAsked, AddsCut, AddsQuiet, AreKept, answered_mark, answers, asked_mark, opens, takes}
 use Rattle.http_connections.specs.Collects.{Collects}
-use Rattle.http_connections.specs.Turns.{Asks, Exchanges, Makes, Readies, Turns}
+use Rattle.http_connections.specs.Turns.{Asks, Exchanges, FallsShort, Makes, Readies, Turns}
 use Rattle.cluster_rules.specs.Sound.{IsAmong}
 use Rattle.http_connections.specs.Knowing.{Known}
-use Rattle.http_connections.specs.Waiting.{Grows, IsAnswered, IsBehind, IsHeld, Looks, Stands, Waits}
+use Rattle.http_connections.specs.declared.turns.NoReply.{NoReply}
+use Rattle.http_connections.specs.declared.turns.NoReply.TheVariants as no_reply
+use Rattle.http_connections.specs.Waiting.{Grows, IsAnswered, IsBehind, IsHeld, Looks, OpensFew, Stands, Waits}
 use Rattle.http_connections.proofs.Agreeing.{prefix_on, prefix_self}
-use Rattle.http_connections.proofs.MarkLists.{append_none, cut_cut, cut_quiet, in_left, in_right, joined, makes_cut, makes_quiet, none_append, quiet_cut, quiet_makes, quiet_quiet}
+use Rattle.http_connections.proofs.MarkLists.{append_none, few_as, in_left, in_right, joined, makes_quiet, makes_short, none_append, quiet_cut, quiet_makes, quiet_quiet, short_before, short_behind}
 
 -- What a turn did, by its marks alone: the request was asked, if there is one, and then collected.
 pub record Exchanged (shows : ℕ → Ask → Reply → List Mark → Type 0) (ask : Option Ask) (number : ℕ) (t : Turned) (old new : List Mark) : Type 0 where
@@ -40,28 +42,28 @@ module _ {C : Type 0} (marks : C → List Mark) (idle : C → Type 0) (servers :
         got = e.got;
       }
 
-  pub exchanged_or : (r : Result Turned Memory) (old new : C) → MatchResult r (λ t. Turns marks idle servers clock shows last now ask number t old new) (λ _. AddsCut (marks old) (marks new))
-      → MatchResult r (λ t. Exchanged shows ask number t (marks old) (marks new)) (λ _. AddsCut (marks old) (marks new))
+  pub exchanged_or : (r : Result Turned Memory) (old new : C) → MatchResult r (λ t. Turns marks idle servers clock shows last now ask number t old new) (λ _. FallsShort ask (marks old) (marks new))
+      → MatchResult r (λ t. Exchanged shows ask number t (marks old) (marks new)) (λ _. FallsShort ask (marks old) (marks new))
   exchanged_or (Ok t) old new x = exchanged t old new x
   exchanged_or (Err e) old new x = x
 
   -- an ask and a collection behind it
   pub exchanges_or : (n : ℕ) (r : Result Turned Memory) (old mid new : C) → Asks marks idle ask number n old mid → IfOk r (λ t. (t.number ≡ n) × Collects shows n t.got (marks mid) (marks new)) → OnErr r (marks new ≡ marks mid) → (idle mid → idle new)
-      → MatchResult r (λ t. Exchanges marks idle shows ask number t old new) (λ _. AddsCut (marks old) (marks new))
+      → MatchResult r (λ t. Exchanges marks idle shows ask number t old new) (λ _. FallsShort ask (marks old) (marks new))
   exchanges_or n (Ok t) old mid new asks got same calm = record {
     settled = mid;
     asks = subst (λ (k : ℕ). Asks marks idle ask number k old mid) (sym got.0) asks;
     got = subst (λ (k : ℕ). Collects shows k t.got (marks mid) (marks new)) (sym got.0) got.1;
     calm = calm;
   }
-  exchanges_or n (Err e) old mid new asks got same calm = subst (AddsCut (marks old)) (sym same)
-      (cut_quiet (marks old) (marks asks.asked) (marks mid) (makes_cut ask number n (marks old) (marks asks.asked) asks.made) asks.settled.quiet)
+  exchanges_or n (Err e) old mid new asks got same calm = subst (FallsShort ask (marks old)) (sym same)
+      (short_before ask (marks old) (marks asks.asked) (marks mid) (makes_short ask number n (marks old) (marks asks.asked) asks.made) asks.settled.quiet)
 
   -- an exchange behind what makes ready for it
-  pub turns_or : (r : Result Turned Memory) (old mid new : C) → AddsQuiet (marks old) (marks mid) → Readies marks idle servers clock last now old mid → MatchResult r (λ t. Exchanges marks idle shows ask number t mid new) (λ _. AddsCut (marks mid) (marks new))
-      → MatchResult r (λ t. Turns marks idle servers clock shows last now ask number t old new) (λ _. AddsCut (marks old) (marks new))
+  pub turns_or : (r : Result Turned Memory) (old mid new : C) → AddsQuiet (marks old) (marks mid) → Readies marks idle servers clock last now old mid → MatchResult r (λ t. Exchanges marks idle shows ask number t mid new) (λ _. FallsShort ask (marks mid) (marks new))
+      → MatchResult r (λ t. Turns marks idle servers clock shows last now ask number t old new) (λ _. FallsShort ask (marks old) (marks new))
   turns_or (Ok t) old mid new quiet ready x = record { ready = mid; readied = ready; exchanged = x }
-  turns_or (Err e) old mid new quiet ready x = cut_cut (marks old) (marks mid) (marks new) (quiet_cut (marks old) (marks mid) quiet) x
+  turns_or (Err e) old mid new quiet ready x = short_behind ask (marks old) (marks mid) (marks new) quiet x
 
 -- what a turn may leave: own numbers alone are taken
 pub record Rests (mine : List ℕ) (old new : List Mark) : Type 0 where
@@ -122,9 +124,9 @@ rests_first_or shows mine ask k (Ok t) old new x = rests_first shows mine ask k 
 rests_first_or shows mine ask k (Err e) old new x = rests_cut mine old new x
 
 pub rests_next_or : (shows : ℕ → Ask → Reply → List Mark → Type 0) (mine : List ℕ) (k : ℕ) (r : Result Turned Memory) (old new : List Mark) → Among k mine
-    → MatchResult r (λ t. Exchanged shows None k t old new) (λ _. AddsCut old new) → Rests mine old new
+    → MatchResult r (λ t. Exchanged shows None k t old new) (λ _. AddsQuiet old new) → Rests mine old new
 rests_next_or shows mine k (Ok t) old new own x = rests_next shows mine k t old new own x
-rests_next_or shows mine k (Err e) old new own x = rests_cut mine old new x
+rests_next_or shows mine k (Err e) old new own x = rests_cut mine old new (quiet_cut old new x)
 
 -- what the pass has opened then
 pub mine_is : (old new rest : List Mark) → new ≡ old ++ rest → numbers opens (drop (length old) new) ≡ numbers opens rest
@@ -208,6 +210,40 @@ waits_quiet n ask old mid mine w q = record {
 more_mine : (n : ℕ) (ask : Ask) (seen : List Mark) (mine mine' : List ℕ) → ((k : ℕ) → Among k mine → Among k mine') → Waits n ask seen mine → Waits n ask seen mine'
 more_mine n ask seen mine mine' f w = record { own = f n w.own; asked = w.asked; untaken = w.untaken }
 
+-- the first turn of a request opens its number alone, and each later one none
+opens_first : (shows : ℕ → Ask → Reply → List Mark → Type 0) (ask : Ask) (k : ℕ) (t : Turned) (old new : List Mark) → Exchanged shows (Some ask) k t old new → numbers opens (drop (length old) new) ≡ t.number ∷ []
+opens_first shows ask k t old new x =
+    let l = leaves shows t.number t.got x.mid new x.got in
+    let w = x.made in
+    mine_is old new (w.rest ++ l.rest) (joined old x.mid new w.rest l.rest w.are l.are) ∙ (append_none opens w.rest l.rest l.opens_none ∙ w.opens_it)
+
+pub opened_first : (shows : ℕ → Ask → Reply → List Mark → Type 0) (ask : Ask) (k : ℕ) (r : Result Turned Memory) (old new : List Mark) (mine mine' : List ℕ)
+    → MatchResult r (λ t. Exchanged shows (Some ask) k t old new) (λ _. AddsCut old new) → mine' ≡ mine ++ numbers opens (drop (length old) new)
+    → MatchResult r (λ t. mine' ≡ mine ++ t.number ∷ []) (λ _. OpensFew mine mine')
+opened_first shows ask k (Ok t) old new mine mine' x m = m ∙ ap (λ (l : List ℕ). mine ++ l) (opens_first shows ask k t old new x)
+opened_first shows ask k (Err e) old new mine mine' x m = record { last = numbers opens (drop (length old) new); are = m; few = few_as (numbers opens (drop (length old) new)) (numbers opens x.rest) (mine_is old new x.rest x.are) x.opens_few }
+
+pub opened_next : (shows : ℕ → Ask → Reply → List Mark → Type 0) (k : ℕ) (r : Result Turned Memory) (old new : List Mark) (mine mine' : List ℕ)
+    → MatchResult r (λ t. Exchanged shows None k t old new) (λ _. AddsQuiet old new) → mine' ≡ mine ++ numbers opens (drop (length old) new) → mine' ≡ mine
+opened_next shows k (Ok t) old new mine mine' x m =
+    let l = leaves shows t.number t.got x.mid new x.got in
+    let q = x.made.1 in
+    let none : numbers opens (drop (length old) new) ≡ [] = mine_is old new (q.rest ++ l.rest) (joined old x.mid new q.rest l.rest q.are l.are) ∙ (append_none opens q.rest l.rest l.opens_none ∙ q.opens_none) in
+    m ∙ (ap (λ (z : List ℕ). mine ++ z) none ∙ append-nil mine)
+opened_next shows k (Err e) old new mine mine' x m = m ∙ mine_still mine old new x
+
+-- what a request opened whose first turn is done, and that waits since
+pub opened_by : {E : Type 0} (n : ℕ) (mine mine₁ mine₂ : List ℕ) (r : Result Reply E) → mine₁ ≡ mine ++ n ∷ [] → mine₂ ≡ mine₁ → IfOk r (λ reply. reply.number ≡ n)
+    → MatchResult r (λ reply. mine₂ ≡ mine ++ reply.number ∷ []) (λ _. OpensFew mine mine₂)
+opened_by n mine mine₁ mine₂ (Ok reply) e f same = f ∙ (e ∙ ap (λ (z : ℕ). mine ++ z ∷ []) (sym same))
+opened_by n mine mine₁ mine₂ (Err why) e f same = record { last = n ∷ []; are = f ∙ e; few = omega arith }
+
+-- it is held, as the last that the pass asked
+pub held_or : (S : Ask → Type 0) (n : ℕ) (ask : Ask) (mine mine₁ : List ℕ) (w : Known) (r : Result Reply NoReply) → mine₁ ≡ mine ++ n ∷ [] → w.mine ≡ mine₁ → S ask
+    → IfErr r (λ why. why ≡ no_reply.Left → (a : Ask) → S a → Waits n a w.seen w.mine) → IfErr r (λ why. why ≡ no_reply.Left → IsHeld ask mine w)
+held_or S n ask mine mine₁ w (Ok reply) e f s x = tt
+held_or S n ask mine mine₁ w (Err why) e f s x = λ left. record { number = n; waits = x left ask s; last = f ∙ e }
+
 -- The first turn of a request, and each later one.
 pub stands_first : (shows : ℕ → Ask → Reply → List Mark → Type 0) (ask : Ask) (k : ℕ) (t : Turned) (old new : List Mark) (mine : List ℕ) (w' : Known)
     → Exchanged shows (Some ask) k t old new → AreKept old → AreKept new → w'.seen ≡ new → w'.mine ≡ mine ++ numbers opens (drop (length old) new)
@@ -215,7 +251,7 @@ pub stands_first : (shows : ℕ → Ask → Reply → List Mark → Type 0) (ask
 stands_first shows ask k t old new mine w' x before after s m =
     let l = leaves shows t.number t.got x.mid new x.got in
     let w = x.made in
-    let whole : numbers opens (drop (length old) new) ≡ t.number ∷ [] = mine_is old new (w.rest ++ l.rest) (joined old x.mid new w.rest l.rest w.are l.are) ∙ (append_none opens w.rest l.rest l.opens_none ∙ w.opens_it) in
+    let whole = opens_first shows ask k t old new x in
     let own : Among t.number w'.mine = subst (Among t.number) (sym m) (among_right t.number mine _ (subst (Among t.number) (sym whole) (one t.number))) in
     let once : EachOnce (numbers opens x.mid) = subst EachOnce (ap (numbers opens) l.are ∙ append_none opens x.mid l.rest l.opens_none) after.once in
     stands_known shows t.number ask t.got w' (subst (λ (z : List Mark). StandsOver shows t.number ask t.got z w'.mine) (sym s)
@@ -232,12 +268,13 @@ stands_next shows ask k t seen old new mine w' w e x after s m =
     stands_known shows t.number ask t.got w' (subst (λ (z : List Mark). StandsOver shows t.number ask t.got z w'.mine) (sym s) (stands shows t.number ask t.got x.mid new w'.mine own x.got after))
 
 -- what was seen, opened and read grows over a turn
-pub grows : (v w : Known) (old new : List Mark) → Extends opens takes v.mine v.seen old → Rests v.mine old new → w.seen ≡ new → w.mine ≡ v.mine ++ numbers opens (drop (length old) new) → IsPrefix v.read w.read → Grows v w
-grows v w old new e r s m p = record {
+pub grows : (v w : Known) (old new : List Mark) → Extends opens takes v.mine v.seen old → Rests v.mine old new → w.seen ≡ new → w.mine ≡ v.mine ++ numbers opens (drop (length old) new) → w.shares ≡ v.shares → IsPrefix v.read w.read → Grows v w
+grows v w old new e r s m k p = record {
   rest = e.0 ++ r.rest;
   more = numbers opens (drop (length old) new);
   seen = s ∙ joined v.seen old new e.0 r.rest e.1 r.are;
   mine = m;
+  shares = k;
   read = p;
 }
 
@@ -248,14 +285,14 @@ turned_first shows ask k (Ok t) old new mine w x before after s m = stands_first
 turned_first shows ask k (Err e) old new mine w x before after s m = tt
 
 pub turned_next : (shows : ℕ → Ask → Reply → List Mark → Type 0) (k : ℕ) (r : Result Turned Memory) (seen old new : List Mark) (mine : List ℕ) (w : Known)
-    → Extends opens takes mine seen old → MatchResult r (λ t. Exchanged shows None k t old new) (λ _. AddsCut old new) → AreKept new → w.seen ≡ new
+    → Extends opens takes mine seen old → MatchResult r (λ t. Exchanged shows None k t old new) (λ _. AddsQuiet old new) → AreKept new → w.seen ≡ new
     → w.mine ≡ mine ++ numbers opens (drop (length old) new) → IfOk r (λ t. (ask : Ask) → Waits k ask seen mine → Stands shows t.number ask t.got w)
 turned_next shows k (Ok t) seen old new mine w e x after s m = λ ask waits. stands_next shows ask k t seen old new mine w waits e x after s m
 turned_next shows k (Err e) seen old new mine w ext x after s m = tt
 
 -- who asks nothing waits for the request that it names
 pub numbered_next : (shows : ℕ → Ask → Reply → List Mark → Type 0) (k : ℕ) (r : Result Turned Memory) (old new : List Mark)
-    → MatchResult r (λ t. Exchanged shows None k t old new) (λ _. AddsCut old new) → IfOk r (λ t. t.number ≡ k)
+    → MatchResult r (λ t. Exchanged shows None k t old new) (λ _. AddsQuiet old new) → IfOk r (λ t. t.number ≡ k)
 numbered_next shows k (Ok t) old new x = x.made.0
 numbered_next shows k (Err e) old new x = tt
 
@@ -283,11 +320,11 @@ behind_or n ask before v w (Ok reply) e b g = behind_on n reply.number ask befor
 behind_or n ask before v w (Err why) e b g = tt
 
 pub grows_none : (v : Known) → Grows v v
-grows_none v = record { rest = []; more = []; seen = sym (append-nil v.seen); mine = sym (append-nil v.mine); read = prefix_self v.read }
+grows_none v = record { rest = []; more = []; seen = sym (append-nil v.seen); mine = sym (append-nil v.mine); shares = refl; read = prefix_self v.read }
 
 -- more was read alone
 pub grows_read : (v : Known) (read : List Command) → IsPrefix v.read read → Grows v (record v { read = read })
-grows_read v read p = record { rest = []; more = []; seen = sym (append-nil v.seen); mine = sym (append-nil v.mine); read = p }
+grows_read v read p = record { rest = []; more = []; seen = sym (append-nil v.seen); mine = sym (append-nil v.mine); shares = refl; read = p }
 
 pub grows_on : (u v w : Known) → Grows u v → Grows v w → Grows u w
 grows_on u v w a b = record {
@@ -295,6 +332,7 @@ grows_on u v w a b = record {
   more = a.more ++ b.more;
   seen = joined u.seen v.seen w.seen a.rest b.rest a.seen b.seen;
   mine = b.mine ∙ (ap (λ (l : List ℕ). l ++ b.more) a.mine ∙ append_assoc u.mine a.more b.more);
+  shares = b.shares ∙ a.shares;
   read = prefix_on u.read v.read w.read a.read b.read;
 }
 
@@ -305,13 +343,17 @@ none_opened marks = mine_is marks marks [] (sym (append-nil marks))
 pub may_end_same : (mine : List ℕ) (marks : List Mark) → AreKept marks → MayEnd opens takes marks mine marks
 may_end_same mine marks k = may_end mine marks marks (record { rest = []; are = sym (append-nil marks); own = λ n a. absurd a }) k
 
-pub grows_looking : (v w : Known) (marks : List Mark) → Extends opens takes v.mine v.seen marks → w.seen ≡ marks → w.mine ≡ v.mine ++ numbers opens (drop (length marks) marks) → IsPrefix v.read w.read → Grows v w
-grows_looking v w marks e s m p = grows v w marks marks e (record { rest = []; are = sym (append-nil marks); own = λ n a. absurd a }) s m p
+pub grows_looking : (v w : Known) (marks : List Mark) → Extends opens takes v.mine v.seen marks → w.seen ≡ marks → w.mine ≡ v.mine ++ numbers opens (drop (length marks) marks) → w.shares ≡ v.shares → IsPrefix v.read w.read → Grows v w
+grows_looking v w marks e s m k p = grows v w marks marks e (record { rest = []; are = sym (append-nil marks); own = λ n a. absurd a }) s m k p
 
-pub held_looking : (v w : Known) (marks : List Mark) → Extends opens takes v.mine v.seen marks → w.seen ≡ marks → w.mine ≡ v.mine ++ numbers opens (drop (length marks) marks) → (ask : Ask) → IsHeld ask v → IsHeld ask w
-held_looking v w marks e s m ask h =
-    let same : w.mine ≡ v.mine = m ∙ (ap (λ (l : List ℕ). v.mine ++ l) (none_opened marks) ∙ append-nil v.mine) in
-    (h.0, subst (Waits h.0 ask w.seen) (sym same) (subst (λ (l : List Mark). Waits h.0 ask l v.mine) (sym s) (waits_on h.0 ask v.seen marks v.mine h.1 e)))
+pub opened_looking : (mine mine' : List ℕ) (marks : List Mark) → mine' ≡ mine ++ numbers opens (drop (length marks) marks) → mine' ≡ mine
+opened_looking mine mine' marks m = m ∙ (ap (λ (l : List ℕ). mine ++ l) (none_opened marks) ∙ append-nil mine)
+
+pub held_looking : (v w : Known) (marks : List Mark) → Extends opens takes v.mine v.seen marks → w.seen ≡ marks → w.mine ≡ v.mine ++ numbers opens (drop (length marks) marks) → (ask : Ask) (mine : List ℕ) → IsHeld ask mine v → IsHeld ask mine w
+held_looking v w marks e s m ask mine h =
+    let same : w.mine ≡ v.mine = opened_looking v.mine w.mine marks m in
+    let waits : Waits h.number ask w.seen w.mine = subst (Waits h.number ask w.seen) (sym same) (subst (λ (l : List Mark). Waits h.number ask l v.mine) (sym s) (waits_on h.number ask v.seen marks v.mine h.waits e)) in
+    record { number = h.number; waits = waits; last = same ∙ h.last }
 
 module _ (shows : ℕ → Ask → Reply → List Mark → Type 0) where
   pub looks_first : (n : ℕ) (got : Collected) (v : Known) → (ask : Ask) × Stands shows n ask got v → Looks shows n got v n got v
@@ -335,6 +377,9 @@ module _ (shows : ℕ → Ask → Reply → List Mark → Type 0) where
   pub looks_ready : (n : ℕ) (got : Collected) (u : Known) (n' : ℕ) (got' : Collected) (w : Known) (reply : Reply) → got' ≡ collected.Ready reply → Looks shows n got u n' got' w
       → (ask : Ask) → Stands shows n ask got u → IsAnswered shows ask reply w.seen w.mine
   looks_ready n got u n' got' w reply e l ask x = let s : Stands shows n' ask (collected.Ready reply) w = subst (λ (z : Collected). Stands shows n' ask z w) e (l.each ask x) in s.1
+
+  pub looks_waiting : (n : ℕ) (got : Collected) (u : Known) (n' : ℕ) (got' : Collected) (w : Known) → got' ≡ collected.NotYet → Looks shows n got u n' got' w → (ask : Ask) → Stands shows n ask got u → Waits n ask w.seen w.mine
+  looks_waiting n got u n' got' w e l ask x = subst (λ (z : ℕ). Waits z ask w.seen w.mine) l.same (waiting n' ask got' w e (l.each ask x))
 
   pub looks_numbered : (n : ℕ) (got : Collected) (u : Known) (n' : ℕ) (got' : Collected) (w : Known) (reply : Reply) → got' ≡ collected.Ready reply → Looks shows n got u n' got' w → reply.number ≡ n
   looks_numbered n got u n' got' w reply e l = let s : Stands shows n' l.some.0 (collected.Ready reply) w = subst (λ (z : Collected). Stands shows n' l.some.0 z w) e l.some.1 in s.0 ∙ l.same

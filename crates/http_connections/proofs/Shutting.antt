@@ -1,5 +1,5 @@
 -- A connection that is shut behind its end, by when more may be known, or memory may lack.
-use Rattle.std.proofs.Common.{◌≡◌, ◌⊎◌, inl, inr, ℕ, true, List, [], ◌∷◌, sym, subst, arith, Option, Some, None}
+use Rattle.std.proofs.Common.{◌≡◌, ◌⊎◌, inl, inr, ℕ, true, List, [], ◌∷◌, sym, ◌∙◌, subst, arith, Option, Some, None}
 use Rattle.std.specs.Prelude.{MatchOption}
 use Rattle.cat_model.specs.declared.request.Asked.{Asked}
 use Rattle.cat_model.specs.declared.request.Asked.TheVariants.{Good, Bad}
@@ -11,9 +11,9 @@ use Rattle.http_connections.specs.declared.cluster.Ask.{Ask}
 use Rattle.http_connections.specs.declared.cause.Cause.{Cause}
 use Rattle.http_connections.specs.declared.cause.Cause.TheVariants as cause
 use Rattle.http_connections.specs.Knowing.{Known}
-use Rattle.http_connections.specs.Serving.{Connection, Exchange, continued, replied, AreOpen, Closes, OpenBefore, Passed, IsCut, IsLeft, IsUnanswered, IsWhole, EndsBy}
+use Rattle.http_connections.specs.Serving.{Connection, Exchange, continued, replied, AreOpen, Closes, OpenBefore, Passed, IsCut, IsLeft, IsUnanswered, IsWhole, EndsBy, asked_so_far}
 use Rattle.http_connections.specs.Waiting.{Grows, IsHeld}
-use Rattle.http_connections.proofs.Exchanges.{cut_by, open_before, passed_later}
+use Rattle.http_connections.proofs.Exchanges.{cut_by, open_before, opens_just, passed_later}
 
 -- what closes had nothing behind it that asked to
 open_closing : (es : List Exchange) → Closes es → OpenBefore es
@@ -33,6 +33,7 @@ module _ (shows : ℕ → Ask → Reply → List Mark → Type 0) (agrees : Type
     least = omega arith;
     most = omega arith;
     open_before = before x.es x.rest x.ends;
+    own = opens_just (asked_so_far c x.es) v.mine x.own;
   }
 
   -- however a connection ended, it came as far as one that was cut off
@@ -49,7 +50,7 @@ module _ (shows : ℕ → Ask → Reply → List Mark → Type 0) (agrees : Type
   cut_of cause.Memory x = x
 
   -- it has ended in the same way
-  module _ (w : Known) (g : Grows v w) (held : (ask : Ask) → IsHeld ask v → IsHeld ask w) where
+  module _ (w : Known) (g : Grows v w) (same : w.mine ≡ v.mine) (held : (ask : Ask) (mine : List ℕ) → IsHeld ask mine v → IsHeld ask mine w) where
     abbrev shut_link : LinkState
     shut_link = record link { shut = true }
 
@@ -63,11 +64,11 @@ module _ (shows : ℕ → Ask → Reply → List Mark → Type 0) (agrees : Type
     }
 
     cut_shut : IsCut shows agrees c link v n → IsCut shows agrees c shut_link w n
-    cut_shut x = cut_by shows agrees c link shut_link v w n passed_shut x
+    cut_shut x = cut_by shows agrees c link shut_link v w n same passed_shut x
 
-    still_unanswered : (asked : Asked) (k : ℕ) → IsUnanswered shows agrees c asked k v → IsUnanswered shows agrees c asked k w
-    still_unanswered (Good request) k u = (u.0, held _ u.1)
-    still_unanswered (Bad why) k u = u
+    still_unanswered : (asked : Asked) (k : ℕ) (mine : List ℕ) → IsUnanswered shows agrees c asked k mine v → IsUnanswered shows agrees c asked k mine w
+    still_unanswered (Good request) k mine u = (u.0, held _ mine u.1)
+    still_unanswered (Bad why) k mine u = u
 
     left_shut : IsLeft shows agrees c link v n → IsLeft shows agrees c shut_link w n
     left_shut x = record {
@@ -77,7 +78,7 @@ module _ (shows : ℕ → Ask → Reply → List Mark → Type 0) (agrees : Type
       rest = x.rest;
       passed = passed_shut x.es _ _ x.passed;
       gives = x.gives;
-      unanswered = still_unanswered _ _ x.unanswered;
+      unanswered = still_unanswered _ _ _ x.unanswered;
       before = cut_shut x.before;
       count = x.count;
       are_open = x.are_open;
@@ -89,6 +90,7 @@ module _ (shows : ℕ → Ask → Reply → List Mark → Type 0) (agrees : Type
       rest = x.rest;
       came = record { stream = x.came.stream; written = x.came.written; passed = passed_shut x.es _ _ x.came.passed; gives = x.came.gives; due = x.came.due };
       count = x.count;
+      own = same ∙ x.own;
       ends = x.ends;
     }
 

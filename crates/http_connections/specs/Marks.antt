@@ -1,5 +1,5 @@
 -- What marks ask, take and answer, and what calls put behind them. Marks stand the first one first.
-use Rattle.std.specs.Prelude.{◌≡◌, ◌⊎◌, ℕ, ◌+◌, ◌^◌, ◌<◌, ◌≤◌, true, List, [], ◌∷◌, ◌++◌, reverse, Option, Some, None}
+use Rattle.std.specs.Prelude.{◌≡◌, ◌⊎◌, ℕ, ◌+◌, ◌^◌, ◌<◌, ◌≤◌, true, List, [], ◌∷◌, ◌++◌, length, reverse, Option, Some, None}
 use Rattle.std.specs.List.{AllByRecursion}
 use Rattle.cat_model.specs.declared.command.Command.{Command}
 use Rattle.cat_model.specs.declared.command.Entry.{Entry}
@@ -70,10 +70,11 @@ pub record AddsAsked (number : ℕ) (ask : Ask) (old new : List Mark) : Type 0 w
   pub takes_none : numbers takes rest ≡ []
   pub asked : IsAmong (asked_mark number ask) rest
 
--- nothing was taken; an ask without memory may have put its mark
+-- nothing was taken, and at most one request asked: an ask without memory may have put its mark
 pub record AddsCut (old new : List Mark) : Type 0 where
   pub rest : List Mark
   pub are : new ≡ old ++ rest
+  pub opens_few : length (numbers opens rest) ≤ 1
   pub takes_none : numbers takes rest ≡ []
 
 -- each clock that went on did so once, and by so many milliseconds

@@ -1,5 +1,5 @@
 -- What is exchanged over a connection: HTTP/1.1 requests and their replies, in order (RFC 9112, sections 9.3 and 9.3.2).
-use Rattle.std.specs.Prelude.{◌≡◌, ℕ, ◌+◌, ◌%◌, ◌^◌, ◌≤◌, ◌⊎◌, Bool, true, false, if◌then◌else◌, List, [], ◌∷◌, ◌++◌, Option, Some, None, MatchOption, bytes_eq, codes}
+use Rattle.std.specs.Prelude.{◌≡◌, ℕ, ◌+◌, ◌%◌, ◌^◌, ◌≤◌, ◌⊎◌, Bool, true, false, if◌then◌else◌, List, [], ◌∷◌, ◌++◌, Option, Some, None, MatchOption, Result, Ok, Err, bytes_eq, codes}
 use Rattle.std.specs.Io.KnownBytes.{append_known}
 use Rattle.cat_model.specs.declared.request.Asked.{Asked}
 use Rattle.cat_model.specs.declared.request.Asked.TheVariants.{Good, Bad}
@@ -23,7 +23,7 @@ use Rattle.http_connections.specs.declared.cause.Cause.{Cause}
 use Rattle.http_connections.specs.declared.cause.Cause.TheVariants as cause
 use Rattle.http_connections.specs.Knowing.{Known, HasLearned}
 use Rattle.http_connections.specs.Replies.{IsViewed, is_viewed, refusing, text_of, head_of}
-use Rattle.http_connections.specs.Waiting.{Grows, IsAnswered, IsBehind, IsHeld}
+use Rattle.http_connections.specs.Waiting.{Grows, IsAnswered, IsBehind, IsHeld, OpensFew}
 
 -- A connection: the agent that is asked for it, the words that were drawn for it, and its link and what was known when it
 -- began.
@@ -91,6 +91,26 @@ Closes (replied raw reply ∷ es) = (raw.close ≡ true) × AreOpen es
 abbrev pub asked_by : Raw → Asked
 asked_by raw = route_of raw.method raw.target raw.body
 
+-- the number by which a request was asked, if it was asked, as its reply tells it
+abbrev pub number_of : Asked → Reply → List ℕ
+number_of (Good request) reply = if is_viewed request then [] else (reply.number ∷ [])
+number_of (Bad why) reply = []
+
+-- the numbers by which requests were asked, in order
+abbrev pub asked_numbers : List Exchange → List ℕ
+asked_numbers [] = []
+asked_numbers (continued ∷ es) = asked_numbers es
+asked_numbers (replied raw reply ∷ es) = asked_numbers es ++ number_of (asked_by raw) reply
+
+-- the numbers that a connection's pass has opened, where it asked what was asked in these exchanges and nothing else
+abbrev pub asked_so_far : Connection → List Exchange → List ℕ
+asked_so_far c es = c.begun.mine ++ asked_numbers es
+
+-- The numbers that were opened for a request: its own, if it was asked; and where it has no reply at most one.
+abbrev pub Opens : {E : Type 0} → Asked → Result Reply E → List ℕ → List ℕ → Type 0
+Opens asked (Ok reply) old new = new ≡ old ++ number_of asked reply
+Opens asked (Err why) old new = OpensFew old new
+
 -- the draw of a connection's n-th request
 abbrev pub draw_of : Draw → ℕ → Draw
 draw_of d n = record { hi = d.hi; lo = (d.lo + n) % 2 ^ 64 }
@@ -151,7 +171,7 @@ module _ (shows : ℕ → Ask → Reply → List Mark → Type 0) (agrees : Type
     pub due : bytes_of es ++ last_bytes rejection ≡ written ++ unwritten
 
   -- The connection was cut off: its last reply, or the refusal behind it, may be unwritten in part. Nothing stands behind
-  -- a request that asks to close.
+  -- a request that asks to close. At most one request was asked that has no reply.
   pub record IsCut (link : LinkState) (known : Known) (requests : ℕ) : Type 0 where
     pub es : List Exchange
     pub rejection : Option Rejection
@@ -161,22 +181,24 @@ module _ (shows : ℕ → Ask → Reply → List Mark → Type 0) (agrees : Type
     pub least : requests ≤ count_of es
     pub most : count_of es ≤ requests + 1
     pub open_before : MatchOption rejection (OpenBefore es) (λ why. AreOpen es)
+    pub own : OpensFew (asked_so_far c es) known.mine
 
-  -- all that came was answered
+  -- all that came was answered, and nothing else was asked
   pub record IsWhole (Ends : List Exchange → List ℕ → Type 0) (rejection : Option Rejection) (link : LinkState) (known : Known) (requests : ℕ) : Type 0 where
     pub es : List Exchange
     pub rest : List ℕ
     pub came : Came link known es rejection rest []
     pub count : requests ≡ count_of es
+    pub own : known.mine ≡ asked_so_far c es
     pub ends : Ends es rest
 
-  -- the n-th request was asked, and has no reply
-  abbrev pub IsUnanswered : Asked → ℕ → Known → Type 0
-  IsUnanswered (Good request) n known = (is_viewed request ≡ false) × IsHeld (record { agent = c.agent; asked = Good request; draw = draw_of c.draw n }) known
-  IsUnanswered (Bad why) n known = ⊥
+  -- the n-th request was asked, behind these numbers of the pass, and has no reply
+  abbrev pub IsUnanswered : Asked → ℕ → List ℕ → Known → Type 0
+  IsUnanswered (Good request) n mine known = (is_viewed request ≡ false) × IsHeld (record { agent = c.agent; asked = Good request; draw = draw_of c.draw n }) mine known
+  IsUnanswered (Bad why) n mine known = ⊥
 
   -- The client went away while its last request waited: all requests before were answered, the last one was asked, and
-  -- nothing was written to it. What came before it stands as where a connection is cut off.
+  -- nothing else, and nothing was written to it. What came before it stands as where a connection is cut off.
   pub record IsLeft (link : LinkState) (known : Known) (requests : ℕ) : Type 0 where
     pub es : List Exchange
     pub last : Raw
@@ -184,7 +206,7 @@ module _ (shows : ℕ → Ask → Reply → List Mark → Type 0) (agrees : Type
     pub rest : List ℕ
     pub passed : Passed link known es (stream ++ rest) (bytes_of es)
     pub gives : GivesAll stream (items_of es ++ whole last ∷ []) None
-    pub unanswered : IsUnanswered (asked_by last) (requests + 1) known
+    pub unanswered : IsUnanswered (asked_by last) (requests + 1) (asked_so_far c es) known
     pub before : IsCut link known requests
     pub count : requests ≡ count_of es
     pub are_open : AreOpen es

@@ -15,7 +15,7 @@ use Rattle.http_connections.specs.declared.cluster.Ask.{Ask}
 use Rattle.http_connections.specs.declared.cause.Cause.{Cause}
 use Rattle.http_connections.specs.declared.cause.Cause.TheVariants as cause
 use Rattle.http_connections.specs.Knowing.{Known}
-use Rattle.http_connections.specs.Serving.{Connection, Exchange, items_of, count_of, bytes_of, AreOpen, Passed, IsCut, EndsBy}
+use Rattle.http_connections.specs.Serving.{Connection, Exchange, items_of, count_of, bytes_of, AreOpen, Passed, Came, IsCut, EndsBy, asked_so_far}
 
 -- why a write stopped, by the link's count of failed writes before and after it
 abbrev pub StopsBy : Cause → ℕ → ℕ → Type 0
@@ -56,8 +56,8 @@ pub record Stage : Type 0 where
   pub requests : ℕ
 
 module _ (shows : ℕ → Ask → Reply → List Mark → Type 0) (agrees : Type 0) (c : Connection) where
-  -- The connection goes on: all that came was answered, but for `rest`, which was read and not taken yet, and nothing has
-  -- asked to close.
+  -- The connection goes on: all that came was answered, but for `rest`, which was read and not taken yet, nothing has
+  -- asked to close, and nothing else was asked.
   pub record Talks (s : Stage) (rest : List ℕ) : Type 0 where
     pub es : List Exchange
     pub stream : List ℕ
@@ -68,8 +68,10 @@ module _ (shows : ℕ → Ask → Reply → List Mark → Type 0) (agrees : Type
     pub unshut : s.link.shut ≡ false
     pub are_open : AreOpen es
     pub unended : s.link.ends ≡ c.first.ends
+    pub own : s.known.mine ≡ asked_so_far c es
 
-  -- What was given is to be answered. `before` holds if it is not.
+  -- What was given is to be answered. `before` tells how far the connection came if it is not, of whose stream then `untaken`
+  -- is left.
   pub record Owes (s : Stage) (rest : List ℕ) (given : Given) : Type 0 where
     pub es : List Exchange
     pub stream : List ℕ
@@ -80,7 +82,9 @@ module _ (shows : ℕ → Ask → Reply → List Mark → Type 0) (agrees : Type
     pub unshut : s.link.shut ≡ false
     pub are_open : AreOpen es
     pub unended : s.link.ends ≡ c.first.ends
-    pub before : IsCut shows agrees c s.link s.known s.requests
+    pub own : s.known.mine ≡ asked_so_far c es
+    pub untaken : List ℕ
+    pub before : Came shows agrees c s.link s.known es None untaken []
 
   -- The rest of the stream is refused, and that is to be answered.
   pub record OwesRefusal (link : LinkState) (known : Known) (requests : ℕ) (why : Rejection) : Type 0 where
@@ -90,6 +94,7 @@ module _ (shows : ℕ → Ask → Reply → List Mark → Type 0) (agrees : Type
     pub gives : GivesAll stream (items_of es) (Some why)
     pub count : requests ≡ count_of es
     pub are_open : AreOpen es
+    pub own : known.mine ≡ asked_so_far c es
 
   -- what a call of the reader leaves to be done
   abbrev pub Comes : Stage → List ℕ → Got → Type 0

@@ -5,7 +5,7 @@ use Rattle.cat_model.specs.Taken.{IsTakenAsked}
 use Rattle.cluster_rules.specs.Replies.{Reply}
 use Rattle.http_connections.specs.declared.cluster.Ask.{Ask}
 use Rattle.http_connections.specs.declared.served.Turned.{Turned}
-use Rattle.http_connections.specs.Marks.{AddsAsked, AddsQuiet, Delivers, Fits, TicksAll, TicksBy, TicksNone}
+use Rattle.http_connections.specs.Marks.{AddsAsked, AddsCut, AddsQuiet, Delivers, Fits, TicksAll, TicksBy, TicksNone}
 use Rattle.http_connections.specs.Collects.{Collects}
 
 -- the agent is one of the cluster's, and the cluster takes what is asked
@@ -29,6 +29,11 @@ StandsStill last last' old new = (last' ≡ last) × TicksNone old new
 abbrev pub Makes : Option Ask → ℕ → ℕ → List Mark → List Mark → Type 0
 Makes None number n old new = (n ≡ number) × AddsQuiet old new
 Makes (Some ask) number n old new = AddsAsked n ask old new
+
+-- memory ran out: nothing was taken, and nothing asked but the request, if there is one
+abbrev pub FallsShort : Option Ask → List Mark → List Mark → Type 0
+FallsShort None old new = AddsQuiet old new
+FallsShort (Some ask) old new = AddsCut old new
 
 -- `marks` are a cluster's, and `idle` says that no message is under way in it.
 module _ {C : Type 0} (marks : C → List Mark) (idle : C → Type 0) where

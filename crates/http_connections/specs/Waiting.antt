@@ -1,5 +1,5 @@
 -- A request from its asking to its reply, over the marks that a pass has seen and the numbers that it opened.
-use Rattle.std.specs.Prelude.{◌≡◌, ℕ, true, List, ◌++◌, Result, Ok, Err}
+use Rattle.std.specs.Prelude.{◌≡◌, ℕ, ◌≤◌, true, List, [], ◌∷◌, ◌++◌, length, Result, Ok, Err}
 use Rattle.cat_model.specs.declared.reply.Mark.{Mark}
 use Rattle.cluster_rules.specs.Replies.{Reply}
 use Rattle.cluster_rules.specs.Sound.{IsAmong}
@@ -14,12 +14,13 @@ use Rattle.http_connections.specs.declared.turns.NoReply.TheVariants as no_reply
 use Rattle.http_connections.specs.Knowing.{Known}
 use Rattle.http_connections.specs.Marks.{answered_mark, answers, asked_mark, opens, takes}
 
--- what was seen, opened and read begins as before
+-- what was seen, opened and read begins as before, and no share was given away
 pub record Grows (v w : Known) : Type 0 where
   pub rest : List Mark
   pub more : List ℕ
   pub seen : w.seen ≡ v.seen ++ rest
   pub mine : w.mine ≡ v.mine ++ more
+  pub shares : w.shares ≡ v.shares
   pub read : IsPrefix v.read w.read
 
 -- the request was asked by this pass, and its reply is not taken
@@ -28,9 +29,18 @@ pub record Waits (n : ℕ) (ask : Ask) (seen : List Mark) (mine : List ℕ) : Ty
   pub asked : IsAmong (asked_mark n ask) seen
   pub untaken : Among n (numbers takes seen) → ⊥
 
--- the request was asked by this pass and is held, its reply is not taken
-abbrev pub IsHeld : Ask → Known → Type 0
-IsHeld ask known = (n : ℕ) × Waits n ask known.seen known.mine
+-- The request was asked by this pass, behind these numbers of its own and as the last of all, and is held: its reply is not
+-- taken.
+pub record IsHeld (ask : Ask) (mine : List ℕ) (known : Known) : Type 0 where
+  pub number : ℕ
+  pub waits : Waits number ask known.seen known.mine
+  pub last : known.mine ≡ mine ++ number ∷ []
+
+-- at most one number more was opened
+pub record OpensFew (old new : List ℕ) : Type 0 where
+  pub last : List ℕ
+  pub are : new ≡ old ++ last
+  pub few : length last ≤ 1
 
 -- A link behind a request that has a reply or none: where there is none since its client went away that is counted, and
 -- else nothing has changed.

@@ -1,10 +1,10 @@
 //! A connection's job.
 
-ghost use Rattle.std.specs.Prelude.{◌≡◌, ◌⊎◌, ◌<◌, ◌≤◌, [], false, true, None};
+ghost use Rattle.std.specs.Prelude.{◌≡◌, ◌⊎◌, ◌<◌, ◌≤◌, ℕ, List, [], false, true, None};
 ghost use Rattle.std.specs.Arc.{arc_value};
 ghost use Rattle.http_wire.specs.State.{Told};
 ghost use Rattle.http_connections.specs.declared.cluster.Ask.{Ask as SpecAsk};
-ghost use Rattle.http_connections.specs.Boards.{IsOurs};
+ghost use Rattle.http_connections.specs.Boards.{IsOurs, known};
 ghost use Rattle.http_connections.specs.declared.cause.Cause.TheVariants as cause_of;
 ghost use Rattle.http_connections.specs.Jobs.{connection_of};
 ghost use Rattle.http_connections.specs.Knowing.{HasLearned, known_by};
@@ -68,7 +68,8 @@ fn look_once_more<R: Wait, C: SharedCluster, Cl, G, L>(
     requires ours { IsOurs (arc_value service.now.board) pass.old }
     ensures ours { IsOurs (arc_value service.now.board) pass.new }
     ensures grown { Grows (known_by pass.old viewer.old) (known_by pass.new viewer.new) }
-    ensures held { (ask : SpecAsk) → IsHeld ask (known_by pass.old viewer.old) → IsHeld ask (known_by pass.new viewer.new) }
+    ensures opened { (known pass.new).mine ≡ (known pass.old).mine }
+    ensures held { (ask : SpecAsk) (mine : List ℕ) → IsHeld ask mine (known_by pass.old viewer.old) → IsHeld ask mine (known_by pass.new viewer.new) }
     ensures cause { (result ≡ cause) ⊎ (result ≡ cause_of.Memory) }
     ensures learned { is_short result ≡ false → HasLearned C.agrees (known_by pass.new viewer.new) }
 {
@@ -96,7 +97,8 @@ fn end_serving<R: Wait, C: SharedCluster, Cl, G, L: Link>(
     ensures link { L.state result.link ≡ record (L.state serving.link) { shut = true } }
     ensures requests { result.requests ≡ serving.requests }
     ensures grown { Grows (known_by serving.pass serving.viewer) (known_by result.pass result.viewer) }
-    ensures held { (ask : SpecAsk) → IsHeld ask (known_by serving.pass serving.viewer) → IsHeld ask (known_by result.pass result.viewer) }
+    ensures opened { (known result.pass).mine ≡ (known serving.pass).mine }
+    ensures held { (ask : SpecAsk) (mine : List ℕ) → IsHeld ask mine (known_by serving.pass serving.viewer) → IsHeld ask mine (known_by result.pass result.viewer) }
     ensures cause { (result.cause ≡ cause) ⊎ (result.cause ≡ cause_of.Memory) }
     ensures learned { is_short result.cause ≡ false → HasLearned C.agrees (known_by result.pass result.viewer) }
 {

@@ -9,15 +9,16 @@
 //! failed and was counted, or running out of memory; the reply to what is no request is its refusal, and to any
 //! other that of the one answer mark of a number that was asked once, by this connection's pass, with its agent and
 //! its draw, and behind all that the connection knew when the reply before was made, so that it reads what it
-//! wrote, showing what the agreed log then tells. All this holds, in a run, of each link that was handed back, but
-//! for those that were turned away because no job could be started, of which there are no more than the spawner's
-//! count rose by, and one more where there was no memory for a job; and what the pass of each had seen is a
-//! beginning of the marks of the cluster that is left. A turn lets the servers' clocks go on by just the time since
-//! the last one, a day at most and not at all where the outside clock fell, each clock once; where it found memory,
-//! each did go on that does not pass its end by it, then messages were delivered until none was left, 4,096 at
-//! most, and only then the request was asked, and messages were delivered again. The timekeeper asks nothing. Of
-//! agents' clocks no clause speaks, and none says that a call that waits returns. Carried by: `serve_connection`,
-//! `serve_all`, `Served::turn`.
+//! wrote, showing what the agreed log then tells. The numbers that its pass opens are those of its replies, in
+//! order, and at most one more where it was cut off or its client left. All this holds, in a run, of each link that
+//! was handed back, but for those that were turned away because no job could be started, of which there are no more
+//! than the spawner's count rose by, and one more where there was no memory for a job; and what the pass of each
+//! had seen is a beginning of the marks of the cluster that is left. A turn lets the servers' clocks go on by just
+//! the time since the last one, a day at most and not at all where the outside clock fell, each clock once; where
+//! it found memory, each did go on that does not pass its end by it, then messages were delivered until none was
+//! left, 4,096 at most, and only then the request was asked, and messages were delivered again. The timekeeper asks
+//! nothing. Of agents' clocks no clause speaks, and none says that a call that waits returns. Carried by:
+//! `serve_connection`, `serve_all`, `Served::turn`.
 #![tactic(auto)]
 
 mod cause;

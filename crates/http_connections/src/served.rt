@@ -4,8 +4,8 @@ ghost use Rattle.std.specs.Prelude.{◌≡◌, ◌<◌, IfOk, MatchResult, OnErr
 ghost use Rattle.std.specs.Option.{ForSome};
 ghost use mathlib.Core.List.{IsPrefix};
 ghost use Rattle.http_connections.specs.Collects.{Collects};
-ghost use Rattle.http_connections.specs.Marks.{AddsCut, AddsQuiet, AreKept, TicksAll, agreed_by, opens, takes};
-ghost use Rattle.http_connections.specs.Turns.{Asks, Exchanges, GoesOn, Makes, MayAsk, Readies, Settles, StandsStill, Turns, passed};
+ghost use Rattle.http_connections.specs.Marks.{AddsQuiet, AreKept, TicksAll, agreed_by, opens, takes};
+ghost use Rattle.http_connections.specs.Turns.{Asks, Exchanges, FallsShort, GoesOn, Makes, MayAsk, Readies, Settles, StandsStill, Turns, passed};
 
 use crate::cluster::{Ask, Collected, SharedCluster};
 use cat_model::{Mark, Memory};
@@ -77,7 +77,7 @@ impl<C: SharedCluster> Served<C> {
         requires { ForSome ask (MayAsk C.agents) }
         ensures made { MatchResult result
             (λ n. Makes ask number n (C.marks self.old.cluster) (C.marks self.new.cluster))
-            (λ _. AddsCut (C.marks self.old.cluster) (C.marks self.new.cluster)) }
+            (λ _. FallsShort ask (C.marks self.old.cluster) (C.marks self.new.cluster)) }
         ensures still { StandsStill self.old.last_ms self.new.last_ms (C.marks self.old.cluster) (C.marks self.new.cluster) }
     {
         match ask {
@@ -127,7 +127,7 @@ impl<C: SharedCluster> Served<C> {
         requires { ForSome ask (MayAsk C.agents) }
         ensures asks { MatchResult result
             (λ n. Asks C.marks C.idle ask number n self.old.cluster self.new.cluster)
-            (λ _. AddsCut (C.marks self.old.cluster) (C.marks self.new.cluster)) }
+            (λ _. FallsShort ask (C.marks self.old.cluster) (C.marks self.new.cluster)) }
         ensures still { StandsStill self.old.last_ms self.new.last_ms (C.marks self.old.cluster) (C.marks self.new.cluster) }
     {
         match self.make(alloc, ask, number) {
@@ -186,7 +186,7 @@ impl<C: SharedCluster> Served<C> {
         requires { ForSome ask (MayAsk C.agents) }
         ensures exchanged { MatchResult result
             (λ t. Exchanges C.marks C.idle C.shows ask number t self.old.cluster self.new.cluster)
-            (λ _. AddsCut (C.marks self.old.cluster) (C.marks self.new.cluster)) }
+            (λ _. FallsShort ask (C.marks self.old.cluster) (C.marks self.new.cluster)) }
         ensures still { StandsStill self.old.last_ms self.new.last_ms (C.marks self.old.cluster) (C.marks self.new.cluster) }
         ensures viewed { IsPrefix viewer.old viewer.new }
         ensures read { OnOk result (C.agrees → viewer.new ≡ agreed_by (C.marks self.new.cluster)) }
@@ -216,7 +216,7 @@ impl<C: SharedCluster> Served<C> {
         requires { ForSome ask (MayAsk C.agents) }
         ensures turned { MatchResult result
             (λ t. Turns C.marks C.idle C.servers C.clock C.shows self.old.last_ms now ask number t self.old.cluster self.new.cluster)
-            (λ _. AddsCut (C.marks self.old.cluster) (C.marks self.new.cluster)) }
+            (λ _. FallsShort ask (C.marks self.old.cluster) (C.marks self.new.cluster)) }
         ensures time { GoesOn self.old.last_ms self.new.last_ms now (C.marks self.old.cluster) (C.marks self.new.cluster) }
         ensures viewed { IsPrefix viewer.old viewer.new }
         ensures read { OnOk result (C.agrees → viewer.new ≡ agreed_by (C.marks self.new.cluster)) }
@@ -247,7 +247,7 @@ impl<C: SharedCluster> Served<C> {
         requires { ForSome ask (MayAsk C.agents) }
         ensures turned { MatchResult result
             (λ t. Turns C.marks C.idle C.servers C.clock C.shows self.old.last_ms now ask number t self.old.cluster self.new.cluster)
-            (λ _. AddsCut (C.marks self.old.cluster) (C.marks self.new.cluster)) }
+            (λ _. FallsShort ask (C.marks self.old.cluster) (C.marks self.new.cluster)) }
         ensures time { GoesOn self.old.last_ms self.new.last_ms now (C.marks self.old.cluster) (C.marks self.new.cluster) }
         ensures before { AreKept (C.marks self.old.cluster) }
         ensures after { AreKept (C.marks self.new.cluster) }

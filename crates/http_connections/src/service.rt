@@ -1,6 +1,6 @@
 //! A connection, from its first byte to its end.
 
-ghost use Rattle.std.specs.Prelude.{◌≡◌, ◌+◌, ◌<◌, ◌≤◌, [], ℕ, List, IfErr, IfOk, MatchResult, OnOk, drop, false, true, length, option_map, take};
+ghost use Rattle.std.specs.Prelude.{◌≡◌, ◌+◌, ◌++◌, ◌<◌, ◌≤◌, [], ℕ, List, IfErr, IfOk, MatchResult, OnOk, drop, false, true, length, option_map, take};
 ghost use Rattle.std.specs.Arc.{arc_value};
 ghost use Rattle.cat_model.specs.declared.request.Asked.TheVariants.{Good};
 ghost use Rattle.cat_model.specs.Taken.{IsTakenAsked};
@@ -9,12 +9,12 @@ ghost use Rattle.http_routes.specs.Filters.{filter_at};
 ghost use Rattle.http_wire.specs.Reader.{raw};
 ghost use Rattle.http_wire.specs.Stream.{go_on, whole};
 ghost use Rattle.serve_outside.specs.Links.{Reads};
-ghost use Rattle.http_connections.specs.Boards.{IsOurs};
+ghost use Rattle.http_connections.specs.Boards.{IsOurs, known};
 ghost use Rattle.http_connections.specs.Knowing.{Known, known_by};
 ghost use Rattle.http_connections.specs.Services.{connection, stage};
-ghost use Rattle.http_connections.specs.Serving.{EndsBy, IsReply, IsReplyTo, IsUnanswered, asked_by, draw_of};
+ghost use Rattle.http_connections.specs.Serving.{EndsBy, IsReply, IsReplyTo, IsUnanswered, Opens, asked_by, draw_of, number_of};
 ghost use Rattle.http_connections.specs.Stages.{Comes, GoesOn, IsTaking, Owes, OwesRefusal, Talks};
-ghost use Rattle.http_connections.specs.Waiting.{Grows, IsAfterAsk};
+ghost use Rattle.http_connections.specs.Waiting.{Grows, IsAfterAsk, OpensFew};
 ghost use Rattle.http_connections.specs.declared.cause.Cause.TheVariants as cause;
 ghost use Rattle.http_connections.specs.declared.turns.NoReply.TheVariants as no_reply;
 ghost use Rattle.http_connections.specs.Replies.{TakesNoTurn, is_viewed as is_viewed_spec, refusing as spec_refusing};
@@ -137,10 +137,11 @@ fn ask<R: Wait, C: SharedCluster, Cl: Clock, G: Gate, L: Link>(
     requires taken { IsTakenAsked (Good request) }
     requires unviewed { is_viewed_spec request ≡ false }
     ensures ours { IsOurs (arc_value service.now.board) pass.new }
+    ensures opened { Opens (Good request) result (known pass.old).mine (known pass.new).mine }
     ensures grown { Grows (known_by pass.old viewer.old) (known_by pass.new viewer.new) }
     ensures link { IsAfterAsk result (L.state link.old) (L.state link.new) }
     ensures reply { IfOk result (IsReplyTo C.shows C.agrees (connection L.state service.now) request n (known_by pass.old viewer.old) (known_by pass.new viewer.new)) }
-    ensures left { IfErr result (λ why. why ≡ no_reply.Left → IsUnanswered C.shows C.agrees (connection L.state service.now) (Good request) n (known_by pass.new viewer.new)) }
+    ensures left { IfErr result (λ why. why ≡ no_reply.Left → IsUnanswered C.shows C.agrees (connection L.state service.now) (Good request) n (known pass.old).mine (known_by pass.new viewer.new)) }
 {
     match asking(service, request, n) {
         Ok(ask) => {
@@ -186,10 +187,11 @@ fn reply_by<R: Wait, C: SharedCluster, Cl: Clock, G: Gate, L: Link>(
     requires taken { IsTakenAsked (Good request) }
     ensures ours { IsOurs (arc_value service.now.board) pass.new }
     ensures unturned { TakesNoTurn (Good request) pass.old pass.new }
+    ensures opened { Opens (Good request) result (known pass.old).mine (known pass.new).mine }
     ensures grown { Grows (known_by pass.old viewer.old) (known_by pass.new viewer.new) }
     ensures link { IsAfterAsk result (L.state link.old) (L.state link.new) }
     ensures reply { IfOk result (λ reply. IsReply C.shows C.agrees (connection L.state service.now) (Good request) n reply (known_by pass.old viewer.old) (known_by pass.new viewer.new)) }
-    ensures left { IfErr result (λ why. why ≡ no_reply.Left → IsUnanswered C.shows C.agrees (connection L.state service.now) (Good request) n (known_by pass.new viewer.new)) }
+    ensures left { IfErr result (λ why. why ≡ no_reply.Left → IsUnanswered C.shows C.agrees (connection L.state service.now) (Good request) n (known pass.old).mine (known_by pass.new viewer.new)) }
 {
     if !is_viewed(&request) {
         return ask(service, pass, viewer, link, request, n);
@@ -213,10 +215,11 @@ fn respond<R: Wait, C: SharedCluster, Cl: Clock, G: Gate, L: Link>(
     requires taken { IsTakenAsked asked }
     ensures ours { IsOurs (arc_value service.now.board) pass.new }
     ensures unturned { TakesNoTurn asked pass.old pass.new }
+    ensures opened { Opens asked result (known pass.old).mine (known pass.new).mine }
     ensures grown { Grows (known_by pass.old viewer.old) (known_by pass.new viewer.new) }
     ensures link { IsAfterAsk result (L.state link.old) (L.state link.new) }
     ensures reply { IfOk result (λ reply. IsReply C.shows C.agrees (connection L.state service.now) asked n reply (known_by pass.old viewer.old) (known_by pass.new viewer.new)) }
-    ensures left { IfErr result (λ why. why ≡ no_reply.Left → IsUnanswered C.shows C.agrees (connection L.state service.now) asked n (known_by pass.new viewer.new)) }
+    ensures left { IfErr result (λ why. why ≡ no_reply.Left → IsUnanswered C.shows C.agrees (connection L.state service.now) asked n (known pass.old).mine (known_by pass.new viewer.new)) }
 {
     match asked {
         Asked::Good(request) => reply_by(service, pass, viewer, link, request, n),
@@ -252,11 +255,14 @@ fn reply_to<R: Wait, C: SharedCluster, Cl: Clock, G: Gate, L: Link>(
     requires agent { (0 < service.now.agent) × (service.now.agent ≤ C.agents) }
     ensures ours { IsOurs (arc_value service.now.board) pass.new }
     ensures unturned { OnOk result (TakesNoTurn (asked_by (raw message.now)) pass.old pass.new) }
+    ensures opened { MatchResult result
+        (λ r. (known pass.new).mine ≡ (known pass.old).mine ++ number_of (asked_by (raw message.now)) r.reply)
+        (λ _. OpensFew (known pass.old).mine (known pass.new).mine) }
     ensures grown { Grows (known_by pass.old viewer.old) (known_by pass.new viewer.new) }
     ensures link { IsAfterAsk result (L.state link.old) (L.state link.new) }
     ensures reply { IfOk result (λ r. IsReply C.shows C.agrees (connection L.state service.now) (asked_by (raw message.now)) n r.reply (known_by pass.old viewer.old) (known_by pass.new viewer.new)) }
     ensures filter { IfOk result (λ r. option_map expression_of r.filter ≡ filter_at (raw message.now).target) }
-    ensures left { IfErr result (λ why. why ≡ no_reply.Left → IsUnanswered C.shows C.agrees (connection L.state service.now) (asked_by (raw message.now)) n (known_by pass.new viewer.new)) }
+    ensures left { IfErr result (λ why. why ≡ no_reply.Left → IsUnanswered C.shows C.agrees (connection L.state service.now) (asked_by (raw message.now)) n (known pass.old).mine (known_by pass.new viewer.new)) }
 {
     match routed(service.alloc, &*service.routes, message) {
         Ok(Routed { asked, filter }) => match respond(service, pass, viewer, link, asked, n) {
@@ -293,6 +299,7 @@ impl<L: Link, C: SharedCluster> Serving<L, Served<C>, Viewer<C::Pair>> {
         requires filter { option_map expression_of response.now.filter ≡ filter_at (raw message.now).target }
         ensures pass { (self.new.pass ≡ self.old.pass) × (self.new.viewer ≡ self.old.viewer) }
         ensures gives { (before : Known) (rest : List ℕ) → Owes C.shows C.agrees (connection L.state service.now) (record (stage L.state self.old) { known = before }) rest (whole (raw message.now)) → Grows before (known_by self.old.pass self.old.viewer)
+            → (known self.old.pass).mine ≡ before.mine ++ number_of (asked_by (raw message.now)) response.now.reply
             → IsReply C.shows C.agrees (connection L.state service.now) (asked_by (raw message.now)) n response.now.reply before (known_by self.old.pass self.old.viewer)
             → GoesOn C.shows C.agrees (connection L.state service.now) result (stage L.state self.new) rest }
     {

@@ -1,6 +1,6 @@
 //! A connection's request, from its asking to its reply.
 
-ghost use Rattle.std.specs.Prelude.{◌≡◌, IfErr, IfOk, OnOk};
+ghost use Rattle.std.specs.Prelude.{◌≡◌, ◌++◌, ◌∷◌, [], IfErr, IfOk, MatchResult, OnOk};
 ghost use Rattle.serve_outside.specs.Links.{Leaves};
 ghost use Rattle.turn_lock.specs.Lists.{Among};
 ghost use Rattle.turn_lock.specs.Passes.{IsFree, IsSame};
@@ -9,7 +9,7 @@ ghost use Rattle.http_connections.specs.declared.turns.NoReply.TheVariants as no
 ghost use Rattle.http_connections.specs.Boards.{known};
 ghost use Rattle.http_connections.specs.Knowing.{HasLearned, known_by};
 ghost use Rattle.http_connections.specs.Turns.{MayAsk};
-ghost use Rattle.http_connections.specs.Waiting.{Grows, IsAfterAsk, IsAnswered, IsBehind, IsHeld, Stands, Waits};
+ghost use Rattle.http_connections.specs.Waiting.{Grows, IsAfterAsk, IsAnswered, IsBehind, IsHeld, OpensFew, Stands, Waits};
 
 use crate::cluster::{Ask, Collected, SharedCluster};
 use crate::patience::{Patience, patience_of};
@@ -39,6 +39,9 @@ pub(crate) fn first_turn<R: Wait, C: SharedCluster, G: Gate>(
     ensures own { IsSame pass.old.seat pass.new.seat }
     ensures free { IsFree pass.new.seat }
     ensures grown { Grows (known_by pass.old viewer.old) (known_by pass.new viewer.new) }
+    ensures opened { MatchResult result
+        (λ t. (known pass.new).mine ≡ (known pass.old).mine ++ t.number ∷ [])
+        (λ _. OpensFew (known pass.old).mine (known pass.new).mine) }
     ensures behind { IfOk result (λ t. IsBehind t.number ask (known pass.old).seen (known pass.new).seen) }
     ensures stands { IfOk result (λ t. Stands C.shows t.number ask t.got (known_by pass.new viewer.new)) }
     ensures learned { OnOk result (HasLearned C.agrees (known_by pass.new viewer.new)) }
@@ -68,6 +71,7 @@ pub(crate) fn next_turn<R: Wait, C: SharedCluster, G: Gate>(
     ensures own { IsSame pass.old.seat pass.new.seat }
     ensures free { IsFree pass.new.seat }
     ensures grown { Grows (known_by pass.old viewer.old) (known_by pass.new viewer.new) }
+    ensures opened { (known pass.new).mine ≡ (known pass.old).mine }
     ensures number { IfOk result (λ t. t.number ≡ number) }
     ensures stands { IfOk result (λ t. (ask : SpecAsk) → Waits number ask (known pass.old).seen (known pass.old).mine → Stands C.shows t.number ask t.got (known_by pass.new viewer.new)) }
     ensures learned { OnOk result (HasLearned C.agrees (known_by pass.new viewer.new)) }
@@ -141,10 +145,13 @@ pub(crate) fn ask_and_wait<R: Wait, C: SharedCluster, Cl: Clock, G: Gate, L: Lin
     ensures free { IsFree pass.new.seat }
     ensures grown { Grows (known_by pass.old viewer.old) (known_by pass.new viewer.new) }
     ensures link { IsAfterAsk result (L.state link.old) (L.state link.new) }
+    ensures opened { MatchResult result
+        (λ reply. (known pass.new).mine ≡ (known pass.old).mine ++ reply.number ∷ [])
+        (λ _. OpensFew (known pass.old).mine (known pass.new).mine) }
     ensures behind { IfOk result (λ reply. IsBehind reply.number ask (known pass.old).seen (known pass.new).seen) }
     ensures answered { IfOk result (λ reply. IsAnswered C.shows ask reply (known pass.new).seen (known pass.new).mine) }
     ensures learned { OnOk result (HasLearned C.agrees (known_by pass.new viewer.new)) }
-    ensures left { IfErr result (λ why. why ≡ no_reply.Left → IsHeld ask (known_by pass.new viewer.new)) }
+    ensures left { IfErr result (λ why. why ≡ no_reply.Left → IsHeld ask (known pass.old).mine (known_by pass.new viewer.new)) }
 {
     let now = clock.now_ms();
     let patience = patience_of(&ask, now);
@@ -177,11 +184,12 @@ fn wait_for<R: Wait, C: SharedCluster, Cl: Clock, G: Gate, L: Link>(
     ensures free { IsFree pass.new.seat }
     ensures grown { Grows (known_by pass.old viewer.old) (known_by pass.new viewer.new) }
     ensures link { IsAfterAsk result (L.state link.old) (L.state link.new) }
+    ensures opened { (known pass.new).mine ≡ (known pass.old).mine }
     ensures number { IfOk result (λ reply. reply.number ≡ turned.number) }
     ensures answered { IfOk result (λ reply. (ask : SpecAsk) → Stands C.shows turned.number ask turned.got (known_by pass.old viewer.old)
         → IsAnswered C.shows ask reply (known pass.new).seen (known pass.new).mine) }
     ensures learned { OnOk result (HasLearned C.agrees (known_by pass.new viewer.new)) }
-    ensures left { IfErr result (λ why. why ≡ no_reply.Left → (ask : SpecAsk) → Stands C.shows turned.number ask turned.got (known_by pass.old viewer.old) → IsHeld ask (known_by pass.new viewer.new)) }
+    ensures left { IfErr result (λ why. why ≡ no_reply.Left → (ask : SpecAsk) → Stands C.shows turned.number ask turned.got (known_by pass.old viewer.old) → Waits turned.number ask (known pass.new).seen (known pass.new).mine) }
 {
     let Turned {
         mut number,

@@ -1,5 +1,5 @@
 -- What the marks of a cluster's rules, the last one first, tell as marks of which the first one stands first.
-use Rattle.std.proofs.Common.{◌≡◌, ℕ, inl, inr, List, [], ◌∷◌, ◌++◌, reverse, refl, sym, ap, ◌∙◌, subst, append_assoc, Option}
+use Rattle.std.proofs.Common.{◌≡◌, ℕ, inl, inr, List, [], ◌∷◌, ◌++◌, length, ◌≤◌, reverse, refl, sym, ap, ◌∙◌, subst, arith, append_assoc, Option, Some, None}
 use Rattle.std.proofs.lemmas.List.{reverse-append}
 use Rattle.cat_model.specs.declared.request.Event.TheVariants as event
 use Rattle.cat_model.specs.declared.reply.Mark.{Mark}
@@ -11,7 +11,7 @@ use Rattle.turn_lock.specs.Lists.{Among, EachOnce, ahead, numbers}
 use Rattle.http_connections.specs.declared.cluster.Ask.{Ask}
 use Rattle.http_connections.specs.Marks.{AddsAsked, AddsCut, AddsQuiet, AreKept, TicksNone, answers, asked_mark, opens, takes, ticks, ticks_by}
 use Rattle.http_connections.proofs.Clocks.{by_none}
-use Rattle.http_connections.proofs.MarkLists.{none_append}
+use Rattle.http_connections.proofs.MarkLists.{few_as, none_append}
 use Rattle.http_front.specs.Ticks.{TicksOne}
 use Rattle.http_front.proofs.Reverses.{among_back, among_reverse, in_reverse, none_reverse, numbers_reverse, once_reverse}
 
@@ -74,6 +74,11 @@ asked_event more number a old new e q =
     at_end [] m = inl refl
     at_end (x ∷ more) m = inr (at_end more m)
 
+-- one mark asks one request at most
+one_mark : (o : Option ℕ) → length (reverse (ahead o [])) ≤ 1
+one_mark None = omega arith
+one_mark (Some n) = omega arith
+
 -- a mark that takes nothing, and then silent ones
 pub cut_event : (more : List Mark) (m : Mark) (old new : List Mark) → new ≡ more ++ m ∷ old → moves_of more ≡ [] → numbers takes (m ∷ []) ≡ [] → AddsCut (reverse old) (reverse new)
 cut_event more m old new e q t =
@@ -81,6 +86,7 @@ cut_event more m old new e q t =
     record {
       rest = reverse (more ++ m ∷ []);
       are = behind (more ++ m ∷ []) old new (grown more m old new e);
+      opens_few = few_as (numbers opens (reverse (more ++ m ∷ []))) (reverse (ahead (opens m) [])) (numbers_reverse opens (more ++ m ∷ []) ∙ ap (λ (l : List ℕ). reverse l) (of_own opens more m s.opens_none)) (one_mark (opens m));
       takes_none = none_reverse takes (more ++ m ∷ []) (none_append takes more (m ∷ []) s.takes_none ∙ t);
     }
 

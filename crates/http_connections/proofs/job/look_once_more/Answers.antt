@@ -4,7 +4,7 @@ use Rattle.turn_lock.specs.Lists.{Extends, numbers}
 use Rattle.turn_lock.specs.Passes.{MayEnd}
 use Rattle.http_connections.specs.Knowing.{known_by}
 use Rattle.http_connections.specs.Marks.{agreed_by, opens, takes}
-use Rattle.http_connections.proofs.OwnTurns.{grows_looking, grows_none, held_looking, may_end_same}
+use Rattle.http_connections.proofs.OwnTurns.{grows_looking, grows_none, held_looking, may_end_same, opened_looking}
 use Rattle.http_connections.proofs.job.look_once_more.Goals as goal
 
 pub give-requires-clause-may : goal.give-requires-clause-may
@@ -34,7 +34,7 @@ returns-in-Ok-clause-grown g c =
     let mine : w.mine ≡ v.mine ++ numbers opens (drop (length marks) marks) =
     subst (λ (l : List ℕ). w.mine ≡ l ++ numbers opens (drop (length marks) marks)) c.take-turn.ensures.mine.0 step in
     let extends : Extends opens takes v.mine v.seen marks = subst (λ (s : _). Extends opens takes v.mine v.seen (C.marks s.cluster)) shown c.take-turn.ensures.grown in
-    grows_looking v w marks extends c.give.ensures.seen mine c.show-shown.ensures.viewed
+    grows_looking v w marks extends c.give.ensures.seen mine (c.give.ensures.own.1 ∙ c.take-turn.ensures.own.1) c.show-shown.ensures.viewed
 
 pub returns-in-Ok-clause-held : goal.returns-in-Ok-clause-held
 returns-in-Ok-clause-held g c =
@@ -64,7 +64,7 @@ returns-in-Err-clause-grown g c =
     let mine : w.mine ≡ v.mine ++ numbers opens (drop (length marks) marks) =
     subst (λ (l : List ℕ). w.mine ≡ l ++ numbers opens (drop (length marks) marks)) c.take-turn.ensures.mine.0 step in
     let extends : Extends opens takes v.mine v.seen marks = subst (λ (s : _). Extends opens takes v.mine v.seen (C.marks s.cluster)) shown c.take-turn.ensures.grown in
-    grows_looking v w marks extends c.give.ensures.seen mine c.show-shown.ensures.viewed
+    grows_looking v w marks extends c.give.ensures.seen mine (c.give.ensures.own.1 ∙ c.take-turn.ensures.own.1) c.show-shown.ensures.viewed
 
 pub returns-in-Err-clause-held : goal.returns-in-Err-clause-held
 returns-in-Err-clause-held g c =
@@ -80,6 +80,28 @@ returns-in-Err-clause-held g c =
     subst (λ (l : List ℕ). w.mine ≡ l ++ numbers opens (drop (length marks) marks)) c.take-turn.ensures.mine.0 step in
     let extends : Extends opens takes v.mine v.seen marks = subst (λ (s : _). Extends opens takes v.mine v.seen (C.marks s.cluster)) shown c.take-turn.ensures.grown in
     held_looking v w marks extends c.give.ensures.seen mine
+
+pub returns-in-Ok-clause-opened : goal.returns-in-Ok-clause-opened
+returns-in-Ok-clause-opened g c =
+    let C = g.C.SharedCluster in
+    let marks = C.marks c.show-shown.new.self.cluster in
+    let mine = c.args.pass.now.seat.me.0.mine in
+    let mine' = c.give.new.pass.seat.me.0.mine in
+    let same : c.take-turn.new.pass.seat.me.0.seen ≡ marks = c.take-turn.ensures.seen ∙ ap (λ (s : _). C.marks s.cluster) (sym c.state.ensures.value ∙ sym c.show-shown.ensures.same) in
+    let step : mine' ≡ c.take-turn.new.pass.seat.me.0.mine ++ numbers opens (drop (length marks) marks) =
+    subst (λ (l : List Mark). mine' ≡ c.take-turn.new.pass.seat.me.0.mine ++ numbers opens (drop (length l) marks)) same c.give.ensures.mine in
+    opened_looking mine mine' marks (subst (λ (l : List ℕ). mine' ≡ l ++ numbers opens (drop (length marks) marks)) c.take-turn.ensures.mine.0 step)
+
+pub returns-in-Err-clause-opened : goal.returns-in-Err-clause-opened
+returns-in-Err-clause-opened g c =
+    let C = g.C.SharedCluster in
+    let marks = C.marks c.show-shown.new.self.cluster in
+    let mine = c.args.pass.now.seat.me.0.mine in
+    let mine' = c.give.new.pass.seat.me.0.mine in
+    let same : c.take-turn.new.pass.seat.me.0.seen ≡ marks = c.take-turn.ensures.seen ∙ ap (λ (s : _). C.marks s.cluster) (sym c.state.ensures.value ∙ sym c.show-shown.ensures.same) in
+    let step : mine' ≡ c.take-turn.new.pass.seat.me.0.mine ++ numbers opens (drop (length marks) marks) =
+    subst (λ (l : List Mark). mine' ≡ c.take-turn.new.pass.seat.me.0.mine ++ numbers opens (drop (length l) marks)) same c.give.ensures.mine in
+    opened_looking mine mine' marks (subst (λ (l : List ℕ). mine' ≡ l ++ numbers opens (drop (length marks) marks)) c.take-turn.ensures.mine.0 step)
 
 pub returns-in-Ok-clause-learned : goal.returns-in-Ok-clause-learned
 returns-in-Ok-clause-learned g c = λ e a. c.in-Ok.ensures.read a ∙ ap agreed_by (sym c.give.ensures.seen)

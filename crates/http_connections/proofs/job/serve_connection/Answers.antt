@@ -23,6 +23,6 @@ pub returns-clause-ends : goal.returns-clause-ends
 returns-clause-ends g c =
     let j = c.args.job in let state = g.L.Link.state in let s = c.serve-cause.new.self in let done = c.end_serving.result in let e = c.end_serving.ensures in
     let of : _ → _ → _ → Connection = λ l p r. record { agent = j.agent; draw = j.draw; first = state l; begun = known_by p r } in
-    ends_shut g.C.SharedCluster.shows g.C.SharedCluster.agrees (of c.of.result.value c.of-2.result.value c.of-3.result.value) (state s.link) (known_by s.pass s.viewer) s.requests (known_by done.pass done.viewer) e.grown e.held
+    ends_shut g.C.SharedCluster.shows g.C.SharedCluster.agrees (of c.of.result.value c.of-2.result.value c.of-3.result.value) (state s.link) (known_by s.pass s.viewer) s.requests (known_by done.pass done.viewer) e.grown e.opened e.held
     (of j.link j.pass j.viewer) (state done.link) done.requests c.serve-cause.result done.cause
     (ap (λ (l : _). of l c.of-2.result.value c.of-3.result.value) c.of.ensures ∙ (ap (λ (p : _). of j.link p c.of-3.result.value) c.of-2.ensures ∙ ap (λ (r : _). of j.link j.pass r) c.of-3.ensures)) e.link e.requests e.cause c.serve-cause.ensures.ends

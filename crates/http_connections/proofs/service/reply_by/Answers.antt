@@ -3,7 +3,7 @@ use Rattle.cat_model.specs.declared.request.Asked.TheVariants.{Good}
 use Rattle.http_connections.specs.Knowing.{known_by}
 use Rattle.http_connections.specs.Services.{connection}
 use Rattle.http_connections.specs.Serving.{IsUnanswered}
-use Rattle.http_connections.proofs.Exchanges.{asked_reply, viewed_reply}
+use Rattle.http_connections.proofs.Exchanges.{asked_reply, opens_viewed, viewed_reply}
 use Rattle.http_connections.proofs.Leaving.{after_refused, never_left}
 use Rattle.http_connections.proofs.OwnTurns.{grows_read}
 use Rattle.http_connections.proofs.service.reply_by.Goals as goal
@@ -30,7 +30,10 @@ returns-clause-link g c = after_refused c.view-seen.result (g.L.Link.state c.arg
 pub returns-clause-left : goal.returns-clause-left
 returns-clause-left g c =
     let k = connection g.L.Link.state c.args.service.now in
-    never_left (IsUnanswered g.C.SharedCluster.shows g.C.SharedCluster.agrees k (Good c.args.request) c.args.n (known_by c.args.pass.now c.view-seen.new.viewer)) c.view-seen.result c.view-seen.ensures.left
+    never_left (IsUnanswered g.C.SharedCluster.shows g.C.SharedCluster.agrees k (Good c.args.request) c.args.n c.args.pass.now.seat.me.0.mine (known_by c.args.pass.now c.view-seen.new.viewer)) c.view-seen.result c.view-seen.ensures.left
+
+pub returns-clause-opened : goal.returns-clause-opened
+returns-clause-opened g c = opens_viewed c.args.request c.view-seen.result c.args.pass.now.seat.me.0.mine (sym c.is_viewed.ensures ∙ c.if-not-is_viewed.false)
 
 pub returns-clause-unturned : goal.returns-clause-unturned
 returns-clause-unturned g c = λ same. refl

@@ -4,8 +4,8 @@ use Rattle.cat_model.specs.declared.request.Asked.{Asked}
 use Rattle.http_connections.specs.Knowing.{known_by}
 use Rattle.http_connections.specs.Replies.{TakesNoTurn}
 use Rattle.http_connections.specs.Services.{connection}
-use Rattle.http_connections.specs.Serving.{IsReply, IsUnanswered}
-use Rattle.http_connections.proofs.Exchanges.{refused_reply}
+use Rattle.http_connections.specs.Serving.{IsReply, IsUnanswered, Opens}
+use Rattle.http_connections.proofs.Exchanges.{opens_refused, refused_reply}
 use Rattle.http_connections.proofs.Leaving.{after_refused, never_left}
 use Rattle.http_connections.proofs.OwnTurns.{grows_none}
 use Rattle.http_connections.proofs.service.respond.Goals as goal
@@ -23,7 +23,13 @@ returns-in-Bad-clause-reply g c =
 
 pub returns-in-Bad-clause-left : goal.returns-in-Bad-clause-left
 returns-in-Bad-clause-left g c =
-    never_left (IsUnanswered g.C.SharedCluster.shows g.C.SharedCluster.agrees (connection g.L.Link.state c.args.service.now) c.args.asked c.args.n (known_by c.args.pass.now c.args.viewer.now)) c.refused.result c.refused.ensures.left
+    never_left (IsUnanswered g.C.SharedCluster.shows g.C.SharedCluster.agrees (connection g.L.Link.state c.args.service.now) c.args.asked c.args.n c.args.pass.now.seat.me.0.mine (known_by c.args.pass.now c.args.viewer.now)) c.refused.result c.refused.ensures.left
+
+pub returns-in-Good-clause-opened : goal.returns-in-Good-clause-opened
+returns-in-Good-clause-opened g c = subst (λ (a : Asked). Opens a c.reply_by.result c.args.pass.now.seat.me.0.mine c.reply_by.new.pass.seat.me.0.mine) (sym c.in-Good.is) c.reply_by.ensures.opened
+
+pub returns-in-Bad-clause-opened : goal.returns-in-Bad-clause-opened
+returns-in-Bad-clause-opened g c = let mine = c.args.pass.now.seat.me.0.mine in subst (λ (a : Asked). Opens a c.refused.result mine mine) (sym c.in-Bad.is) (opens_refused c.in-Bad.why c.refused.result mine)
 
 pub returns-in-Good-clause-unturned : goal.returns-in-Good-clause-unturned
 returns-in-Good-clause-unturned g c = subst (λ (a : Asked). TakesNoTurn a c.args.pass.now c.reply_by.new.pass) (sym c.in-Good.is) c.reply_by.ensures.unturned

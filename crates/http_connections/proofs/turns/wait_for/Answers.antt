@@ -5,4 +5,4 @@ use Rattle.http_connections.proofs.turns.wait_for.Goals as goal
 
 pub loop-init : goal.loop-init
 loop-init g c =
-    ((refl, refl), c.requires.free, looks_first g.C.SharedCluster.shows c.args.turned.number c.args.turned.got (known_by c.args.pass.now c.args.viewer.now) c.requires.stands, c.requires.learned, refl)
+    ((refl, refl), c.requires.free, looks_first g.C.SharedCluster.shows c.args.turned.number c.args.turned.got (known_by c.args.pass.now c.args.viewer.now) c.requires.stands, c.requires.learned, refl, refl)

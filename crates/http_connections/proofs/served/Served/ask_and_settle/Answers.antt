@@ -1,4 +1,4 @@
-use Rattle.http_connections.proofs.MarkLists.{makes_cut, cut_quiet}
+use Rattle.http_connections.proofs.MarkLists.{makes_short, short_before}
 use Rattle.http_connections.proofs.Clocks.{still_still}
 use Rattle.http_connections.proofs.served.Served.ask_and_settle.Goals as goal
 
@@ -11,7 +11,7 @@ returns-in-Ok-settle-clause-asks g c = record {
 }
 
 pub returns-in-Err-settle-clause-asks : goal.returns-in-Err-settle-clause-asks
-returns-in-Err-settle-clause-asks g c = cut_quiet _ _ _ (makes_cut c.args.ask c.args.number c.in-Ok.number _ _ c.in-Ok.ensures.made) c.settle.ensures.quiet
+returns-in-Err-settle-clause-asks g c = short_before c.args.ask _ _ _ (makes_short c.args.ask c.args.number c.in-Ok.number _ _ c.in-Ok.ensures.made) c.settle.ensures.quiet
 
 pub returns-in-Ok-settle-clause-still : goal.returns-in-Ok-settle-clause-still
 returns-in-Ok-settle-clause-still g c = still_still _ _ _ _ _ _ c.in-Ok.ensures.still c.settle.ensures.still
