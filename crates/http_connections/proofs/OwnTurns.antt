@@ -268,12 +268,13 @@ stands_next shows ask k t seen old new mine w' w e x after s m =
     stands_known shows t.number ask t.got w' (subst (λ (z : List Mark). StandsOver shows t.number ask t.got z w'.mine) (sym s) (stands shows t.number ask t.got x.mid new w'.mine own x.got after))
 
 -- what was seen, opened and read grows over a turn
-pub grows : (v w : Known) (old new : List Mark) → Extends opens takes v.mine v.seen old → Rests v.mine old new → w.seen ≡ new → w.mine ≡ v.mine ++ numbers opens (drop (length old) new) → IsPrefix v.read w.read → Grows v w
-grows v w old new e r s m p = record {
+pub grows : (v w : Known) (old new : List Mark) → Extends opens takes v.mine v.seen old → Rests v.mine old new → w.seen ≡ new → w.mine ≡ v.mine ++ numbers opens (drop (length old) new) → w.shares ≡ v.shares → IsPrefix v.read w.read → Grows v w
+grows v w old new e r s m k p = record {
   rest = e.0 ++ r.rest;
   more = numbers opens (drop (length old) new);
   seen = s ∙ joined v.seen old new e.0 r.rest e.1 r.are;
   mine = m;
+  shares = k;
   read = p;
 }
 
@@ -319,11 +320,11 @@ behind_or n ask before v w (Ok reply) e b g = behind_on n reply.number ask befor
 behind_or n ask before v w (Err why) e b g = tt
 
 pub grows_none : (v : Known) → Grows v v
-grows_none v = record { rest = []; more = []; seen = sym (append-nil v.seen); mine = sym (append-nil v.mine); read = prefix_self v.read }
+grows_none v = record { rest = []; more = []; seen = sym (append-nil v.seen); mine = sym (append-nil v.mine); shares = refl; read = prefix_self v.read }
 
 -- more was read alone
 pub grows_read : (v : Known) (read : List Command) → IsPrefix v.read read → Grows v (record v { read = read })
-grows_read v read p = record { rest = []; more = []; seen = sym (append-nil v.seen); mine = sym (append-nil v.mine); read = p }
+grows_read v read p = record { rest = []; more = []; seen = sym (append-nil v.seen); mine = sym (append-nil v.mine); shares = refl; read = p }
 
 pub grows_on : (u v w : Known) → Grows u v → Grows v w → Grows u w
 grows_on u v w a b = record {
@@ -331,6 +332,7 @@ grows_on u v w a b = record {
   more = a.more ++ b.more;
   seen = joined u.seen v.seen w.seen a.rest b.rest a.seen b.seen;
   mine = b.mine ∙ (ap (λ (l : List ℕ). l ++ b.more) a.mine ∙ append_assoc u.mine a.more b.more);
+  shares = b.shares ∙ a.shares;
   read = prefix_on u.read v.read w.read a.read b.read;
 }
 
@@ -341,8 +343,8 @@ none_opened marks = mine_is marks marks [] (sym (append-nil marks))
 pub may_end_same : (mine : List ℕ) (marks : List Mark) → AreKept marks → MayEnd opens takes marks mine marks
 may_end_same mine marks k = may_end mine marks marks (record { rest = []; are = sym (append-nil marks); own = λ n a. absurd a }) k
 
-pub grows_looking : (v w : Known) (marks : List Mark) → Extends opens takes v.mine v.seen marks → w.seen ≡ marks → w.mine ≡ v.mine ++ numbers opens (drop (length marks) marks) → IsPrefix v.read w.read → Grows v w
-grows_looking v w marks e s m p = grows v w marks marks e (record { rest = []; are = sym (append-nil marks); own = λ n a. absurd a }) s m p
+pub grows_looking : (v w : Known) (marks : List Mark) → Extends opens takes v.mine v.seen marks → w.seen ≡ marks → w.mine ≡ v.mine ++ numbers opens (drop (length marks) marks) → w.shares ≡ v.shares → IsPrefix v.read w.read → Grows v w
+grows_looking v w marks e s m k p = grows v w marks marks e (record { rest = []; are = sym (append-nil marks); own = λ n a. absurd a }) s m k p
 
 pub opened_looking : (mine mine' : List ℕ) (marks : List Mark) → mine' ≡ mine ++ numbers opens (drop (length marks) marks) → mine' ≡ mine
 opened_looking mine mine' marks m = m ∙ (ap (λ (l : List ℕ). mine ++ l) (none_opened marks) ∙ append-nil mine)

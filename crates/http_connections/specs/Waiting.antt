@@ -14,12 +14,13 @@ use Rattle.http_connections.specs.declared.turns.NoReply.TheVariants as no_reply
 use Rattle.http_connections.specs.Knowing.{Known}
 use Rattle.http_connections.specs.Marks.{answered_mark, answers, asked_mark, opens, takes}
 
--- what was seen, opened and read begins as before
+-- what was seen, opened and read begins as before, and no share was given away
 pub record Grows (v w : Known) : Type 0 where
   pub rest : List Mark
   pub more : List ℕ
   pub seen : w.seen ≡ v.seen ++ rest
   pub mine : w.mine ≡ v.mine ++ more
+  pub shares : w.shares ≡ v.shares
   pub read : IsPrefix v.read w.read
 
 -- the request was asked by this pass, and its reply is not taken

@@ -2,6 +2,7 @@
 
 ghost use Rattle.std.specs.Prelude.{◌≡◌, ◌+◌, ◌++◌, ◌∷◌};
 ghost use Rattle.std.specs.Arc.{arc_value};
+ghost use Rattle.turn_lock.specs.Rule.{pooled};
 ghost use Rattle.http_connections.specs.Boards.{IsOurs, known};
 
 use crate::cluster::SharedCluster;
@@ -65,6 +66,8 @@ pub(crate) fn give_back<R, C: SharedCluster, Cl, G>(
     requires ours { IsOurs (arc_value server.now.board) pass.old }
     requires theirs { IsOurs (arc_value server.now.board) other }
     ensures ours { IsOurs (arc_value server.now.board) pass.new }
+    ensures mine { (known pass.new).mine ≡ (known pass.old).mine ++ (known other).mine }
+    ensures shares { pass.new.shares ≡ pooled pass.old.shares other.shares }
     ensures told { (known pass.new).told ≡ (known other).seen ∷ ((known pass.old).told ++ (known other).told) }
 {
     let lock = &**server.board;

@@ -34,7 +34,7 @@ returns-in-Ok-clause-grown g c =
     let mine : w.mine ≡ v.mine ++ numbers opens (drop (length marks) marks) =
     subst (λ (l : List ℕ). w.mine ≡ l ++ numbers opens (drop (length marks) marks)) c.take-turn.ensures.mine.0 step in
     let extends : Extends opens takes v.mine v.seen marks = subst (λ (s : _). Extends opens takes v.mine v.seen (C.marks s.cluster)) shown c.take-turn.ensures.grown in
-    grows_looking v w marks extends c.give.ensures.seen mine c.show-shown.ensures.viewed
+    grows_looking v w marks extends c.give.ensures.seen mine (c.give.ensures.own.1 ∙ c.take-turn.ensures.own.1) c.show-shown.ensures.viewed
 
 pub returns-in-Ok-clause-held : goal.returns-in-Ok-clause-held
 returns-in-Ok-clause-held g c =
@@ -64,7 +64,7 @@ returns-in-Err-clause-grown g c =
     let mine : w.mine ≡ v.mine ++ numbers opens (drop (length marks) marks) =
     subst (λ (l : List ℕ). w.mine ≡ l ++ numbers opens (drop (length marks) marks)) c.take-turn.ensures.mine.0 step in
     let extends : Extends opens takes v.mine v.seen marks = subst (λ (s : _). Extends opens takes v.mine v.seen (C.marks s.cluster)) shown c.take-turn.ensures.grown in
-    grows_looking v w marks extends c.give.ensures.seen mine c.show-shown.ensures.viewed
+    grows_looking v w marks extends c.give.ensures.seen mine (c.give.ensures.own.1 ∙ c.take-turn.ensures.own.1) c.show-shown.ensures.viewed
 
 pub returns-in-Err-clause-held : goal.returns-in-Err-clause-held
 returns-in-Err-clause-held g c =

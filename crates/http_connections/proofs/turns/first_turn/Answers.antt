@@ -66,7 +66,7 @@ returns-clause-grown g c =
     subst (λ (l : List ℕ). mine' ≡ l ++ numbers opens (drop (length old) new)) c.take-turn.ensures.mine.0 step in
     let extends : Extends opens takes mine seen old = subst (λ (s : _). Extends opens takes mine seen (g.C.SharedCluster.marks s.cluster)) (sym c.state.ensures.value) c.take-turn.ensures.grown in
     let rests = rests_first_or g.C.SharedCluster.shows mine c.args.ask 0 c.turn-turned.result old new turned in
-    grows (known_by c.args.pass.now c.args.viewer.now) (known_by c.give.new.pass c.turn-turned.new.viewer) old new extends rests c.give.ensures.seen now_mine c.turn-turned.ensures.viewed
+    grows (known_by c.args.pass.now c.args.viewer.now) (known_by c.give.new.pass c.turn-turned.new.viewer) old new extends rests c.give.ensures.seen now_mine (c.give.ensures.own.1 ∙ c.take-turn.ensures.own.1) c.turn-turned.ensures.viewed
 
 pub returns-clause-learned : goal.returns-clause-learned
 returns-clause-learned g c =

@@ -69,7 +69,7 @@ returns-clause-grown g c =
     subst (λ (l : List ℕ). mine' ≡ l ++ numbers opens (drop (length old) new)) c.take-turn.ensures.mine.0 step in
     let extends : Extends opens takes mine seen old = subst (λ (s : _). Extends opens takes mine seen (g.C.SharedCluster.marks s.cluster)) (sym c.state.ensures.value) c.take-turn.ensures.grown in
     let rests = rests_next_or g.C.SharedCluster.shows mine c.args.number c.turn-turned.result old new c.requires.mine turned in
-    grows (known_by c.args.pass.now c.args.viewer.now) (known_by c.give.new.pass c.turn-turned.new.viewer) old new extends rests c.give.ensures.seen now_mine c.turn-turned.ensures.viewed
+    grows (known_by c.args.pass.now c.args.viewer.now) (known_by c.give.new.pass c.turn-turned.new.viewer) old new extends rests c.give.ensures.seen now_mine (c.give.ensures.own.1 ∙ c.take-turn.ensures.own.1) c.turn-turned.ensures.viewed
 
 pub returns-clause-learned : goal.returns-clause-learned
 returns-clause-learned g c =
