@@ -17,21 +17,21 @@ use Rattle.serve_outside.specs.declared.job.Task.{Task}
 use Rattle.turn_lock.specs.Lists.{Among, AreFronts, IsFront, total}
 use Rattle.turn_lock.specs.Rule.{all_shares, given, pooled}
 use Rattle.turn_lock.proofs.Lists.{among_append}
-use Rattle.http_connections.specs.declared.cluster.Ask.{Ask}
-use Rattle.http_connections.specs.declared.cause.Cause.{Cause}
-use Rattle.http_connections.specs.declared.cause.Cause.TheVariants as cause
-use Rattle.http_connections.specs.Jobs.{AllTasks, agent_of, shares_out}
-use Rattle.http_connections.specs.Knowing.{HasLearned, Known}
+use Rattle.http_exchanges.specs.declared.cluster.Ask.{Ask}
+use Rattle.http_exchanges.specs.declared.cause.Cause.{Cause}
+use Rattle.http_exchanges.specs.declared.cause.Cause.TheVariants as cause
+use Rattle.http_connections.specs.Tasks.{AllTasks, agent_of, shares_out}
+use Rattle.http_exchanges.specs.Knowing.{HasLearned, Known}
 use Rattle.http_connections.specs.Runs.{TurnsAway, IsTurnedAway, TurnedAway, Starts, lacking, HasDrawn, IsDrawn, KeepsDraws, IsStarted, IsStartedAs, IsServed, ServesOne, Joins, Back, IsAskedBy, IsBack, Handed, HandsBack, was_short, turned_of, outcome_of}
 use Rattle.http_connections.specs.declared.run.Stop.{Stop}
 use Rattle.http_connections.specs.declared.run.Stop.TheVariants as stops
-use Rattle.http_connections.specs.declared.job.ServeJob.{ServeJob}
+use Rattle.http_exchanges.specs.declared.job.ServeJob.{ServeJob}
 use Rattle.crossbeam_utils.specs.declared.cache_padded.CachePadded.{CachePadded}
 use Rattle.turn_lock.specs.declared.history.History.{Ghosts}
 use Rattle.turn_lock.specs.declared.lock.HistoryLock.{HistoryLock}
-use Rattle.http_connections.specs.Serving.{Connection, EndsBy, is_short}
-use Rattle.http_connections.specs.Waiting.{Grows}
-use Rattle.http_connections.proofs.MarkLists.{in_left, in_right}
+use Rattle.http_exchanges.specs.Serving.{Connection, EndsBy, is_short}
+use Rattle.http_exchanges.specs.Waiting.{Grows}
+use Rattle.http_exchanges.proofs.MarkLists.{in_left, in_right}
 use Rattle.http_connections.proofs.Tasks.{all_kept, all_last, all_one_more, all_rest, all_swapped, total_more, total_swapped}
 
 pub if_some : {T : Type 0} → (o : Option T) (t : T) (P : T → Type 0) → o ≡ Some t → IfSome o P → P t
@@ -229,20 +229,23 @@ module _ (shows : ℕ → Ask → Reply → List Mark → Type 0) (agrees : Type
     pub is_served : (c : Connection) (link : LinkState) (known : Known) (why : Cause) (requests : ℕ) → Knows known.seen → (is_short why ≡ false → HasLearned agrees known) → c.begun.mine ≡ [] → IsNew c.first.number c.first → c.agent ≡ agent_of agents c.first.number → IsDrawn draws c.first.number c.draw
         → EndsBy shows agrees c why link known requests → link.shut ≡ true → (is : IsServed shows agrees agents draws Knows link why) × (is.known ≡ known)
     is_served c link known why requests seen learned unasked new agent drawn ends shut =
-        let number : c.first.number ≡ link.number = sym (later_number c shows agrees why link known requests ends) in (record {
-          first = c.first;
-          draw = c.draw;
-          begun = c.begun;
-          known = known;
-          unasked = unasked;
-          requests = requests;
-          seen = seen;
-          learned = learned;
-          new = subst (λ (n : ℕ). IsNew n c.first) number new;
-          drawn = subst (λ (n : ℕ). IsDrawn draws n c.draw) number drawn;
-          ends = subst (λ (a : ℕ). EndsBy shows agrees (record { agent = a; draw = c.draw; first = c.first; begun = c.begun }) why link known requests) (agent ∙ ap (agent_of agents) number) ends;
-          shut = shut;
-        }, refl)
+        let number : c.first.number ≡ link.number = sym (later_number c shows agrees why link known requests ends) in (
+          record {
+            first = c.first;
+            draw = c.draw;
+            begun = c.begun;
+            known = known;
+            unasked = unasked;
+            requests = requests;
+            seen = seen;
+            learned = learned;
+            new = subst (λ (n : ℕ). IsNew n c.first) number new;
+            drawn = subst (λ (n : ℕ). IsDrawn draws n c.draw) number drawn;
+            ends = subst (λ (a : ℕ). EndsBy shows agrees (record { agent = a; draw = c.draw; first = c.first; begun = c.begun }) why link known requests) (agent ∙ ap (agent_of agents) number) ends;
+            shut = shut;
+          },
+          refl,
+        )
 
     asked_left : (xs ys : List Back) (n : ℕ) → IsAskedBy shows agrees agents draws Knows xs n → IsAskedBy shows agrees agents draws Knows (xs ++ ys) n
     asked_left xs ys n q = (q.0, q.1, in_left (q.0, Some q.1) xs ys q.2, q.3)

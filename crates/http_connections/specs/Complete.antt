@@ -7,11 +7,11 @@ use Rattle.cluster_rules.specs.Replies.{Reply}
 use Rattle.http_wire.specs.declared.rejection.Rejection.{Rejection}
 use Rattle.http_wire.specs.State.{GivesAll}
 use Rattle.serve_outside.specs.Links.{IsNew, LinkState}
-use Rattle.http_connections.specs.declared.cluster.Ask.{Ask}
-use Rattle.http_connections.specs.Jobs.{agent_of}
-use Rattle.http_connections.specs.Knowing.{HasLearned, Known}
+use Rattle.http_exchanges.specs.declared.cluster.Ask.{Ask}
+use Rattle.http_connections.specs.Tasks.{agent_of}
+use Rattle.http_exchanges.specs.Knowing.{HasLearned, Known}
 use Rattle.http_connections.specs.Runs.{IsDrawn}
-use Rattle.http_connections.specs.Serving.{AreOpen, AreTrue, Closes, Exchange, asked_numbers, bytes_of, items_of, last_bytes}
+use Rattle.http_exchanges.specs.Serving.{AreOpen, AreTrue, Closes, Exchange, asked_numbers, bytes_of, items_of, last_bytes}
 
 -- no read and no write of the link failed since it came
 abbrev pub IsUnbroken : LinkState → Type 0

@@ -14,17 +14,17 @@ use Rattle.serve_outside.specs.Links.{LinkState, IsNew}
 use Rattle.turn_lock.specs.declared.history.History.{Ghosts}
 use Rattle.turn_lock.specs.declared.lock.HistoryLock.{HistoryLock}
 use Rattle.turn_lock.specs.Lists.{Among}
-use Rattle.http_connections.specs.declared.cause.Cause.{Cause}
-use Rattle.http_connections.specs.declared.cluster.Ask.{Ask}
-use Rattle.http_connections.specs.declared.job.ServeJob.{ServeJob}
+use Rattle.http_exchanges.specs.declared.cause.Cause.{Cause}
+use Rattle.http_exchanges.specs.declared.cluster.Ask.{Ask}
+use Rattle.http_exchanges.specs.declared.job.ServeJob.{ServeJob}
 use Rattle.http_connections.specs.declared.run.Stop.{Stop}
 use Rattle.http_connections.specs.declared.run.Stop.TheVariants as stops
-use Rattle.http_connections.specs.Boards.{known}
-use Rattle.http_connections.specs.Jobs.{agent_of}
-use Rattle.http_connections.specs.Knowing.{HasLearned, Known}
-use Rattle.http_connections.specs.Replies.{refusing, text_of}
-use Rattle.http_connections.specs.Serving.{EndsBy, is_short}
-use Rattle.http_connections.specs.Stages.{Wrote}
+use Rattle.http_exchanges.specs.Boards.{known}
+use Rattle.http_connections.specs.Tasks.{agent_of}
+use Rattle.http_exchanges.specs.Knowing.{HasLearned, Known}
+use Rattle.http_exchanges.specs.Replies.{refusing, text_of}
+use Rattle.http_exchanges.specs.Serving.{EndsBy, is_short}
+use Rattle.http_exchanges.specs.Stages.{Wrote}
 
 -- A link was told that no worker could be had, as far as that could be written, and shut.
 pub record TurnsAway (first last : LinkState) : Type 0 where

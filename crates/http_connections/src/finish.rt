@@ -6,16 +6,14 @@ ghost use Rattle.cat_model.specs.declared.reply.Mark.{Mark as SpecMark};
 ghost use Rattle.cluster_rules.specs.Sound.{IsAmong};
 ghost use Rattle.serve_outside.specs.Tasks.{IsKept, note_of};
 ghost use Rattle.turn_lock.specs.Rule.{all_shares, pooled};
-ghost use Rattle.http_connections.specs.Boards.{IsOurs, known};
-ghost use Rattle.http_connections.specs.Jobs.{AllTasks, HasEnded, shares_out};
+ghost use Rattle.http_exchanges.specs.Boards.{IsOurs, known};
+ghost use Rattle.http_exchanges.specs.Jobs.{HasEnded};
+ghost use Rattle.http_connections.specs.Tasks.{AllTasks, shares_out};
 ghost use Rattle.http_connections.specs.Runs.{IsStarted, Joins, ServesOne};
-ghost use Rattle.http_connections.specs.Serving.{is_short};
+ghost use Rattle.http_exchanges.specs.Serving.{is_short};
 
-use crate::cause::Cause;
-use crate::cluster::SharedCluster;
-use crate::job::{Finished, ServeJob};
 use crate::run::{Jobs, Server, TaskOf, give_back};
-use crate::served::Served;
+use http_exchanges::{Cause, Finished, ServeJob, Served, SharedCluster};
 use serve_outside::{Clock, Gate, Link, Listener, NoteOf, Task, Words, finish};
 use stale_view::Viewer;
 use std::sync::Wait;
@@ -41,17 +39,6 @@ fn finish_task<
     ensures { HasEnded C.shows C.agrees L.state (note_of task).0.value result }
 {
     finish(&server.rt, task)
-}
-
-// Whether the connection ended for lack of memory.
-pub(crate) fn lacked_memory(cause: Cause) -> bool
-    ensures { result ≡ is_short cause }
-{
-    match cause {
-        Cause::Memory => true,
-        Cause::Closed | Cause::Refused(_) | Cause::ReadFault | Cause::WriteFault | Cause::Left =>
-            false,
-    }
 }
 
 // Waits for a task, and takes its pass and its link back. Says whether the connection ended for lack of memory.
@@ -90,7 +77,7 @@ where
     } = finish_task(server, task);
     give_back(server, pass, own);
     listener.close(link);
-    lacked_memory(cause)
+    cause.is_short()
 }
 
 // Whether the job at this place has ended.

@@ -3,12 +3,9 @@
 ghost use Rattle.std.specs.Prelude.{◌≡◌, ◌+◌, ◌++◌, ◌∷◌};
 ghost use Rattle.std.specs.Arc.{arc_value};
 ghost use Rattle.turn_lock.specs.Rule.{pooled};
-ghost use Rattle.http_connections.specs.Boards.{IsOurs, known};
+ghost use Rattle.http_exchanges.specs.Boards.{IsOurs, known};
 
-use crate::cluster::SharedCluster;
-use crate::job::{Finished, ServeJob};
-use crate::served::Served;
-use crate::service::Board;
+use http_exchanges::{Board, Finished, ServeJob, Served, SharedCluster};
 use http_routes::Routes;
 use serve_outside::{NoteOf, Task};
 use stale_view::Viewer;

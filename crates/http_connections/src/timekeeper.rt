@@ -6,13 +6,11 @@ ghost use Rattle.cat_model.specs.declared.reply.Mark.{Mark as SpecMark};
 ghost use Rattle.cluster_rules.specs.Sound.{IsAmong};
 ghost use Rattle.serve_outside.specs.Tasks.{IsKept, note_of};
 ghost use Rattle.turn_lock.specs.Rule.{all_shares};
-ghost use Rattle.http_connections.specs.Boards.{IsOurs, known};
+ghost use Rattle.http_exchanges.specs.Boards.{IsOurs, known};
 
-use crate::cluster::SharedCluster;
 use crate::run::{Server, give_back};
-use crate::served::{NOBODY, Served};
-use crate::service::Board;
 use cat_model::Memory;
+use http_exchanges::{Board, NOBODY, Served, SharedCluster};
 use http_routes::routes_cross;
 use serve_outside::{Clock, Gate, Job, NoteOf, Spawner, Task, finish, start_beside};
 use stale_view::{Viewer, parts_cross};
@@ -106,7 +104,7 @@ pub fn keep_clocks<R: Wait + Drop, C: SharedCluster, Cl: Clock + Drop, G: Gate +
 impl<R: Wait + Drop, C: SharedCluster, Cl: Clock + Drop, G: Gate + Drop> Job
     for Timekeeper<R, Served<C>, Cl, G, Viewer<C::Pair>> {
     ghost use Rattle.std.specs.Arc.{arc_value};
-    ghost use Rattle.http_connections.specs.Boards.{IsOurs, known};
+    ghost use Rattle.http_exchanges.specs.Boards.{IsOurs, known};
 
     type Done = Pass<Served<C>>;
 

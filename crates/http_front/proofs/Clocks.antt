@@ -20,8 +20,8 @@ use Rattle.run_rules.specs.Lines.{clock_misfit, misfit}
 use Rattle.run_rules.proofs.Serving.{agents_after}
 use Rattle.turn_lock.specs.Lists.{Among, numbers}
 use Rattle.turn_lock.proofs.Lists.{among_left, among_right, numbers_append}
-use Rattle.http_connections.specs.Marks.{TicksAll, Whose, Servers, Agents, ticks}
-use Rattle.http_connections.proofs.MarkLists.{joined}
+use Rattle.http_exchanges.specs.Marks.{TicksAll, Whose, Servers, Agents, ticks}
+use Rattle.http_exchanges.proofs.MarkLists.{joined}
 use Rattle.http_front.specs.Ticks.{Leaves, LeavesLater, PassesEnd, TicksEach, TicksWholly, count_of, tick_of}
 use Rattle.http_front.proofs.Steps.{ticked_mark}
 

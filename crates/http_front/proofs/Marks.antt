@@ -7,10 +7,10 @@ use Rattle.cluster_rules.specs.Past as past
 use Rattle.cluster_rules.specs.Reached.{moves_of}
 use Rattle.cluster_rules.specs.Sound.{IsAmong}
 use Rattle.turn_lock.specs.Lists.{Among, EachOnce, ahead, numbers}
-use Rattle.http_connections.specs.declared.cluster.Ask.{Ask}
-use Rattle.http_connections.specs.Marks.{AddsAsked, AddsCut, AddsQuiet, AreKept, TicksNone, Whose, Servers, Agents, answers, asked_mark, opens, takes, ticks, ticks_by}
-use Rattle.http_connections.proofs.Clocks.{by_none}
-use Rattle.http_connections.proofs.MarkLists.{few_as, none_append}
+use Rattle.http_exchanges.specs.declared.cluster.Ask.{Ask}
+use Rattle.http_exchanges.specs.Marks.{AddsAsked, AddsCut, AddsQuiet, AreKept, TicksNone, Whose, Servers, Agents, answers, asked_mark, opens, takes, ticks, ticks_by}
+use Rattle.http_exchanges.proofs.Clocks.{by_none}
+use Rattle.http_exchanges.proofs.MarkLists.{few_as, none_append}
 use Rattle.http_front.specs.Ticks.{TicksOne, others, tick_of}
 use Rattle.http_front.proofs.Reverses.{among_back, among_reverse, in_reverse, none_reverse, numbers_reverse, once_reverse}
 

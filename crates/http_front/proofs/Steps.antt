@@ -31,12 +31,12 @@ use Rattle.run_rules.specs.Lines.{misfit}
 use Rattle.run_rules.proofs.Fitting.{event_fits}
 use Rattle.turn_lock.specs.Lists.{Among, EachOnce, numbers}
 use Rattle.turn_lock.proofs.Lists.{numbers_append}
-use Rattle.http_connections.specs.declared.cluster.Ask.{Ask}
-use Rattle.http_connections.specs.declared.cluster.Collected.TheVariants as collected
-use Rattle.http_connections.specs.Collects.{Collects, IsGiven}
-use Rattle.http_connections.specs.Marks.{AddsAsked, AddsCut, AddsQuiet, AreKept, Delivers, TicksBy, TicksNone, Whose, Servers, Agents, answered_mark, asked_mark, log_of, opens, takes, ticks, ticks_by}
-use Rattle.http_connections.proofs.Clocks.{by_none, none_none, ticks_none}
-use Rattle.http_connections.proofs.MarkLists.{append_none, in_right, joined, none_append, quiet_cut, quiet_none, quiet_quiet}
+use Rattle.http_exchanges.specs.declared.cluster.Ask.{Ask}
+use Rattle.http_exchanges.specs.declared.cluster.Collected.TheVariants as collected
+use Rattle.http_exchanges.specs.Collects.{Collects, IsGiven}
+use Rattle.http_exchanges.specs.Marks.{AddsAsked, AddsCut, AddsQuiet, AreKept, Delivers, TicksBy, TicksNone, Whose, Servers, Agents, answered_mark, asked_mark, log_of, opens, takes, ticks, ticks_by}
+use Rattle.http_exchanges.proofs.Clocks.{by_none, none_none, ticks_none}
+use Rattle.http_exchanges.proofs.MarkLists.{append_none, in_right, joined, none_append, quiet_cut, quiet_none, quiet_quiet}
 use Rattle.run_rules.specs.Keeping.{Keeps}
 use Rattle.run_rules.specs.Serving.{Serves, Size}
 use Rattle.run_rules.proofs.Keeping.{step_keeps}

@@ -6,7 +6,7 @@ use Rattle.cat_model.specs.declared.request.Event.TheVariants as event
 use Rattle.cat_model.specs.declared.reply.Mark.{Mark}
 use Rattle.cluster_rules.specs.Cluster.{Cluster, clock_of}
 use Rattle.turn_lock.specs.Lists.{Among, EachOnce, numbers}
-use Rattle.http_connections.specs.Marks.{Whose, Servers, Agents, ticks, ticks_by}
+use Rattle.http_exchanges.specs.Marks.{Whose, Servers, Agents, ticks, ticks_by}
 
 -- the clocks of the others
 abbrev pub others : Whose → Whose

@@ -5,9 +5,9 @@ ghost use Rattle.cat_model.specs.Log.{commands_of};
 ghost use Rattle.cluster_rules.specs.Cluster.{clock_of};
 ghost use Rattle.cluster_rules.specs.Reached.{MayBegin};
 ghost use Rattle.cluster_requests.specs.Taking.{IsNumberAt};
-ghost use Rattle.http_connections.specs.Collects.{Collects};
-ghost use Rattle.http_connections.specs.Marks.{AddsAsked, AddsCut, AddsQuiet, Agents, AreKept, Delivers, Servers, TicksAll, TicksBy, TicksNone, agreed_by};
-ghost use Rattle.http_connections.specs.Turns.{MayAsk};
+ghost use Rattle.http_exchanges.specs.Collects.{Collects};
+ghost use Rattle.http_exchanges.specs.Marks.{AddsAsked, AddsCut, AddsQuiet, Agents, AreKept, Delivers, Servers, TicksAll, TicksBy, TicksNone, agreed_by};
+ghost use Rattle.http_exchanges.specs.Turns.{MayAsk};
 ghost use Rattle.http_front.specs.Shown.{ShowsOver};
 ghost use Rattle.http_front.specs.Shared.{IsOpen, Sifts, shared_of};
 ghost use Rattle.http_front.specs.Ticks.{TicksEach, TicksOne, TicksOnly, TicksWholly};
@@ -15,7 +15,7 @@ ghost use Rattle.http_front.specs.Ticks.{TicksEach, TicksOne, TicksOnly, TicksWh
 use crate::cluster::{ClusterSize, ServingCluster};
 use cat_model::{Entry, Event, Memory};
 use cluster_interface::ClusterInterface;
-use http_connections::{Ask, Collected};
+use http_exchanges::{Ask, Collected};
 use std::alloc::Global;
 
 // A request's reply, or what else there is of a request that is not closed.

@@ -4,7 +4,7 @@ use Rattle.cat_model.specs.declared.reply.Mark.{Mark}
 use Rattle.cluster_rules.specs.Sound.{IsAmong}
 use Rattle.serve_outside.specs.Tasks.{note_of}
 use Rattle.turn_lock.specs.Lists.{Among, IsFront, numbers}
-use Rattle.http_connections.specs.Marks.{opens}
+use Rattle.http_exchanges.specs.Marks.{opens}
 use Rattle.http_connections.specs.Runs.{Joins, KeepsDraws, lacking, most_of}
 use Rattle.http_connections.proofs.Runs.{all_back, given_all, handed_joins, handed_later, hands_back, has_cause, kept_few, kept_some, told_fronts}
 use Rattle.http_connections.proofs.connections.serve_all.Goals as goal

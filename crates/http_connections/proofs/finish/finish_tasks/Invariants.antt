@@ -1,8 +1,9 @@
 use Rattle.std.proofs.Common.{◌≡◌, ◌+◌, length}
 use Rattle.std.specs.Arc.{arc_value}
 use Rattle.cluster_rules.specs.Sound.{IsAmong}
-use Rattle.http_connections.specs.Boards.{IsOurs}
-use Rattle.http_connections.specs.Jobs.{AllTasks, HasEnded, shares_out}
+use Rattle.http_exchanges.specs.Boards.{IsOurs}
+use Rattle.http_exchanges.specs.Jobs.{HasEnded}
+use Rattle.http_connections.specs.Tasks.{AllTasks, shares_out}
 use Rattle.http_connections.specs.Runs.{IsStarted, Joins}
 use Rattle.http_connections.proofs.finish.finish_tasks.Given as goal
 

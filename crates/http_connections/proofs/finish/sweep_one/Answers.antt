@@ -3,7 +3,7 @@ use Rattle.serve_outside.specs.Tasks.{note_of}
 use Rattle.std.specs.Arc.{arc_value}
 use Rattle.cat_model.specs.declared.reply.Mark.{Mark}
 use Rattle.cluster_rules.specs.Sound.{IsAmong}
-use Rattle.http_connections.specs.Jobs.{HasEnded}
+use Rattle.http_exchanges.specs.Jobs.{HasEnded}
 use Rattle.http_connections.specs.Runs.{IsStarted}
 use Rattle.http_connections.proofs.Runs.{joins_none, joins_one, pooled_all, task_at, tasks_left}
 use Rattle.http_connections.proofs.Tasks.{one_swapped, total_swapped}

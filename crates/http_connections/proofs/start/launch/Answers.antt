@@ -1,7 +1,7 @@
 use Rattle.std.proofs.Common.{◌≡◌, ◌∙◌, ℕ, List, [], ◌++◌, append-nil, sym, ap, subst}
 use Rattle.turn_lock.specs.Rule.{pooled}
 use Rattle.serve_outside.specs.Links.{IsNew}
-use Rattle.http_connections.specs.Boards.{known}
+use Rattle.http_exchanges.specs.Boards.{known}
 use Rattle.http_connections.proofs.Runs.{pooled_all, told_before, turned_none, turned_one}
 use Rattle.http_connections.proofs.start.launch.Goals as goal
 

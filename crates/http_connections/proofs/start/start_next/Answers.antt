@@ -5,7 +5,7 @@ use Rattle.std.specs.Arc.{arc_value}
 use Rattle.std.specs.Option.{option_map}
 use Rattle.cat_model.specs.declared.request.Draw.{Draw}
 use Rattle.http_connections.specs.declared.run.Stop.TheVariants as stops
-use Rattle.http_connections.specs.Jobs.{HasEnded}
+use Rattle.http_exchanges.specs.Jobs.{HasEnded}
 use Rattle.http_connections.specs.Runs.{HasDrawn}
 use Rattle.http_connections.proofs.Runs.{has_drawn, keeps_drawn, match_none, match_some, started_more, starts_none}
 use Rattle.http_connections.proofs.Tasks.{total_more}

@@ -1,10 +1,10 @@
 use Rattle.std.proofs.Common.{◌∙◌, ◌≡◌, ◌+◌, [], ap, sym, arith, length, List, refl, subst, Ok, Err}
 use Rattle.cat_model.specs.declared.reply.Mark.{Mark}
 use Rattle.cluster_rules.specs.Sound.{IsAmong}
-use Rattle.http_connections.specs.Jobs.{shares_out}
+use Rattle.http_connections.specs.Tasks.{shares_out}
 use Rattle.http_connections.specs.Runs.{KeepsDraws, Starts}
 use Rattle.http_connections.proofs.Runs.{handed_goes, handed_joins, handed_later, handed_none, handed_starts}
-use Rattle.http_connections.proofs.Written.{rose_from}
+use Rattle.http_exchanges.proofs.Written.{rose_from}
 use Rattle.http_connections.proofs.start.start_tasks.Goals as goal
 
 pub loop-n-init : goal.loop-n-init

@@ -1,6 +1,6 @@
 use Rattle.std.proofs.Common.{◌≡◌}
 use Rattle.std.specs.Arc.{arc_value}
-use Rattle.http_connections.specs.Boards.{IsOurs, known}
+use Rattle.http_exchanges.specs.Boards.{IsOurs, known}
 use Rattle.http_connections.proofs.timekeeper.keep_clocks.Given as goal
 
 -- the pass is the board's, without a turn, and has asked nothing

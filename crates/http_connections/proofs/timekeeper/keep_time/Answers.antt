@@ -1,9 +1,9 @@
 use Rattle.std.proofs.Common.{◌≡◌, List, ◌++◌, length, drop, sym, ap, ◌∙◌, subst}
 use Rattle.cat_model.specs.declared.reply.Mark.{Mark}
 use Rattle.turn_lock.specs.Lists.{numbers}
-use Rattle.http_connections.specs.Boards.{known}
-use Rattle.http_connections.specs.Marks.{opens}
-use Rattle.http_connections.proofs.OwnTurns.{mine_still}
+use Rattle.http_exchanges.specs.Boards.{known}
+use Rattle.http_exchanges.specs.Marks.{opens}
+use Rattle.http_exchanges.proofs.OwnTurns.{mine_still}
 use Rattle.http_connections.proofs.timekeeper.keep_time.Goals as goal
 
 pub returns-clause-asks_none : goal.returns-clause-asks_none

@@ -1,4 +1,4 @@
-use Rattle.http_connections.proofs.MarkLists.{quiet_quiet}
+use Rattle.http_exchanges.proofs.MarkLists.{quiet_quiet}
 use Rattle.http_front.proofs.Clocks.{all_on_ok}
 use Rattle.http_front.proofs.Steps.{both_by, servers_by}
 use Rattle.http_front.proofs.cluster.ServingCluster.go_on.Goals as goal

@@ -1,4 +1,4 @@
-use Rattle.http_connections.specs.Marks.{Servers}
+use Rattle.http_exchanges.specs.Marks.{Servers}
 use Rattle.http_front.proofs.Clocks.{ticks_wholly, wholly_none}
 use Rattle.http_front.proofs.Steps.{tick_quiet, tick_serves, tick_ticks}
 use Rattle.http_front.proofs.cluster.ServingCluster.tick.Goals as goal

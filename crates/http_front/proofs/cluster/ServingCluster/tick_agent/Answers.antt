@@ -1,4 +1,4 @@
-use Rattle.http_connections.specs.Marks.{Agents}
+use Rattle.http_exchanges.specs.Marks.{Agents}
 use Rattle.http_front.proofs.Clocks.{ticks_wholly, wholly_none}
 use Rattle.http_front.proofs.Steps.{agent_serves, tick_quiet, tick_ticks}
 use Rattle.http_front.proofs.cluster.ServingCluster.tick_agent.Goals as goal

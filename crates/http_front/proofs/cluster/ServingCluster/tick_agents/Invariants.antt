@@ -1,5 +1,5 @@
 use Rattle.std.proofs.Common.{◌-◌, reverse}
-use Rattle.http_connections.specs.Marks.{AddsQuiet, Agents}
+use Rattle.http_exchanges.specs.Marks.{AddsQuiet, Agents}
 use Rattle.http_front.specs.Ticks.{LeavesLater, TicksEach, TicksUpTo}
 use Rattle.http_front.proofs.cluster.ServingCluster.tick_agents.Given as goal
 

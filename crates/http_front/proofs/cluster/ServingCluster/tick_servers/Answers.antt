@@ -1,6 +1,6 @@
 use Rattle.std.proofs.Common.{◌+◌, arith, sym}
-use Rattle.http_connections.specs.Marks.{Servers}
-use Rattle.http_connections.proofs.MarkLists.{quiet_none, quiet_quiet}
+use Rattle.http_exchanges.specs.Marks.{Servers}
+use Rattle.http_exchanges.proofs.MarkLists.{quiet_none, quiet_quiet}
 use Rattle.http_front.proofs.Clocks.{each_next, each_none, each_of, later_next, later_none}
 use Rattle.http_front.proofs.Steps.{up_to_next, up_to_none, up_to_only}
 use Rattle.http_front.proofs.cluster.ServingCluster.tick_servers.Goals as goal

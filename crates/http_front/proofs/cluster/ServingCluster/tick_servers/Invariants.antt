@@ -1,5 +1,5 @@
 use Rattle.std.proofs.Common.{◌-◌, reverse}
-use Rattle.http_connections.specs.Marks.{AddsQuiet, Servers}
+use Rattle.http_exchanges.specs.Marks.{AddsQuiet, Servers}
 use Rattle.http_front.specs.Ticks.{LeavesLater, TicksEach, TicksUpTo}
 use Rattle.http_front.proofs.cluster.ServingCluster.tick_servers.Given as goal
 
