@@ -160,9 +160,14 @@ module _ {S I : Type 0} (items : S → List I) (opens closes : I → Option ℕ)
           whole = λ k a. someones_set s.views id v w at k (λ b. b) (r.whole k a);
           slot = inr (id, w, set_at s.views id v w at, refl, ap (λ l. set l 0 none) h.1);
         },
-        (h.0, refl, subst (λ (l : List I). Extends opens closes v.mine v.seen l) (sym h.2) fit.grown, subst (λ (l : List I). AreFronts v.told l) (sym h.2) fit.fronts,
-        subst (λ (l : List I). OpensAll opens v.mine l) (sym h.2) (own_all s r id v at),
-        λ all. subst (λ (l : List I). OpensOnly opens v.mine l) (sym h.2) (only_own s r id v at all)),
+        (
+          h.0,
+          refl,
+          subst (λ (l : List I). Extends opens closes v.mine v.seen l) (sym h.2) fit.grown,
+          subst (λ (l : List I). AreFronts v.told l) (sym h.2) fit.fronts,
+          subst (λ (l : List I). OpensAll opens v.mine l) (sym h.2) (own_all s r id v at),
+          λ all. subst (λ (l : List I). OpensOnly opens v.mine l) (sym h.2) (only_own s r id v at all),
+        ),
       ))
       (λ (o : IsOut items opens closes s). dite (ℕ_discrete o.0 id)
       (λ (e : o.0 ≡ id). let here : get_elem? s.views id ≡ some o.1 = subst (λ (k : ℕ). get_elem? s.views k ≡ some o.1) e o.2 in
@@ -376,12 +381,12 @@ module _ {S I : Type 0} (items : S → List I) (opens closes : I → Option ℕ)
       let some_shares : (n : ℕ) → Among n v.mine ⊎ Among n w.mine → 0 < b.shares = λ n. ⊎_elim (λ (h : Among n v.mine). let y = fit.bare n h in omega arith) (λ (h : Among n w.mine). let y = fit'.bare n h in omega arith) in
       let kept : get_elem? (set vs other z) id ≡ some b = set_else vs other id z (λ e. ne (sym e)) ∙ set_at s.views id v b at in
       let joined : (n : ℕ) → IsSomeones s.views n → IsSomeones (set vs other z) n = λ n o. dite (ℕ_discrete o.0 other)
-          (λ (e : o.0 ≡ other). let here : get_elem? s.views other ≡ some o.1 = subst (λ (y : ℕ). get_elem? s.views y ≡ some o.1) e o.2 in
-          (id, b, kept, among_right n v.mine w.mine (subst (λ (x : V). Among n x.mine) (some-injective o.1 w (sym here ∙ at')) o.3)))
-          (λ (no : o.0 ≡ other → ⊥). dite (ℕ_discrete o.0 id)
-          (λ (e : o.0 ≡ id). let here : get_elem? s.views id ≡ some o.1 = subst (λ (y : ℕ). get_elem? s.views y ≡ some o.1) e o.2 in
-          (id, b, kept, among_left n v.mine w.mine (subst (λ (x : V). Among n x.mine) (some-injective o.1 v (sym here ∙ at)) o.3)))
-          (λ (ni : o.0 ≡ id → ⊥). (o.0, o.1, set_else vs other o.0 z no ∙ (set_else s.views id o.0 b ni ∙ o.2), o.3))) in
+      (λ (e : o.0 ≡ other). let here : get_elem? s.views other ≡ some o.1 = subst (λ (y : ℕ). get_elem? s.views y ≡ some o.1) e o.2 in
+      (id, b, kept, among_right n v.mine w.mine (subst (λ (x : V). Among n x.mine) (some-injective o.1 w (sym here ∙ at')) o.3)))
+      (λ (no : o.0 ≡ other → ⊥). dite (ℕ_discrete o.0 id)
+      (λ (e : o.0 ≡ id). let here : get_elem? s.views id ≡ some o.1 = subst (λ (y : ℕ). get_elem? s.views y ≡ some o.1) e o.2 in
+      (id, b, kept, among_left n v.mine w.mine (subst (λ (x : V). Among n x.mine) (some-injective o.1 v (sym here ∙ at)) o.3)))
+      (λ (ni : o.0 ≡ id → ⊥). (o.0, o.1, set_else vs other o.0 z no ∙ (set_else s.views id o.0 b ni ∙ o.2), o.3))) in
       record {
         drawn = r.drawn;
         served = r.served;
