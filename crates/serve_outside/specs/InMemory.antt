@@ -1,6 +1,7 @@
 -- What a connection in memory tells, and what its next read gives.
 use Rattle.std.specs.Prelude.{ℕ, max, min, length, take, drop, Some}
 use Rattle.serve_outside.specs.declared.mem_link.MemLink.{MemLink}
+use Rattle.serve_outside.specs.Traffic.{told_reads}
 use Rattle.serve_outside.specs.Links.{LinkState}
 
 abbrev pub told : MemLink → LinkState
@@ -8,6 +9,7 @@ told link = record {
   number = link.number;
   heard = Some (take link.at link.script.bytes);
   said = Some link.said.items;
+  reads = told_reads link.traffic.seen;
   ends = link.ends;
   read_faults = link.read_faults;
   write_faults = link.write_faults;

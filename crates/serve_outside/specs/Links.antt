@@ -1,5 +1,5 @@
 -- What a connection tells, and what its calls do to that.
-use Rattle.std.specs.Prelude.{◌≡◌, ℕ, ◌≤◌, Bool, false, true, List, [], ◌++◌, length, take, Option, Result, MatchResult}
+use Rattle.std.specs.Prelude.{◌≡◌, ℕ, ◌≤◌, Bool, false, true, List, [], ◌∷◌, ◌++◌, length, take, Option, Result, MatchResult}
 use Rattle.std.specs.Option.{ForSome}
 use Rattle.std.specs.Io.{ReadsAtMost, WritesAtMost}
 use Rattle.std.specs.Io.KnownBytes.{append_known}
@@ -7,13 +7,14 @@ use Rattle.outside.specs.Causes.{Rose, HasCause, WriteHasCause, CountsEnd}
 use Rattle.outside.specs.declared.faults.Failed.{Failed}
 use Rattle.outside.specs.declared.faults.KeepFail.{KeepFail}
 
--- What a connection tells: its number, the bytes read from it and written to it where it tells them, how often a read
--- found the end, how many reads and writes failed, and whether it is shut. That its client has gone while a request
--- waited counts as a read that failed.
+-- What a connection tells: its number, the bytes read from it and written to it where it tells them, for each read what had
+-- been read and written before it, the last read first, how often a read found the end, how many reads and writes failed, and
+-- whether it is shut. That its client has gone while a request waited counts as a read that failed.
 pub record LinkState : Type 0 where
   pub number : ℕ
   pub heard : Option (List ℕ)
   pub said : Option (List ℕ)
+  pub reads : List (Option (List ℕ) × Option (List ℕ))
   pub ends : ℕ
   pub read_faults : ℕ
   pub write_faults : ℕ
@@ -24,6 +25,7 @@ pub record IsNew (n : ℕ) (link : LinkState) : Type 0 where
   pub number : link.number ≡ n
   pub nothing_heard : ForSome link.heard (λ bytes. bytes ≡ [])
   pub nothing_said : ForSome link.said (λ bytes. bytes ≡ [])
+  pub unread : link.reads ≡ []
   pub no_ends : link.ends ≡ 0
   pub no_read_faults : link.read_faults ≡ 0
   pub no_write_faults : link.write_faults ≡ 0
@@ -33,6 +35,7 @@ pub record IsNew (n : ℕ) (link : LinkState) : Type 0 where
 pub record Reads (old : LinkState) (into : List ℕ) (result : Result ℕ Failed) (new : LinkState) : Type 0 where
   pub bound : ReadsAtMost result into
   pub heard : MatchResult result (λ count. new.heard ≡ append_known old.heard (take count into)) (λ _. new.heard ≡ old.heard)
+  pub reads : new.reads ≡ (old.heard, old.said) ∷ old.reads
   pub at_end : CountsEnd old.ends new.ends result (length into)
   pub cause : HasCause old.read_faults new.read_faults result
   pub number : new.number ≡ old.number
@@ -47,6 +50,7 @@ pub record Writes (old : LinkState) (piece : List ℕ) (result : Result ℕ Keep
   pub cause : WriteHasCause old.write_faults new.write_faults result (length piece)
   pub number : new.number ≡ old.number
   pub heard : new.heard ≡ old.heard
+  pub reads : new.reads ≡ old.reads
   pub ends : new.ends ≡ old.ends
   pub read_faults : new.read_faults ≡ old.read_faults
   pub shut : new.shut ≡ old.shut

@@ -25,6 +25,7 @@ mod spawner;
 mod starts;
 mod tcp_link;
 mod tcp_listener;
+mod traffic;
 mod words;
 
 pub use awaited::{Awaited, Limits};

@@ -1,11 +1,11 @@
 //! Adapters over the machine's clock.
 
-ghost use Rattle.std.specs.Prelude.{◌≡◌, [], ◌∷◌, ◌++◌, None};
-ghost use Rattle.std.specs.Option.{option_map};
+ghost use Rattle.std.specs.Prelude.{◌≡◌, [], ◌∷◌, ◌++◌, map, Some};
 ghost use Rattle.serve_outside.specs.Drawing.{next_draw};
 
 use crate::{Clock, Words};
 use cat_model::Draw;
+use http_server::Log;
 use rand_core::Rng;
 use rand_pcg::Pcg64;
 use std::time;
@@ -42,29 +42,35 @@ impl<R: time::Clock> Clock for MachineClock<R> {
 #[derive(Drop)]
 pub struct SeededWords {
     generator: Pcg64,
+    given: Log<Draw, ()>,
 }
 
 impl SeededWords {
-    pub fn new(rt: &impl time::Clock) -> SeededWords {
+    pub fn new(rt: &impl time::Clock) -> SeededWords
+        ensures { ⟦<SeededWords as Words>⟧.draws result ≡ Some [] }
+    {
         let time_of_day = rt.since_1970().unwrap_or(Duration::ZERO).as_nanos();
         let time_of_run = monotonic(rt).as_nanos();
         SeededWords {
             generator: Pcg64::new(time_of_day, time_of_run),
+            given: Log::new(),
         }
     }
 }
 
 impl Words for SeededWords {
-    ghost use Rattle.std.specs.Prelude.{None};
+    ghost use Rattle.std.specs.Prelude.{Some, map};
 
-    ghost draws = { λ _. None };
+    ghost draws = { λ w. Some (map (λ p. p.0) w.given.items) };
 
     fn draw(&mut self) -> Draw
-        ensures untold { None ≡ option_map (λ before. before ++ result ∷ []) None }
+        ensures told { Some (map (λ p. p.0) self.new.given.items) ≡ Some (map (λ p. p.0) self.old.given.items ++ result ∷ []) }
         ensures next { (result, ⟦<Pcg64 as Rng>⟧.stream self.new.generator) ≡ next_draw (⟦<Pcg64 as Rng>⟧.stream self.old.generator) }
     {
         let hi = self.generator.next_u64();
         let lo = self.generator.next_u64();
-        Draw { hi, lo }
+        let draw = Draw { hi, lo };
+        self.given = self.given.and(&draw, &());
+        draw
     }
 }

@@ -1,7 +1,8 @@
-ghost use Rattle.std.specs.Prelude.{◌≡◌, ◌↔◌, ◌≤◌, ◌++◌, Some, min, [], length, take, drop, IfOk, OnOk, IsErr, IsErrOf, IsTrue};
+ghost use Rattle.std.specs.Prelude.{◌≡◌, ◌↔◌, ◌≤◌, ◌∷◌, ◌++◌, Some, min, [], length, take, drop, IfOk, OnOk, IsErr, IsErrOf, IsTrue};
 ghost use Rattle.outside.specs.Causes.{counted};
 ghost use Rattle.outside.specs.InMemory.{is_listed};
 
+use crate::traffic::Traffic;
 use crate::{Awaited, Link};
 use cat_model::{Bytes, List};
 use outside::{Failed, KeepFail, is_listed};
@@ -31,7 +32,10 @@ pub struct MemLink {
     write_faults: u64,
     shut: bool,
     calls: u64,
+    traffic: Traffic,
     ghost within: { at ≤ length script.bytes },
+    ghost heard: { traffic.seen.heard ≡ take at script.bytes },
+    ghost written: { traffic.seen.said ≡ said.items },
 }
 
 // Copies the bytes from `at` on: as many as there are, as there is room for, and as the most is.
@@ -66,6 +70,7 @@ impl MemLink {
             write_faults: 0,
             shut: false,
             calls: 0,
+            traffic: Traffic::new(),
         }
     }
 
@@ -95,12 +100,14 @@ impl MemLink {
         ensures count { result ≡ readable self.old (length into.old) }
         ensures bound { result ≤ length into.new }
         ensures heard { (told self.new).heard ≡ Some (take self.old.at self.old.script.bytes ++ take result into.new) }
-        ensures rest { told self.new ≡ record (told self.old) { heard = (told self.new).heard } }
+        ensures reads { (told self.new).reads ≡ ((told self.old).heard, (told self.old).said) ∷ (told self.old).reads }
+        ensures rest { told self.new ≡ record (told self.old) { heard = (told self.new).heard; reads = (told self.new).reads } }
         ensures script { (self.new.script ≡ self.old.script) × (self.new.calls ≡ self.old.calls) }
     {
         let most = self.script.most.max(1);
         let count = copy_from(self.script.bytes.as_slice(), self.at, most, into);
         self.at += count;
+        self.traffic = self.traffic.read(&into[..count]);
         count
     }
 }
@@ -123,6 +130,7 @@ impl Link for MemLink {
     {
         self.calls = self.calls.saturating_add(1);
         if is_listed(&self.script.failing, self.calls) {
+            self.traffic = self.traffic.read(&[]);
             self.read_faults = self.read_faults.saturating_add(1);
             return Err(Failed);
         }
@@ -153,6 +161,7 @@ impl Link for MemLink {
         if self.said.extend_from_slice(piece).is_err() {
             return Err(KeepFail::Memory);
         }
+        self.traffic = self.traffic.written(piece);
         self.calls = call;
         Ok(piece.len())
     }

@@ -5,6 +5,7 @@ ghost use Rattle.std.specs.Io.{ReadsAtMost, WritesAtMost};
 ghost use Rattle.outside.specs.Causes.{counted};
 
 use crate::linger::linger;
+use crate::traffic::Traffic;
 use crate::{Awaited, Limits, Link};
 use outside::{Failed, KeepFail};
 use std::io;
@@ -27,6 +28,7 @@ pub struct TcpLink<R> {
     read_faults: u64,
     write_faults: u64,
     shut: bool,
+    traffic: Traffic,
 }
 
 // Where the stream is given back, there is none to read or to write.
@@ -85,6 +87,7 @@ impl<R: Clock + Drop> TcpLink<R> {
             read_faults: 0,
             write_faults: 0,
             shut: false,
+            traffic: Traffic::new(),
         }
     }
 
@@ -108,12 +111,14 @@ impl<R: Clock + Drop> TcpLink<R> {
 }
 
 impl<R: Clock + Drop> Link for TcpLink<R> {
-    ghost use Rattle.std.specs.Prelude.{None};
+    ghost use Rattle.std.specs.Prelude.{Some};
+    ghost use Rattle.serve_outside.specs.Traffic.{told_reads};
 
     ghost state = { λ l. record {
       number = l.number;
-      heard = None;
-      said = None;
+      heard = Some l.traffic.seen.heard;
+      said = Some l.traffic.seen.said;
+      reads = told_reads l.traffic.seen;
       ends = l.ends;
       read_faults = l.read_faults;
       write_faults = l.write_faults;
@@ -136,6 +141,7 @@ impl<R: Clock + Drop> Link for TcpLink<R> {
         let room = into.len();
         match read_from(&mut self.stream, into) {
             Ok(count) => {
+                self.traffic = self.traffic.read(&into[..count]);
                 if count == 0 && room > 0 {
                     self.going = false;
                     self.ends = self.ends.saturating_add(1);
@@ -143,6 +149,7 @@ impl<R: Clock + Drop> Link for TcpLink<R> {
                 Ok(count)
             }
             Err(_) => {
+                self.traffic = self.traffic.read(&[]);
                 self.fail_read();
                 Err(Failed)
             }
@@ -152,6 +159,7 @@ impl<R: Clock + Drop> Link for TcpLink<R> {
     fn write(&mut self, piece: &[u8]) -> Result<usize, KeepFail> {
         match write_to(&mut self.stream, piece) {
             Ok(count) => {
+                self.traffic = self.traffic.written(&piece[..count]);
                 if count == 0 && !piece.is_empty() {
                     self.fail_write();
                 }
