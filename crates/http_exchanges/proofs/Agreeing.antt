@@ -52,10 +52,10 @@ pub begins_later : (agrees : Type 0) (list : List Command) (old new : List Mark)
 begins_later agrees list old new front begins a = prefix_on list (agreed_by old) (agreed_by new) (begins a) (agreed_front old new front)
 
 -- who has read all that is agreed, and seen all marks
-pub learned_by : {T E : Type 0} (r : Result T E) (agrees : Type 0) (marks seen : List Mark) (mine : List ℕ) (list : List Command) → seen ≡ marks → OnOk r (agrees → list ≡ agreed_by marks)
-    → OnOk r (HasLearned agrees (record { seen = seen; mine = mine; read = list }))
-learned_by (Ok t) agrees marks seen mine list e ok = λ a. ok a ∙ ap agreed_by (sym e)
-learned_by (Err f) agrees marks seen mine list e ok = tt
+pub learned_by : {T E : Type 0} (r : Result T E) (agrees : Type 0) (marks seen : List Mark) (mine : List ℕ) (shares : ℕ) (list : List Command) → seen ≡ marks → OnOk r (agrees → list ≡ agreed_by marks)
+    → OnOk r (HasLearned agrees (record { seen = seen; mine = mine; shares = shares; read = list }))
+learned_by (Ok t) agrees marks seen mine shares list e ok = λ a. ok a ∙ ap agreed_by (sym e)
+learned_by (Err f) agrees marks seen mine shares list e ok = tt
 
 -- a collection enters nothing
 pub agreed_collected : (shows : ℕ → Ask → Reply → List Mark → Type 0) (n : ℕ) (got : Collected) (old new : List Mark) → Collects shows n got old new → agreed_by new ≡ agreed_by old

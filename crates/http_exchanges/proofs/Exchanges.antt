@@ -27,7 +27,7 @@ use Rattle.http_exchanges.specs.declared.turns.NoReply.TheVariants as no_reply
 use Rattle.http_exchanges.specs.Knowing.{HasLearned, Known}
 use Rattle.http_exchanges.specs.Replies.{IsViewed, is_viewed, refusing}
 use Rattle.http_exchanges.specs.Waiting.{Grows, IsAnswered, IsBehind, IsHeld, OpensFew}
-use Rattle.http_exchanges.specs.Serving.{Connection, Exchange, continued, replied, items_of, answer_bytes, bytes_of, count_of, last_bytes, AreOpen, OpenBefore, asked_by, IsReply, IsReplyTo, IsUnanswered, draw_of, unrouted, stale, answered, AreTrue, IsLater, Passed, Came, IsCut, EndsBy, Opens, number_of, asked_numbers, asked_so_far}
+use Rattle.http_exchanges.specs.Serving.{Connection, Exchange, continued, replied, items_of, answer_bytes, bytes_of, count_of, last_bytes, AreOpen, OpenBefore, asked_by, IsReply, IsReplyTo, IsUnanswered, draw_of, unrouted, stale, answered, AreTrue, IsLater, IsPrompt, ArePrompt, Passed, Came, IsCut, EndsBy, Opens, number_of, asked_numbers, asked_so_far}
 use Rattle.http_exchanges.specs.Stages.{IsAfterWrite, StopsBy, Wrote, Stage, Talks, Owes, OwesRefusal, Comes, GoesOn, IsTaking}
 use Rattle.http_exchanges.proofs.OwnTurns.{grows_none, grows_on}
 use Rattle.http_exchanges.proofs.Written.{known_nil, known_on, rose_from}
@@ -44,6 +44,13 @@ later_left : (first old new : LinkState) → Leaves old true new → IsLater fir
 later_left first old new w l =
     let a = ap (λ (k : LinkState). k.ends) w.rest in let b = w.later in let c = ap (λ (k : LinkState). k.write_faults) w.rest in let d = l.ends in let e = l.read_faults in let f = l.write_faults in
     record { number = ap (λ (k : LinkState). k.number) w.rest ∙ l.number; ends = omega arith; read_faults = omega arith; write_faults = omega arith }
+
+-- replies are written before more is read, also over a link with the same reads, and with one read more
+pub prompt_as : (first old new : LinkState) → new.reads ≡ old.reads → ArePrompt first old → ArePrompt first new
+prompt_as first old new same p = record { more = p.more; are = same ∙ p.are; each = p.each }
+
+prompt_on : (first old new : LinkState) → new.reads ≡ (old.heard, old.said) ∷ old.reads → IsPrompt first (old.heard, old.said) → ArePrompt first old → ArePrompt first new
+prompt_on first old new one is p = record { more = (old.heard, old.said) ∷ p.more; are = one ∙ ap (λ l. (old.heard, old.said) ∷ l) p.are; each = (is, p.each) }
 
 -- what a reader that goes on has read gives no refusal
 gives_none : (stream : List ℕ) (items : List Given) (held : List ℕ) → Read stream items held → GivesAll stream items None
@@ -105,7 +112,7 @@ module _ (shows : ℕ → Ask → Reply → List Mark → Type 0) (agrees : Type
   true_later (replied m reply ∷ es) v w g a = (a.0, a.1, a.2, a.3, a.4, grows_on a.1 v w a.5 g)
 
   pub passed_later : (link : LinkState) (v w : Known) (es : List Exchange) (read written : List ℕ) → Grows v w → Passed shows agrees c link v es read written → Passed shows agrees c link w es read written
-  passed_later link v w es read written g p = record { heard = p.heard; said = p.said; are_true = true_later es v w g p.are_true; grown = grows_on c.begun v w p.grown g; later = p.later }
+  passed_later link v w es read written g p = record { heard = p.heard; said = p.said; are_true = true_later es v w g p.are_true; grown = grows_on c.begun v w p.grown g; later = p.later; prompt = p.prompt }
 
   passed_wrote : (old new : LinkState) (v : Known) (es : List Exchange) (read written more : List ℕ) → IsAfterWrite old new → new.said ≡ append_known old.said more
       → Passed shows agrees c old v es read written → Passed shows agrees c new v es read (written ++ more)
@@ -115,17 +122,18 @@ module _ (shows : ℕ → Ask → Reply → List Mark → Type 0) (agrees : Type
     are_true = p.are_true;
     grown = p.grown;
     later = later_wrote c.first old new after p.later;
+    prompt = prompt_as c.first old new after.reads p.prompt;
   }
 
   -- the same exchanges with one more
   passed_true : (link : LinkState) (v : Known) (es fs : List Exchange) (read written : List ℕ) → AreTrue shows agrees c fs v → Passed shows agrees c link v es read written → Passed shows agrees c link v fs read written
-  passed_true link v es fs read written a p = record { heard = p.heard; said = p.said; are_true = a; grown = p.grown; later = p.later }
+  passed_true link v es fs read written a p = record { heard = p.heard; said = p.said; are_true = a; grown = p.grown; later = p.later; prompt = p.prompt }
 
   passed_as : (link : LinkState) (v : Known) (es : List Exchange) (read read' written : List ℕ) → read' ≡ read → Passed shows agrees c link v es read written → Passed shows agrees c link v es read' written
   passed_as link v es read read' written e p = subst (λ (l : List ℕ). Passed shows agrees c link v es l written) (sym e) p
 
   -- what was cut off, over another link or by what is known later
-  pub cut_by : (link now : LinkState) (v w : Known) (requests : ℕ) → w.mine ≡ v.mine → ((es : List Exchange) (read written : List ℕ) → Passed shows agrees c link v es read written → Passed shows agrees c now w es read written)
+  abbrev pub cut_by : (link now : LinkState) (v w : Known) (requests : ℕ) → w.mine ≡ v.mine → ((es : List Exchange) (read written : List ℕ) → Passed shows agrees c link v es read written → Passed shows agrees c now w es read written)
       → IsCut shows agrees c link v requests → IsCut shows agrees c now w requests
   cut_by link now v w requests same f x = record {
     es = x.es;
@@ -314,6 +322,7 @@ module _ (shows : ℕ → Ask → Reply → List Mark → Type 0) (agrees : Type
     are_true = q.are_true;
     grown = q.grown;
     later = later_left c.first old new gone q.later;
+    prompt = prompt_as c.first old new (ap (λ (k : LinkState). k.reads) gone.rest) q.prompt;
   }
 
   -- the client went away while its request waited
@@ -371,6 +380,16 @@ module _ (shows : ℕ → Ask → Reply → List Mark → Type 0) (agrees : Type
     own = opens_just (asked_so_far c o.es) s.known.mine o.own;
   }) o.own
 
+  -- where all that came was answered, nothing is due
+  talks_prompt : (s : Stage) → Talks shows agrees c s [] → IsPrompt c.first (s.link.heard, s.link.said)
+  talks_prompt s x = record {
+    es = x.es;
+    stream = x.stream;
+    heard = x.passed.heard ∙ ap (append_known c.first.heard) (append-nil x.stream);
+    gives = gives_none x.stream (items_of x.es) s.reader.held x.told;
+    said = x.passed.said;
+  }
+
   -- what a read leaves
   pub read_more : (s : Stage) (new : LinkState) (into : List ℕ) (n : ℕ) (r : Result ℕ Failed) → r ≡ Ok n → 0 < n → Reads s.link into r new → Talks shows agrees c s [] → Talks shows agrees c (record s { link = new }) (take n into)
   read_more s new into n r e some w x = record {
@@ -383,6 +402,7 @@ module _ (shows : ℕ → Ask → Reply → List Mark → Type 0) (agrees : Type
       are_true = x.passed.are_true;
       grown = x.passed.grown;
       later = later_read c.first s.link new into r w x.passed.later;
+      prompt = prompt_on c.first s.link new w.reads (talks_prompt s x) x.passed.prompt;
     };
     told = x.told;
     going = x.going;
@@ -400,6 +420,7 @@ module _ (shows : ℕ → Ask → Reply → List Mark → Type 0) (agrees : Type
     are_true = x.passed.are_true;
     grown = x.passed.grown;
     later = later_read c.first s.link new into r w x.passed.later;
+    prompt = prompt_on c.first s.link new w.reads (talks_prompt s x) x.passed.prompt;
   }) (gives_none x.stream (items_of x.es) s.reader.held x.told)
 
   pub read_end : (s : Stage) (new : LinkState) (into : List ℕ) {n : ℕ} → Reads s.link into (Ok n) new → n ≡ 0 → 0 < length into → Talks shows agrees c s [] → EndsBy shows agrees c cause.Closed new s.known s.requests
@@ -432,6 +453,7 @@ module _ (shows : ℕ → Ask → Reply → List Mark → Type 0) (agrees : Type
       are_true = tt;
       grown = grows_none c.begun;
       later = record { number = refl; ends = omega arith; read_faults = omega arith; write_faults = omega arith };
+      prompt = record { more = []; are = refl; each = tt };
     };
     told = told;
     going = going;

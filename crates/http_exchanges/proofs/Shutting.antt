@@ -13,7 +13,7 @@ use Rattle.http_exchanges.specs.declared.cause.Cause.TheVariants as cause
 use Rattle.http_exchanges.specs.Knowing.{Known}
 use Rattle.http_exchanges.specs.Serving.{Connection, Exchange, continued, replied, AreOpen, Closes, OpenBefore, Passed, IsCut, IsLeft, IsUnanswered, IsWhole, EndsBy, asked_so_far}
 use Rattle.http_exchanges.specs.Waiting.{Grows, IsHeld}
-use Rattle.http_exchanges.proofs.Exchanges.{cut_by, open_before, opens_just, passed_later}
+use Rattle.http_exchanges.proofs.Exchanges.{cut_by, open_before, opens_just, passed_later, prompt_as}
 
 -- what closes had nothing behind it that asked to
 open_closing : (es : List Exchange) → Closes es → OpenBefore es
@@ -61,9 +61,10 @@ module _ (shows : ℕ → Ask → Reply → List Mark → Type 0) (agrees : Type
       are_true = p.are_true;
       grown = p.grown;
       later = record { number = l.number; ends = l.ends; read_faults = l.read_faults; write_faults = l.write_faults };
+      prompt = prompt_as c.first link shut_link (λ i. link.reads) p.prompt;
     }
 
-    cut_shut : IsCut shows agrees c link v n → IsCut shows agrees c shut_link w n
+    abbrev cut_shut : IsCut shows agrees c link v n → IsCut shows agrees c shut_link w n
     cut_shut x = cut_by shows agrees c link shut_link v w n same passed_shut x
 
     still_unanswered : (asked : Asked) (k : ℕ) (mine : List ℕ) → IsUnanswered shows agrees c asked k mine v → IsUnanswered shows agrees c asked k mine w

@@ -35,12 +35,13 @@ stops_from cause.ReadFault a b c l s = s
 stops_from cause.Left a b c l s = s
 
 pub after_none : (link : LinkState) → IsAfterWrite link link
-after_none link = record { number = refl; heard = refl; ends = refl; read_faults = refl; write_faults = omega arith; shut = refl }
+after_none link = record { number = refl; heard = refl; reads = refl; ends = refl; read_faults = refl; write_faults = omega arith; shut = refl }
 
 pub after_after : (a b c : LinkState) → IsAfterWrite a b → IsAfterWrite b c → IsAfterWrite a c
 after_after a b c x y = record {
   number = y.number ∙ x.number;
   heard = y.heard ∙ x.heard;
+  reads = y.reads ∙ x.reads;
   ends = y.ends ∙ x.ends;
   read_faults = y.read_faults ∙ x.read_faults;
   write_faults = let l = x.write_faults in let m = y.write_faults in omega arith;
@@ -86,4 +87,4 @@ pub said_same : (old new : Option (List ℕ)) (piece : List ℕ) → new ≡ app
 said_same old new piece e = e ∙ known_nil old
 
 pub after_of : (old new : LinkState) (piece : List ℕ) (r : Result ℕ KeepFail) → Writes old piece r new → IsAfterWrite old new
-after_of old new piece r w = record { number = w.number; heard = w.heard; ends = w.ends; read_faults = w.read_faults; write_faults = w.cause.later; shut = w.shut }
+after_of old new piece r w = record { number = w.number; heard = w.heard; reads = w.reads; ends = w.ends; read_faults = w.read_faults; write_faults = w.cause.later; shut = w.shut }

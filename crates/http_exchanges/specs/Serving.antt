@@ -1,6 +1,7 @@
 -- What is exchanged over a connection: HTTP/1.1 requests and their replies, in order (RFC 9112, sections 9.3 and 9.3.2).
 use Rattle.std.specs.Prelude.{◌≡◌, ℕ, ◌+◌, ◌%◌, ◌^◌, ◌≤◌, ◌⊎◌, Bool, true, false, if◌then◌else◌, List, [], ◌∷◌, ◌++◌, Option, Some, None, MatchOption, Result, Ok, Err, bytes_eq, codes}
 use Rattle.std.specs.Io.KnownBytes.{append_known}
+use Rattle.std.specs.List.{AllByRecursion}
 use Rattle.cat_model.specs.declared.request.Asked.{Asked}
 use Rattle.cat_model.specs.declared.request.Asked.TheVariants.{Good, Bad}
 use Rattle.cat_model.specs.declared.request.Draw.{Draw}
@@ -127,6 +128,21 @@ pub record IsLater (first now : LinkState) : Type 0 where
   pub read_faults : first.read_faults ≤ now.read_faults
   pub write_faults : first.write_faults ≤ now.write_faults
 
+-- Before a read nothing was due: what had been heard by then gave these exchanges and no whole message more, and all that is
+-- due for them had been said.
+pub record IsPrompt (first : LinkState) (before : Option (List ℕ) × Option (List ℕ)) : Type 0 where
+  pub es : List Exchange
+  pub stream : List ℕ
+  pub heard : before.0 ≡ append_known first.heard stream
+  pub gives : GivesAll stream (items_of es) None
+  pub said : before.1 ≡ append_known first.said (bytes_of es)
+
+-- So before each read since the first state: a reply is written before more is read, and is kept back from no client.
+pub record ArePrompt (first now : LinkState) : Type 0 where
+  pub more : List (Option (List ℕ) × Option (List ℕ))
+  pub are : now.reads ≡ more ++ first.reads
+  pub each : AllByRecursion (IsPrompt first) more
+
 -- `shows` is the cluster's, and `agrees` tells whether its servers agree
 module _ (shows : ℕ → Ask → Reply → List Mark → Type 0) (agrees : Type 0) (c : Connection) where
   -- The reply to the n-th request that was asked, with what was known before it was asked and when its reply was made: it
@@ -160,6 +176,7 @@ module _ (shows : ℕ → Ask → Reply → List Mark → Type 0) (agrees : Type
     pub are_true : AreTrue es known
     pub grown : Grows c.begun known
     pub later : IsLater c.first link
+    pub prompt : ArePrompt c.first link
 
   -- How far a connection came: the stream gave these exchanges, and is refused behind them where `rejection` says why;
   -- nobody took the rest of what was read; and all that is due was written but for what is unwritten.

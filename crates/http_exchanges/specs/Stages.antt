@@ -27,6 +27,7 @@ StopsBy other before after = ⊥
 pub record IsAfterWrite (old new : LinkState) : Type 0 where
   pub number : new.number ≡ old.number
   pub heard : new.heard ≡ old.heard
+  pub reads : new.reads ≡ old.reads
   pub ends : new.ends ≡ old.ends
   pub read_faults : new.read_faults ≡ old.read_faults
   pub write_faults : old.write_faults ≤ new.write_faults

@@ -74,4 +74,4 @@ returns-clause-grown g c =
 pub returns-clause-learned : goal.returns-clause-learned
 returns-clause-learned g c =
     let seat = c.give.new.pass.seat.me.0 in
-    learned_by c.turn-turned.result g.C.SharedCluster.agrees (g.C.SharedCluster.marks c.turn-turned.new.self.cluster) seat.seen seat.mine c.turn-turned.new.viewer c.give.ensures.seen c.turn-turned.ensures.read
+    learned_by c.turn-turned.result g.C.SharedCluster.agrees (g.C.SharedCluster.marks c.turn-turned.new.self.cluster) seat.seen seat.mine c.give.new.pass.shares c.turn-turned.new.viewer c.give.ensures.seen c.turn-turned.ensures.read
