@@ -40,7 +40,7 @@ use Rattle.http_exchanges.proofs.MarkLists.{append_none, in_right, joined, none_
 use Rattle.run_rules.specs.Keeping.{Keeps}
 use Rattle.run_rules.specs.Serving.{Serves, Size}
 use Rattle.run_rules.proofs.Keeping.{step_keeps}
-use Rattle.http_front.specs.Begun.{IsUnasked}
+use Rattle.http_front.specs.Asked.{IsUnasked}
 use Rattle.http_front.specs.Shared.{IsOpen, Sifts, shared_of}
 use Rattle.http_front.specs.Ticks.{Ticked, TicksOne, TicksOnly, TicksUpTo, others, tick_of}
 use Rattle.run_rules.proofs.Serving.{agent_ticked_on, asked_on, elected, handed_on, is_booked, is_sound, none_closed, partly_on, settled_on, taken_on, ticked_on}

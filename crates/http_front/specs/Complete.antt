@@ -15,7 +15,7 @@ use Rattle.turn_lock.specs.Lists.{Among, IsFront}
 use Rattle.http_connections.specs.Complete.{AnswersAll, CameOverOne, IsUnbroken}
 use Rattle.http_connections.specs.Runs.{most_of}
 use Rattle.run_rules.specs.Serving.{Serves, Size}
-use Rattle.http_front.specs.Begun.{asked_in}
+use Rattle.http_front.specs.Asked.{asked_in}
 use Rattle.http_front.specs.Shown.{ShowsOver}
 use Rattle.http_front.specs.declared.options.Dns.{Dns}
 use Rattle.http_front.specs.declared.options.Options.{Options}

@@ -2,9 +2,10 @@ pub mod Options
 pub mod Text
 pub mod Stores
 pub mod Names
-pub mod Begun
+pub mod Asked
 pub mod Served
 pub mod Complete
+pub mod Begun
 pub mod Shown
 pub mod Shared
 pub mod Ticks

@@ -20,7 +20,7 @@ use Rattle.http_connections.specs.declared.run.Stop as loop
 use Rattle.http_connections.specs.Runs.{HandsBack, HaveRead, most_of}
 use Rattle.run_rules.specs.Serving.{Size, Serves}
 use Rattle.run_rules.specs.Holding.{Holds}
-use Rattle.http_front.specs.Begun.{asked_in}
+use Rattle.http_front.specs.Asked.{asked_in}
 use Rattle.http_front.specs.Shown.{ShowsOver}
 use Rattle.http_front.specs.declared.options.Options.{Options}
 use Rattle.http_front.specs.Names.{NamesServed}

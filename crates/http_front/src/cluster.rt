@@ -3,7 +3,8 @@
 ghost use Rattle.std.specs.Prelude.{◌≡◌, ◌<◌, ◌≤◌, All, IfErr, IfOk, [], length, map};
 ghost use Rattle.std.specs.Option.{ForSome};
 ghost use Rattle.cluster_interface.specs.Starting.{KeepsLimits, store_of};
-ghost use Rattle.http_front.specs.Begun.{HasCause, IsUnasked};
+ghost use Rattle.http_front.specs.Asked.{IsUnasked};
+ghost use Rattle.http_front.specs.Begun.{HasCause};
 ghost use Rattle.run_rules.specs.Serving.{Serves, Size};
 
 use cat_model::{Event, List, Memory};

@@ -10,7 +10,7 @@ ghost use Rattle.http_connections.specs.declared.run.Stop.TheVariants as loop;
 ghost use Rattle.http_exchanges.specs.Boards.{IsOurs, known};
 ghost use Rattle.http_exchanges.specs.Marks.{agreed_by, opens};
 ghost use Rattle.http_connections.specs.Runs.{HandsBack, HasDrawn, most_of};
-ghost use Rattle.http_front.specs.Begun.{IsUnasked};
+ghost use Rattle.http_front.specs.Asked.{IsUnasked};
 ghost use Rattle.http_front.specs.Names.{GivesPortBack, IsBound, LeavesPort, LeavesServed, NamesServed};
 ghost use Rattle.http_front.specs.Served as spec;
 

@@ -11,7 +11,7 @@ ghost use Rattle.http_connections.specs.declared.run.Stop.TheVariants as loop;
 ghost use Rattle.http_connections.specs.Runs.{HasDrawn};
 ghost use Rattle.cluster_interface.specs.Starting.{KeepsLimits, store_of};
 ghost use Rattle.run_rules.specs.Serving.{Serves};
-ghost use Rattle.http_front.specs.Begun.{IsUnasked};
+ghost use Rattle.http_front.specs.Asked.{IsUnasked};
 ghost use Rattle.http_front.specs.Names.{GivesPortBack};
 ghost use Rattle.http_front.specs.Options.{IsWithin};
 ghost use Rattle.http_front.specs.Served as spec;

@@ -4,7 +4,7 @@ ghost use Rattle.std.specs.Prelude.{◌≡◌, ◌<◌, ◌≤◌, All, IfOk, Is
 ghost use Rattle.std.specs.Option.{ForSome};
 ghost use Rattle.outside.specs.Causes.{Rose};
 ghost use Rattle.cluster_interface.specs.Starting.{KeepsLimits, store_of};
-ghost use Rattle.http_front.specs.Begun.{IsUnasked};
+ghost use Rattle.http_front.specs.Asked.{IsUnasked};
 
 use crate::cluster::{ClusterSize, NotBegun, ServingCluster};
 use crate::stores::give_back;
