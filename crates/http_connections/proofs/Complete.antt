@@ -1,5 +1,5 @@
 -- A link that did not break had everything answered, unless memory ran out.
-use Rattle.std.proofs.Common.{◌≡◌, ◌⊎◌, inl, inr, ℕ, ◌<◌, Bool, true, false, ◌||◌, List, [], ◌∷◌, ◌++◌, map, refl, sym, ap, ◌∙◌, subst, append-nil, arith, Option, Some, None}
+use Rattle.std.proofs.Common.{◌≡◌, ◌⊎◌, inl, inr, ℕ, zero, suc, ◌+◌, ◌<◌, Bool, true, false, ◌||◌, List, [], ◌∷◌, ◌++◌, map, refl, sym, ap, ◌∙◌, subst, append-nil, arith, Option, Some, None}
 use Rattle.std.specs.List.{AllByRecursion, list_any}
 use Rattle.std.specs.Option.{ForSome}
 use Rattle.std.specs.Io.KnownBytes.{append_known}
@@ -9,14 +9,15 @@ use Rattle.outside.specs.Causes.{Rose}
 use Rattle.cluster_rules.specs.Replies.{Reply}
 use Rattle.http_wire.specs.declared.rejection.Rejection.{Rejection}
 use Rattle.serve_outside.specs.Links.{IsNew, LinkState}
+use Rattle.turn_lock.specs.Lists.{Among}
 use Rattle.http_exchanges.specs.declared.cluster.Ask.{Ask}
 use Rattle.http_exchanges.specs.declared.cause.Cause.{Cause}
 use Rattle.http_exchanges.specs.declared.cause.Cause.TheVariants as cause
-use Rattle.http_connections.specs.Complete.{AnswersAll, EndsWell, IsUnbroken}
+use Rattle.http_connections.specs.Complete.{AnswersAll, CameOver, CameOverOne, EndsWell, IsUnbroken, of_broken, of_message}
 use Rattle.http_connections.specs.Tasks.{agent_of}
 use Rattle.http_exchanges.specs.Knowing.{HasLearned, Known}
-use Rattle.http_connections.specs.Runs.{Back, IsBack, IsDrawn, IsServed, turned_of, was_short}
-use Rattle.http_exchanges.specs.Serving.{AreOpen, Closes, EndsBy, Exchange, IsWhole, is_short}
+use Rattle.http_connections.specs.Runs.{Back, IsAskedBy, IsBack, IsDrawn, IsServed, turned_of, was_short}
+use Rattle.http_exchanges.specs.Serving.{AreOpen, Closes, EndsBy, Exchange, IsWhole, asked_numbers, is_short}
 
 -- what was appended to nothing
 appended : (o o' : Option (List ℕ)) (bytes : List ℕ) → ForSome o (λ b. b ≡ []) → o' ≡ append_known o bytes → ForSome o' (λ b. b ≡ bytes)
@@ -33,57 +34,97 @@ appended (Some old) o' bytes none e = λ b is. all b (sym e ∙ is) (none old re
 not_risen : (before now : ℕ) → before ≡ 0 → now ≡ 0 → Rose before now → ⊥
 not_risen before now e f r = omega (arith, e, f, r)
 
-module _ (shows : ℕ → Ask → Reply → List Mark → Type 0) (agrees : Type 0) (agents : ℕ) (draws : Option (List Draw)) (Knows : List Mark → Type 0) (link : LinkState) where
-  whole_of : (first : LinkState) (draw : Draw) (begun known : Known) (requests : ℕ) → Knows known.seen → HasLearned agrees known → IsNew link.number first → IsDrawn draws link.number draw → link.shut ≡ true
-      → (Ends : List Exchange → List ℕ → Type 0) (rejection : Option Rejection) → ((es : List Exchange) (rest : List ℕ) → Ends es rest → EndsWell rejection es rest link.ends)
-      → IsWhole shows agrees (record { agent = agent_of agents link.number; draw = draw; first = first; begun = begun }) Ends rejection link known requests → AnswersAll shows agrees agents draws Knows link
-  whole_of first draw begun known requests seen learned new drawn shut Ends rejection last w =
-      let passed = w.came.passed in record {
-        first = first;
-        draw = draw;
-        begun = begun;
-        known = known;
-        new = new;
-        drawn = drawn;
-        seen = seen;
-        learned = learned;
-        es = w.es;
-        rejection = rejection;
-        stream = w.came.stream;
-        rest = w.rest;
-        heard = appended first.heard link.heard (w.came.stream ++ w.rest) new.nothing_heard passed.heard;
-        gives = w.came.gives;
-        said = subst (λ (z : List ℕ). ForSome link.said (λ b. b ≡ z)) (sym (w.came.due ∙ append-nil w.came.written)) (appended first.said link.said w.came.written new.nothing_said passed.said);
-        are_true = passed.are_true;
-        own = w.own;
-        ends = last w.es w.rest w.ends;
-        shut = shut;
-      }
+-- a link that broke, or did not
+is_broken : (link : LinkState) → IsUnbroken link ⊎ (IsUnbroken link → ⊥)
+is_broken link = by_counts link.read_faults link.write_faults refl refl
+  where
+    by_counts : (r w : ℕ) → link.read_faults ≡ r → link.write_faults ≡ w → IsUnbroken link ⊎ (IsUnbroken link → ⊥)
+    by_counts zero zero e f = inl (e, f)
+    by_counts (suc r) w e f = inr (λ u. let z = u.0 in omega (arith, e, z))
+    by_counts zero (suc w) e f = inr (λ u. let z = u.1 in omega (arith, f, z))
 
-  ended : (why : Cause) (first : LinkState) (draw : Draw) (begun known : Known) (requests : ℕ) → Knows known.seen → (is_short why ≡ false → HasLearned agrees known) → IsNew link.number first → IsDrawn draws link.number draw → link.shut ≡ true
-      → EndsBy shows agrees (record { agent = agent_of agents link.number; draw = draw; first = first; begun = begun }) why link known requests → is_short why ≡ false → IsUnbroken link → AnswersAll shows agrees agents draws Knows link
-  ended cause.Closed first draw begun known requests seen learned new drawn shut w long u = whole_of first draw begun known requests seen (learned long) new drawn shut _ None (λ es rest e. closed es rest e) w
-    where
-      closed : (es : List Exchange) (rest : List ℕ) → ((rest ≡ []) × AreOpen es × Rose first.ends link.ends) ⊎ (Closes es × (link.ends ≡ first.ends)) → ((rest ≡ []) × AreOpen es × (0 < link.ends)) ⊎ (Closes es × (link.ends ≡ 0))
-      closed es rest (inl e) = inl (e.0, e.1, let k = e.2 in omega (arith, k))
-      closed es rest (inr c) = inr (c.0, c.1 ∙ new.no_ends)
-  ended (cause.Refused r) first draw begun known requests seen learned new drawn shut w long u = whole_of first draw begun known requests seen (learned long) new drawn shut _ (Some r) (λ es rest e. e) w
-  ended cause.ReadFault first draw begun known requests seen learned new drawn shut w long u = absurd (not_risen first.read_faults link.read_faults new.no_read_faults u.0 w.ends.2)
-  ended cause.WriteFault first draw begun known requests seen learned new drawn shut w long u = absurd (not_risen first.write_faults link.write_faults new.no_write_faults u.1 w.1)
-  ended cause.Left first draw begun known requests seen learned new drawn shut w long u = absurd (not_risen first.read_faults link.read_faults new.no_read_faults u.0 w.1)
-  ended cause.Memory first draw begun known requests seen learned new drawn shut w long u = absurd (cc long)
+module _ (shows : ℕ → Ask → Reply → List Mark → Type 0) (agrees : Type 0) (agents : ℕ) (draws : Option (List Draw)) (Knows : List Mark → Type 0) where
+  -- everything that came over the link was answered, by a connection that knew this at its end
+  abbrev Answered : LinkState → Known → Type 0
+  Answered link known = (all : AnswersAll shows agrees agents draws Knows link) × (all.known ≡ known)
 
-  answered : (why : Cause) → IsServed shows agrees agents draws Knows link why → is_short why ≡ false → IsUnbroken link → AnswersAll shows agrees agents draws Knows link
-  answered why s long u = ended why s.first s.draw s.begun s.known s.requests s.seen s.learned s.new s.drawn s.shut s.ends long u
+  module _ (link : LinkState) where
+    whole_of : (first : LinkState) (draw : Draw) (begun known : Known) (requests : ℕ) → begun.mine ≡ [] → Knows known.seen → HasLearned agrees known → IsNew link.number first → IsDrawn draws link.number draw → link.shut ≡ true
+        → (Ends : List Exchange → List ℕ → Type 0) (rejection : Option Rejection) → ((es : List Exchange) (rest : List ℕ) → Ends es rest → EndsWell rejection es rest link.ends)
+        → IsWhole shows agrees (record { agent = agent_of agents link.number; draw = draw; first = first; begun = begun }) Ends rejection link known requests → Answered link known
+    whole_of first draw begun known requests unasked seen learned new drawn shut Ends rejection last w =
+        let passed = w.came.passed in (
+          record {
+            first = first;
+            draw = draw;
+            begun = begun;
+            known = known;
+            new = new;
+            drawn = drawn;
+            seen = seen;
+            learned = learned;
+            es = w.es;
+            rejection = rejection;
+            stream = w.came.stream;
+            rest = w.rest;
+            heard = appended first.heard link.heard (w.came.stream ++ w.rest) new.nothing_heard passed.heard;
+            gives = w.came.gives;
+            said = subst (λ (z : List ℕ). ForSome link.said (λ b. b ≡ z)) (sym (w.came.due ∙ append-nil w.came.written)) (appended first.said link.said w.came.written new.nothing_said passed.said);
+            are_true = passed.are_true;
+            unasked = unasked;
+            own = w.own ∙ ap (λ (l : List ℕ). l ++ asked_numbers w.es) unasked;
+            ends = last w.es w.rest w.ends;
+            shut = shut;
+          },
+          refl,
+        )
+
+    ended : (why : Cause) (first : LinkState) (draw : Draw) (begun known : Known) (requests : ℕ) → begun.mine ≡ [] → Knows known.seen → (is_short why ≡ false → HasLearned agrees known) → IsNew link.number first → IsDrawn draws link.number draw → link.shut ≡ true
+        → EndsBy shows agrees (record { agent = agent_of agents link.number; draw = draw; first = first; begun = begun }) why link known requests → is_short why ≡ false → IsUnbroken link → Answered link known
+    ended cause.Closed first draw begun known requests unasked seen learned new drawn shut w long u = whole_of first draw begun known requests unasked seen (learned long) new drawn shut _ None (λ es rest e. closed es rest e) w
+      where
+        closed : (es : List Exchange) (rest : List ℕ) → ((rest ≡ []) × AreOpen es × Rose first.ends link.ends) ⊎ (Closes es × (link.ends ≡ first.ends)) → ((rest ≡ []) × AreOpen es × (0 < link.ends)) ⊎ (Closes es × (link.ends ≡ 0))
+        closed es rest (inl e) = inl (e.0, e.1, let k = e.2 in omega (arith, k))
+        closed es rest (inr c) = inr (c.0, c.1 ∙ new.no_ends)
+    ended (cause.Refused r) first draw begun known requests unasked seen learned new drawn shut w long u = whole_of first draw begun known requests unasked seen (learned long) new drawn shut _ (Some r) (λ es rest e. e) w
+    ended cause.ReadFault first draw begun known requests unasked seen learned new drawn shut w long u = absurd (not_risen first.read_faults link.read_faults new.no_read_faults u.0 w.ends.2)
+    ended cause.WriteFault first draw begun known requests unasked seen learned new drawn shut w long u = absurd (not_risen first.write_faults link.write_faults new.no_write_faults u.1 w.1)
+    ended cause.Left first draw begun known requests unasked seen learned new drawn shut w long u = absurd (not_risen first.read_faults link.read_faults new.no_read_faults u.0 w.1)
+    ended cause.Memory first draw begun known requests unasked seen learned new drawn shut w long u = absurd (cc long)
+
+    answered : (why : Cause) (s : IsServed shows agrees agents draws Knows link why) → is_short why ≡ false → IsUnbroken link → Answered link s.known
+    answered why s long u = ended why s.first s.draw s.begun s.known s.requests s.unasked s.seen s.learned s.new s.drawn s.shut s.ends long u
+
+    -- what its pass opened is what was asked over it
+    came_over : (why : Cause) (s : IsServed shows agrees agents draws Knows link why) (long : is_short why ≡ false) (n : ℕ) → Among n s.known.mine → CameOver shows agrees agents draws Knows link (λ u. (answered why s long u).0) n
+    came_over why s long n own = either (is_broken link)
+      where
+        either : IsUnbroken link ⊎ (IsUnbroken link → ⊥) → CameOver shows agrees agents draws Knows link (λ u. (answered why s long u).0) n
+        either (inl u) = let a = answered why s long u in of_message u (subst (Among n) a.0.own (subst (λ (k : Known). Among n k.mine) (sym a.1) own))
+        either (inr broken) = of_broken broken why s own
 
 neither : (a b : Bool) → (a || b) ≡ false → (a ≡ false) × (b ≡ false)
 neither true b e = absurd (cc e)
 neither false b e = (refl, e)
 
-pub all_answered : (shows : ℕ → Ask → Reply → List Mark → Type 0) (agrees : Type 0) (agents : ℕ) (draws : Option (List Draw)) (Knows : List Mark → Type 0) (links : List Back) → AllByRecursion (IsBack shows agrees agents draws Knows) links → turned_of links ≡ 0 → list_any (λ b. was_short b.1) links ≡ false
-    → AllByRecursion (λ link. IsUnbroken link → AnswersAll shows agrees agents draws Knows link) (map (λ b. b.0) links)
-all_answered shows agrees agents draws Knows [] each none long = tt
-all_answered shows agrees agents draws Knows ((link, None) ∷ bs) each none long = absurd (omega (arith, none))
-all_answered shows agrees agents draws Knows ((link, Some why) ∷ bs) each none long =
-    let two = neither (is_short why) (list_any (λ (b : Back). was_short b.1) bs) long in
-    (answered shows agrees agents draws Knows link why each.0 two.0, all_answered shows agrees agents draws Knows bs each.1 none two.1)
+module _ (shows : ℕ → Ask → Reply → List Mark → Type 0) (agrees : Type 0) (agents : ℕ) (draws : Option (List Draw)) (Knows : List Mark → Type 0) where
+  pub all_answered : (links : List Back) → AllByRecursion (IsBack shows agrees agents draws Knows) links → turned_of links ≡ 0 → list_any (λ b. was_short b.1) links ≡ false
+      → AllByRecursion (λ link. IsUnbroken link → AnswersAll shows agrees agents draws Knows link) (map (λ b. b.0) links)
+  all_answered [] each none long = tt
+  all_answered ((link, None) ∷ bs) each none long = absurd (omega (arith, none))
+  all_answered ((link, Some why) ∷ bs) each none long =
+      let two = neither (is_short why) (list_any (λ (b : Back). was_short b.1) bs) long in
+      ((λ u. (answered shows agrees agents draws Knows link why each.0 two.0 u).0), all_answered bs each.1 none two.1)
+
+  -- what the passes of the links opened came over one of them
+  pub all_came : (links : List Back) (each : AllByRecursion (IsBack shows agrees agents draws Knows) links) (none : turned_of links ≡ 0) (long : list_any (λ b. was_short b.1) links ≡ false) (n : ℕ)
+      → IsAskedBy shows agrees agents draws Knows links each n → CameOverOne shows agrees agents draws Knows (map (λ b. b.0) links) (all_answered links each none long) n
+  unfolding all_answered
+  all_came [] each none long n q = q
+  all_came ((link, None) ∷ bs) each none long n q = absurd (omega (arith, none))
+  all_came ((link, Some why) ∷ bs) each none long n (inl own) =
+      let two = neither (is_short why) (list_any (λ (b : Back). was_short b.1) bs) long in
+      inl (came_over shows agrees agents draws Knows link why each.0 two.0 n own)
+  all_came ((link, Some why) ∷ bs) each none long n (inr q) =
+      let two = neither (is_short why) (list_any (λ (b : Back). was_short b.1) bs) long in
+      inr (all_came bs each.1 none two.1 n q)

@@ -22,7 +22,7 @@ use Rattle.http_exchanges.specs.declared.cause.Cause.{Cause}
 use Rattle.http_exchanges.specs.declared.cause.Cause.TheVariants as cause
 use Rattle.http_connections.specs.Tasks.{AllTasks, agent_of, shares_out}
 use Rattle.http_exchanges.specs.Knowing.{HasLearned, Known}
-use Rattle.http_connections.specs.Runs.{TurnsAway, IsTurnedAway, TurnedAway, Starts, lacking, HasDrawn, IsDrawn, KeepsDraws, IsStarted, IsStartedAs, IsServed, ServesOne, Joins, Back, IsAskedBy, IsBack, Handed, HandsBack, was_short, turned_of, outcome_of}
+use Rattle.http_connections.specs.Runs.{TurnsAway, IsTurnedAway, TurnedAway, Starts, lacking, HasDrawn, IsDrawn, KeepsDraws, IsStarted, IsStartedAs, IsServed, ServesOne, Joins, Back, IsAskedBy, IsAskedOf, IsBack, Handed, HandsBack, was_short, turned_of, outcome_of}
 use Rattle.http_connections.specs.declared.run.Stop.{Stop}
 use Rattle.http_connections.specs.declared.run.Stop.TheVariants as stops
 use Rattle.http_exchanges.specs.declared.job.ServeJob.{ServeJob}
@@ -31,7 +31,7 @@ use Rattle.turn_lock.specs.declared.history.History.{Ghosts}
 use Rattle.turn_lock.specs.declared.lock.HistoryLock.{HistoryLock}
 use Rattle.http_exchanges.specs.Serving.{Connection, EndsBy, is_short}
 use Rattle.http_exchanges.specs.Waiting.{Grows}
-use Rattle.http_exchanges.proofs.MarkLists.{in_left, in_right}
+use Rattle.http_exchanges.proofs.MarkLists.{in_left}
 use Rattle.http_connections.proofs.Tasks.{all_kept, all_last, all_one_more, all_rest, all_swapped, total_more, total_swapped}
 
 pub if_some : {T : Type 0} → (o : Option T) (t : T) (P : T → Type 0) → o ≡ Some t → IfSome o P → P t
@@ -247,22 +247,45 @@ module _ (shows : ℕ → Ask → Reply → List Mark → Type 0) (agrees : Type
           refl,
         )
 
-    asked_left : (xs ys : List Back) (n : ℕ) → IsAskedBy shows agrees agents draws Knows xs n → IsAskedBy shows agrees agents draws Knows (xs ++ ys) n
-    asked_left xs ys n q = (q.0, q.1, in_left (q.0, Some q.1) xs ys q.2, q.3)
+    -- what the passes of links opened
+    ends_left : (xs ys : List (LinkState × Cause)) (a : AllByRecursion (λ l. IsServed shows agrees agents draws Knows l.0 l.1) xs) (b : AllByRecursion (λ l. IsServed shows agrees agents draws Knows l.0 l.1) ys) (n : ℕ)
+        → IsAskedOf shows agrees agents draws Knows xs a n → IsAskedOf shows agrees agents draws Knows (xs ++ ys) (each_more (λ l. IsServed shows agrees agents draws Knows l.0 l.1) xs ys a b) n
+    unfolding each_more
+    ends_left [] ys a b n q = absurd q
+    ends_left (x ∷ xs) ys a b n (inl own) = inl own
+    ends_left (x ∷ xs) ys a b n (inr q) = inr (ends_left xs ys a.1 b n q)
 
-    asked_right : (xs ys : List Back) (n : ℕ) → IsAskedBy shows agrees agents draws Knows ys n → IsAskedBy shows agrees agents draws Knows (xs ++ ys) n
-    asked_right xs ys n q = (q.0, q.1, in_right (q.0, Some q.1) xs ys q.2, q.3)
+    ends_right : (xs ys : List (LinkState × Cause)) (a : AllByRecursion (λ l. IsServed shows agrees agents draws Knows l.0 l.1) xs) (b : AllByRecursion (λ l. IsServed shows agrees agents draws Knows l.0 l.1) ys) (n : ℕ)
+        → IsAskedOf shows agrees agents draws Knows ys b n → IsAskedOf shows agrees agents draws Knows (xs ++ ys) (each_more (λ l. IsServed shows agrees agents draws Knows l.0 l.1) xs ys a b) n
+    unfolding each_more
+    ends_right [] ys a b n q = q
+    ends_right (x ∷ xs) ys a b n q = inr (ends_right xs ys a.1 b n q)
+
+    asked_left : (xs ys : List Back) (a : AllByRecursion (IsBack shows agrees agents draws Knows) xs) (b : AllByRecursion (IsBack shows agrees agents draws Knows) ys) (n : ℕ)
+        → IsAskedBy shows agrees agents draws Knows xs a n → IsAskedBy shows agrees agents draws Knows (xs ++ ys) (each_more (IsBack shows agrees agents draws Knows) xs ys a b) n
+    unfolding each_more
+    asked_left [] ys a b n q = absurd q
+    asked_left ((link, None) ∷ xs) ys a b n q = asked_left xs ys a.1 b n q
+    asked_left ((link, Some why) ∷ xs) ys a b n (inl own) = inl own
+    asked_left ((link, Some why) ∷ xs) ys a b n (inr q) = inr (asked_left xs ys a.1 b n q)
+
+    asked_right : (xs ys : List Back) (a : AllByRecursion (IsBack shows agrees agents draws Knows) xs) (b : AllByRecursion (IsBack shows agrees agents draws Knows) ys) (n : ℕ)
+        → IsAskedBy shows agrees agents draws Knows ys b n → IsAskedBy shows agrees agents draws Knows (xs ++ ys) (each_more (IsBack shows agrees agents draws Knows) xs ys a b) n
+    unfolding each_more
+    asked_right [] ys a b n q = q
+    asked_right ((link, None) ∷ xs) ys a b n q = asked_right xs ys a.1 b n q
+    asked_right ((link, Some why) ∷ xs) ys a b n q = inr (asked_right xs ys a.1 b n q)
 
     -- what tasks that end leave
     pub joins_none : (old : List LinkState) (n : ℕ) (short : Bool) (mine : List ℕ) → Joins shows agrees agents draws Knows old old n n short short mine mine
-    joins_none old n short mine = record { links = []; own = λ k h. inl h; are = sym (append-nil old); each = tt; count = omega arith; short_is = sym (or_false short) }
+    joins_none old n short mine = record { links = []; are = sym (append-nil old); each = tt; own = λ k h. inl h; count = omega arith; short_is = sym (or_false short) }
 
     pub joins_one : (a b : List LinkState) (n m : ℕ) (short one now : Bool) (mine mine' : List ℕ) → m + 1 ≡ n → ServesOne shows agrees agents draws Knows a b one mine mine' → now ≡ (short || one) → Joins shows agrees agents draws Knows a b n m short now mine mine'
     joins_one a b n m short one now mine mine' count x is = record {
       links = (x.link, x.why) ∷ [];
-      own = λ k h. ⊎_elim (λ (old : Among k mine). inl old) (λ (new : Among k x.is.known.mine). inr (x.link, x.why, inl refl, (x.is, new))) (among_append k mine x.is.known.mine (subst (Among k) x.own h));
       are = x.are;
       each = (x.is, tt);
+      own = λ k h. ⊎_elim (λ (old : Among k mine). inl old) (λ (new : Among k x.is.known.mine). inr (inl new)) (among_append k mine x.is.known.mine (subst (Among k) x.own h));
       count = let c = count in omega arith;
       short_is = is ∙ ap (λ b. short || b) (x.short_is ∙ sym (or_false (is_short x.why)));
     }
@@ -271,14 +294,12 @@ module _ (shows : ℕ → Ask → Reply → List Mark → Type 0) (agrees : Type
     joins_on a b c n m o s t u mine mine₁ mine₂ x y =
         let test : LinkState × Cause → Bool = λ l. is_short l.1 in let link : LinkState × Cause → LinkState = λ l. l.0 in record {
           links = x.links ++ y.links;
-          own = λ k h. let both = sym (map-append as_served x.links y.links) in ⊎_elim
-              (λ (mid : Among k mine₁). ⊎_elim (λ (old : Among k mine). inl old)
-              (λ (q : IsAskedBy shows agrees agents draws Knows (map as_served x.links) k). inr (subst (λ (l : List Back). IsAskedBy shows agrees agents draws Knows l k) both (asked_left (map as_served x.links) (map as_served y.links) k q)))
-              (x.own k mid))
-              (λ (q : IsAskedBy shows agrees agents draws Knows (map as_served y.links) k). inr (subst (λ (l : List Back). IsAskedBy shows agrees agents draws Knows l k) both (asked_right (map as_served x.links) (map as_served y.links) k q)))
-              (y.own k h);
           are = y.are ∙ (ap (λ (l : List LinkState). l ++ map link y.links) x.are ∙ (append_assoc a (map link x.links) (map link y.links) ∙ ap (λ (l : List LinkState). a ++ l) (sym (map-append link x.links y.links))));
           each = each_more (λ l. IsServed shows agrees agents draws Knows l.0 l.1) x.links y.links x.each y.each;
+          own = λ k h. ⊎_elim
+              (λ (mid : Among k mine₁). ⊎_elim (λ (old : Among k mine). inl old) (λ (q : IsAskedOf shows agrees agents draws Knows x.links x.each k). inr (ends_left x.links y.links x.each y.each k q)) (x.own k mid))
+              (λ (q : IsAskedOf shows agrees agents draws Knows y.links y.each k). inr (ends_right x.links y.links x.each y.each k q))
+              (y.own k h);
           count = let k = x.count in let j = y.count in let e = length-append x.links y.links in omega arith;
           short_is = y.short_is ∙ (ap (λ b. b || list_any test y.links) x.short_is ∙ (or_assoc s (list_any test x.links) (list_any test y.links) ∙ ap (λ b. s || b) (sym (list_any-append test x.links y.links))));
         }
@@ -292,17 +313,24 @@ module _ (shows : ℕ → Ask → Reply → List Mark → Type 0) (agrees : Type
     served_back [] each = tt
     served_back (l ∷ ls) each = (each.0, served_back ls each.1)
 
+    asked_back : (links : List (LinkState × Cause)) (each : AllByRecursion (λ l. IsServed shows agrees agents draws Knows l.0 l.1) links) (n : ℕ)
+        → IsAskedOf shows agrees agents draws Knows links each n → IsAskedBy shows agrees agents draws Knows (map as_served links) (served_back links each) n
+    unfolding served_back
+    asked_back [] each n q = q
+    asked_back (l ∷ ls) each n (inl own) = inl own
+    asked_back (l ∷ ls) each n (inr q) = inr (asked_back ls each.1 n q)
+
     pub handed_none : (old : List LinkState) (f n t : ℕ) (s : Bool) (mine : List ℕ) → n ≡ 0 → t ≡ 0 → s ≡ false → mine ≡ [] → Handed shows agrees agents draws Knows old old f f n t s mine
-    handed_none old f n t s mine none empty long unasked = record { links = []; own = λ k h. absurd (subst (Among k) unasked h); are = sym (append-nil old); each = tt; count = omega (arith, empty, none); few = omega arith; short_is = long }
+    handed_none old f n t s mine none empty long unasked = record { links = []; are = sym (append-nil old); each = tt; own = λ k h. absurd (subst (Among k) unasked h); count = omega (arith, empty, none); few = omega arith; short_is = long }
 
     pub handed_starts : (a b c : List LinkState) (f g h n m t s : ℕ) (short : Bool) (r : Result Unit Stop) (mine mine' : List ℕ) → mine' ≡ mine → Handed shows agrees agents draws Knows a b f g n t short mine → Starts b c g h n m t s r → Handed shows agrees agents draws Knows a c f (h + lacking r) m s short mine'
     handed_starts a b c f g h n m t s short r mine mine' same x y =
         let turned = y.away.links in record {
           links = x.links ++ map as_turned turned;
-          own = λ k q. asked_left x.links (map as_turned turned) k (x.own k (subst (Among k) same q));
           are = y.away.are ∙ (ap (λ (l : List LinkState). l ++ turned) x.are ∙ (append_assoc a (map link_of x.links) turned
               ∙ ap (λ (l : List LinkState). a ++ l) (ap (λ (l : List LinkState). map link_of x.links ++ l) (turned_links turned) ∙ sym (map-append link_of x.links (map as_turned turned)))));
           each = each_more (IsBack shows agrees agents draws Knows) x.links (map as_turned turned) x.each (turned_back turned y.away.each);
+          own = λ k q. asked_left x.links (map as_turned turned) x.each (turned_back turned y.away.each) k (x.own k (subst (Among k) same q));
           count = let k = x.count in let j = y.count in let i = y.away.count_is in let e = length-append x.links (map as_turned turned) in let d = length-map turned as_turned in omega arith;
           few = let k = x.few in let j = y.away.few in let i = y.away.count_is in let e = turned_more x.links (map as_turned turned) in let d = turned_all turned in omega arith;
           short_is = x.short_is ∙ (sym (or_false (list_any short_of x.links)) ∙ (ap (λ b. list_any short_of x.links || b) (sym (turned_long turned)) ∙ sym (list_any-append short_of x.links (map as_turned turned))));
@@ -315,10 +343,13 @@ module _ (shows : ℕ → Ask → Reply → List Mark → Type 0) (agrees : Type
     handed_joins a b c f g n t s short short' mine mine' x y =
         let served = y.links in record {
           links = x.links ++ map as_served served;
-          own = λ k h. ⊎_elim (λ (old : Among k mine). asked_left x.links (map as_served served) k (x.own k old)) (λ (new : IsAskedBy shows agrees agents draws Knows (map as_served served) k). asked_right x.links (map as_served served) k new) (y.own k h);
           are = y.are ∙ (ap (λ (l : List LinkState). l ++ map (λ l. l.0) served) x.are ∙ (append_assoc a (map link_of x.links) (map (λ l. l.0) served)
               ∙ ap (λ (l : List LinkState). a ++ l) (ap (λ (l : List LinkState). map link_of x.links ++ l) (served_links served) ∙ sym (map-append link_of x.links (map as_served served)))));
           each = each_more (IsBack shows agrees agents draws Knows) x.links (map as_served served) x.each (served_back served y.each);
+          own = λ k h. ⊎_elim
+              (λ (old : Among k mine). asked_left x.links (map as_served served) x.each (served_back served y.each) k (x.own k old))
+              (λ (new : IsAskedOf shows agrees agents draws Knows served y.each k). asked_right x.links (map as_served served) x.each (served_back served y.each) k (asked_back served y.each k new))
+              (y.own k h);
           count = let k = x.count in let j = y.count in let e = length-append x.links (map as_served served) in let d = length-map served as_served in omega arith;
           few = let k = x.few in let e = turned_more x.links (map as_served served) in let d = turned_none_of served in omega arith;
           short_is = y.short_is ∙ (ap (λ b. b || list_any (λ (l : LinkState × Cause). is_short l.1) served) x.short_is ∙ (ap (λ b. list_any short_of x.links || b) (served_short served) ∙ sym (list_any-append short_of x.links (map as_served served))));
@@ -328,7 +359,7 @@ module _ (shows : ℕ → Ask → Reply → List Mark → Type 0) (agrees : Type
     hands_back a c f g n n' t r r' short mine asked whole x none same is = subst (λ (z : Result Unit Stop). HandsBack shows agrees agents draws Knows a c f g n' asked z) (sym is) (record {
       lacked = lacking r;
       short = short;
-      all = record { links = x.links; own = λ k h. x.own k (whole k h); are = x.are; each = x.each; count = let k = x.count in omega arith; few = x.few; short_is = x.short_is };
+      all = record { links = x.links; are = x.are; each = x.each; own = λ k h. x.own k (whole k h); count = let k = x.count in omega arith; few = x.few; short_is = x.short_is };
       most = lacks_one r;
       well = is_well r short;
       lack = is_lack r short;
@@ -352,14 +383,8 @@ module _ (shows : ℕ → Ask → Reply → List Mark → Type 0) (agrees : Type
 
 -- what was seen may be known in another way, and more may have been drawn
 module _ (shows : ℕ → Ask → Reply → List Mark → Type 0) (agrees : Type 0) (agents : ℕ) (draws draws' : Option (List Draw)) (drawn : KeepsDraws draws draws') (Knows Knows' : List Mark → Type 0) (knows : (seen : List Mark) → Knows seen → Knows' seen) where
-  served_later_as : (link : LinkState) (why : Cause) (i : IsServed shows agrees agents draws Knows link why) → (is : IsServed shows agrees agents draws' Knows' link why) × (is.known ≡ i.known)
-  served_later_as link why i = (record { first = i.first; draw = i.draw; begun = i.begun; known = i.known; unasked = i.unasked; requests = i.requests; seen = knows i.known.seen i.seen; learned = i.learned; new = i.new; drawn = drawn link.number i.draw i.drawn; ends = i.ends; shut = i.shut }, refl)
-
   served_later : (link : LinkState) (why : Cause) → IsServed shows agrees agents draws Knows link why → IsServed shows agrees agents draws' Knows' link why
-  served_later link why i = (served_later_as link why i).0
-
-  asked_later : (links : List Back) (n : ℕ) → IsAskedBy shows agrees agents draws Knows links n → IsAskedBy shows agrees agents draws' Knows' links n
-  asked_later links n q = let i = q.3.0 in let s = served_later_as q.0 q.1 i in (q.0, q.1, q.2, (s.0, subst (λ (k : Known). Among n k.mine) (sym s.1) q.3.1))
+  served_later link why i = record { first = i.first; draw = i.draw; begun = i.begun; known = i.known; unasked = i.unasked; requests = i.requests; seen = knows i.known.seen i.seen; learned = i.learned; new = i.new; drawn = drawn link.number i.draw i.drawn; ends = i.ends; shut = i.shut }
 
   back_later : (b : Back) → IsBack shows agrees agents draws Knows b → IsBack shows agrees agents draws' Knows' b
   back_later (link, None) is = is
@@ -373,11 +398,32 @@ module _ (shows : ℕ → Ask → Reply → List Mark → Type 0) (agrees : Type
   ends_later [] each = tt
   ends_later (l ∷ ls) each = (served_later l.0 l.1 each.0, ends_later ls each.1)
 
+  -- and each opened what it had opened
+  asked_later : (links : List Back) (each : AllByRecursion (IsBack shows agrees agents draws Knows) links) (n : ℕ) → IsAskedBy shows agrees agents draws Knows links each n → IsAskedBy shows agrees agents draws' Knows' links (backs_later links each) n
+  unfolding backs_later back_later served_later
+  asked_later [] each n q = q
+  asked_later ((link, None) ∷ bs) each n q = asked_later bs each.1 n q
+  asked_later ((link, Some why) ∷ bs) each n (inl own) = inl own
+  asked_later ((link, Some why) ∷ bs) each n (inr q) = inr (asked_later bs each.1 n q)
+
+  ends_asked_later : (links : List (LinkState × Cause)) (each : AllByRecursion (λ l. IsServed shows agrees agents draws Knows l.0 l.1) links) (n : ℕ) → IsAskedOf shows agrees agents draws Knows links each n → IsAskedOf shows agrees agents draws' Knows' links (ends_later links each) n
+  unfolding ends_later served_later
+  ends_asked_later [] each n q = q
+  ends_asked_later (l ∷ ls) each n (inl own) = inl own
+  ends_asked_later (l ∷ ls) each n (inr q) = inr (ends_asked_later ls each.1 n q)
+
   pub handed_later : (a b : List LinkState) (f g n t : ℕ) (short : Bool) (mine : List ℕ) → Handed shows agrees agents draws Knows a b f g n t short mine → Handed shows agrees agents draws' Knows' a b f g n t short mine
-  handed_later a b f g n t short mine x = record { links = x.links; own = λ k h. asked_later x.links k (x.own k h); are = x.are; each = backs_later x.links x.each; count = x.count; few = x.few; short_is = x.short_is }
+  handed_later a b f g n t short mine x = record { links = x.links; are = x.are; each = backs_later x.links x.each; own = λ k h. asked_later x.links x.each k (x.own k h); count = x.count; few = x.few; short_is = x.short_is }
 
   pub joins_later : (a b : List LinkState) (n m : ℕ) (s t : Bool) (mine mine' : List ℕ) → Joins shows agrees agents draws Knows a b n m s t mine mine' → Joins shows agrees agents draws' Knows' a b n m s t mine mine'
-  joins_later a b n m s t mine mine' x = record { links = x.links; own = λ k h. ⊎_elim (λ (old : Among k mine). inl old) (λ (q : IsAskedBy shows agrees agents draws Knows (map as_served x.links) k). inr (asked_later (map as_served x.links) k q)) (x.own k h); are = x.are; each = ends_later x.links x.each; count = x.count; short_is = x.short_is }
+  joins_later a b n m s t mine mine' x = record {
+    links = x.links;
+    are = x.are;
+    each = ends_later x.links x.each;
+    own = λ k h. ⊎_elim (λ (old : Among k mine). inl old) (λ (q : IsAskedOf shows agrees agents draws Knows x.links x.each k). inr (ends_asked_later x.links x.each k q)) (x.own k h);
+    count = x.count;
+    short_is = x.short_is;
+  }
 
 -- shares of two passes that fit into the numbers are added up
 pub pooled_all : (n m : ℕ) → n + m ≤ all_shares → pooled n m ≡ n + m

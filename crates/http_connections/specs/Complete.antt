@@ -1,5 +1,6 @@
 -- Completeness of a connection: what comes of a link that did not break.
 use Rattle.std.specs.Prelude.{◌≡◌, ◌⊎◌, ℕ, ◌<◌, true, List, [], ◌++◌, Option, Some, None}
+use Rattle.std.specs.List.{AllByRecursion}
 use Rattle.std.specs.Option.{ForSome}
 use Rattle.cat_model.specs.declared.request.Draw.{Draw}
 use Rattle.cat_model.specs.declared.reply.Mark.{Mark}
@@ -7,10 +8,12 @@ use Rattle.cluster_rules.specs.Replies.{Reply}
 use Rattle.http_wire.specs.declared.rejection.Rejection.{Rejection}
 use Rattle.http_wire.specs.State.{GivesAll}
 use Rattle.serve_outside.specs.Links.{IsNew, LinkState}
+use Rattle.turn_lock.specs.Lists.{Among}
 use Rattle.http_exchanges.specs.declared.cluster.Ask.{Ask}
+use Rattle.http_exchanges.specs.declared.cause.Cause.{Cause}
 use Rattle.http_connections.specs.Tasks.{agent_of}
 use Rattle.http_exchanges.specs.Knowing.{HasLearned, Known}
-use Rattle.http_connections.specs.Runs.{IsDrawn}
+use Rattle.http_connections.specs.Runs.{IsDrawn, IsServed}
 use Rattle.http_exchanges.specs.Serving.{AreOpen, AreTrue, Closes, Exchange, asked_numbers, bytes_of, items_of, last_bytes}
 
 -- no read and no write of the link failed since it came
@@ -44,6 +47,19 @@ pub record AnswersAll (shows : ℕ → Ask → Reply → List Mark → Type 0) (
   pub gives : GivesAll stream (items_of es) rejection
   pub said : ForSome link.said (λ bytes. bytes ≡ bytes_of es ++ last_bytes rejection)
   pub are_true : AreTrue shows agrees (record { agent = agent_of agents link.number; draw = draw; first = first; begun = begun }) es known
-  pub own : known.mine ≡ begun.mine ++ asked_numbers es
+  pub unasked : begun.mine ≡ []
+  pub own : known.mine ≡ asked_numbers es
   pub ends : EndsWell rejection es rest link.ends
   pub shut : link.shut ≡ true
+
+module _ (shows : ℕ → Ask → Reply → List Mark → Type 0) (agrees : Type 0) (agents : ℕ) (draws : Option (List Draw)) (Knows : List Mark → Type 0) where
+  -- The request of this number came over the link. Where the link did not break it is one of the messages that were
+  -- answered, and else its pass asked it, as far as it was served.
+  pub data CameOver (link : LinkState) (answered : IsUnbroken link → AnswersAll shows agrees agents draws Knows link) (n : ℕ) : Type 0 where
+    of_message : (unbroken : IsUnbroken link) → Among n (asked_numbers (answered unbroken).es) → CameOver link answered n
+    of_broken : (IsUnbroken link → ⊥) → (why : Cause) (is : IsServed shows agrees agents draws Knows link why) → Among n is.known.mine → CameOver link answered n
+
+  -- the request of this number came over one of these links
+  abbrev pub CameOverOne : (links : List LinkState) → AllByRecursion (λ link. IsUnbroken link → AnswersAll shows agrees agents draws Knows link) links → ℕ → Type 0
+  CameOverOne [] each n = ⊥
+  CameOverOne (link ∷ links) each n = CameOver link each.0 n ⊎ CameOverOne links each.1 n

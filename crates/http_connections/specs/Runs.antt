@@ -7,7 +7,6 @@ use Rattle.cat_model.specs.declared.request.Draw.{Draw}
 use Rattle.cat_model.specs.declared.reply.Mark.{Mark}
 use Rattle.cat_model.specs.declared.reply.Refusal.TheVariants.{NoWorker}
 use Rattle.cluster_rules.specs.Replies.{Reply}
-use Rattle.cluster_rules.specs.Sound.{IsAmong}
 use Rattle.crossbeam_utils.specs.declared.cache_padded.CachePadded.{CachePadded}
 use Rattle.crossbeam_utils.specs.Padded.{padded_value}
 use Rattle.serve_outside.specs.Links.{LinkState, IsNew}
@@ -138,9 +137,10 @@ module _ (shows : ℕ → Ask → Reply → List Mark → Type 0) (agrees : Type
     pub ends : EndsBy shows agrees (record { agent = agent_of agents link.number; draw = draw; first = first; begun = begun }) why link known requests
     pub shut : link.shut ≡ true
 
-  -- one of these links was served, and the number is among those that its pass opened
-  abbrev pub IsAskedBy : List Back → ℕ → Type 0
-  IsAskedBy links n = (link : LinkState) × (why : Cause) × IsAmong (link, Some why) links × ((is : IsServed link why) × Among n is.known.mine)
+  -- the pass of one of these links opened the number
+  abbrev pub IsAskedOf : (links : List (LinkState × Cause)) → AllByRecursion (λ l. IsServed l.0 l.1) links → ℕ → Type 0
+  IsAskedOf [] each n = ⊥
+  IsAskedOf (l ∷ links) each n = Among n each.0.known.mine ⊎ IsAskedOf links each.1 n
 
   -- One link more was served and handed back; `short` tells whether it ended for lack of memory. `mine` and `mine'` are the
   -- numbers of the pass that took its pass back, before and after.
@@ -156,9 +156,9 @@ module _ (shows : ℕ → Ask → Reply → List Mark → Type 0) (agrees : Type
   -- ended for lack of memory. Each number that the pass which took their passes back has more is one of theirs.
   pub record Joins (old new : List LinkState) (tasks tasks' : ℕ) (short short' : Bool) (mine mine' : List ℕ) : Type 0 where
     pub links : List (LinkState × Cause)
-    pub own : (n : ℕ) → Among n mine' → Among n mine ⊎ IsAskedBy (map (λ (l : LinkState × Cause). (l.0, Some l.1)) links) n
     pub are : new ≡ old ++ map (λ l. l.0) links
     pub each : AllByRecursion (λ l. IsServed l.0 l.1) links
+    pub own : (n : ℕ) → Among n mine' → Among n mine ⊎ IsAskedOf links each n
     pub count : length links + tasks' ≡ tasks
     pub short_is : short' ≡ (short || list_any (λ l. is_short l.1) links)
 
@@ -172,14 +172,20 @@ module _ (shows : ℕ → Ask → Reply → List Mark → Type 0) (agrees : Type
   HaveRead list ((link, None) ∷ links) each = HaveRead list links each.1
   HaveRead list ((link, Some why) ∷ links) each = (is_short why ≡ false → IsPrefix each.0.known.read list) × HaveRead list links each.1
 
+  -- one of these links was served, and its pass opened the number
+  abbrev pub IsAskedBy : (links : List Back) → AllByRecursion IsBack links → ℕ → Type 0
+  IsAskedBy [] each n = ⊥
+  IsAskedBy ((link, None) ∷ links) each n = IsAskedBy links each.1 n
+  IsAskedBy ((link, Some why) ∷ links) each n = Among n each.0.known.mine ⊎ IsAskedBy links each.1 n
+
   -- So many links were given since: each was handed back, or has one of so many tasks. At least as many faults of the
   -- spawner were counted as links were turned away, and `short` tells whether one of the others ended for lack of memory.
   -- Each of the numbers `asked` is one of theirs.
   pub record Handed (old new : List LinkState) (faults faults' given tasks : ℕ) (short : Bool) (asked : List ℕ) : Type 0 where
     pub links : List Back
-    pub own : (n : ℕ) → Among n asked → IsAskedBy links n
     pub are : new ≡ old ++ map (λ b. b.0) links
     pub each : AllByRecursion IsBack links
+    pub own : (n : ℕ) → Among n asked → IsAskedBy links each n
     pub count : length links + tasks ≡ given
     pub few : min (faults + turned_of links) (2 ^ 64 - 1) ≤ faults'
     pub short_is : short ≡ list_any (λ b. was_short b.1) links

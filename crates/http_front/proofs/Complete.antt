@@ -8,9 +8,9 @@ use Rattle.outside.specs.Causes.{Rose}
 use Rattle.datagram_outside.specs.Ports.{PortState}
 use Rattle.script_player.specs.declared.report.Report.{Report}
 use Rattle.cluster_rules.specs.Reached.{MayBegin}
-use Rattle.turn_lock.specs.Lists.{IsFront}
+use Rattle.turn_lock.specs.Lists.{Among, IsFront}
 use Rattle.http_connections.specs.Runs.{Back, turned_of}
-use Rattle.http_connections.proofs.Complete.{all_answered}
+use Rattle.http_connections.proofs.Complete.{all_answered, all_came}
 use Rattle.http_front.specs.Shown.{ShowsOver}
 use Rattle.http_front.specs.declared.stop.Stop.{Stop}
 use Rattle.http_front.specs.declared.stop.Stop.TheVariants as stop
@@ -34,6 +34,7 @@ done : (run : Run) → IsFaultless run → (report : Report) → run.ended ≡ O
 done run f report e s =
     let b = s.run.links in let links = b.all.links in
     let none = none_turned run.spawns run.spawns' b.lacked (turned_of links) f.spawner b.well.0 b.all.few in
+    let long = sym b.all.short_is ∙ b.well.1 in
     record {
       report = report;
       ended = e;
@@ -45,7 +46,8 @@ done run f report e s =
       links = map (λ l. l.0) links;
       back = b.all.are;
       count = length-map links (λ (l : Back). l.0) ∙ ((let k = b.all.count in let g : length links ≡ run.given = omega (arith, k) in g) ∙ s.run.count);
-      answered = all_answered (ShowsOver s.size.stores) (MayBegin s.size.stores) s.size.agents run.draws (λ seen. IsFront seen (reverse s.run.reached.past)) links b.all.each none (sym b.all.short_is ∙ b.well.1);
+      answered = all_answered (ShowsOver s.size.stores) (MayBegin s.size.stores) s.size.agents run.draws (λ seen. IsFront seen (reverse s.run.reached.past)) links b.all.each none long;
+      asked = λ n a. all_came (ShowsOver s.size.stores) (MayBegin s.size.stores) s.size.agents run.draws (λ seen. IsFront seen (reverse s.run.reached.past)) links b.all.each none long n (b.all.own n a);
       names = names_answered run.options.dns (MayBegin s.size.stores) (commands_of s.run.reached.world.agreed) run.spawns run.spawns' run.ports run.ports' f.spawner s.run.names;
     }
 

@@ -9,8 +9,9 @@ use Rattle.outside.specs.Causes.{Rose}
 use Rattle.cluster_rules.specs.Replies.{Reply}
 use Rattle.datagram_outside.specs.Ports.{IsNew, PortState}
 use Rattle.serve_outside.specs.Links.{LinkState}
-use Rattle.turn_lock.specs.Lists.{IsFront}
+use Rattle.turn_lock.specs.Lists.{IsFront, numbers}
 use Rattle.http_exchanges.specs.declared.cluster.Ask.{Ask}
+use Rattle.http_exchanges.specs.Marks.{opens}
 use Rattle.http_connections.specs.declared.run.Stop as loop
 use Rattle.http_connections.specs.Runs.{HandsBack, most_of}
 use Rattle.http_front.specs.declared.names.Answering.{Answering}
@@ -103,7 +104,7 @@ names_agreed (Some dns) agrees a b spawns spawns' ports ports' same (first, port
 
 -- The spawner had counted a job that could not be started before the connections.
 module _ (shows : ℕ → Ask → Reply → List Mark → Type 0) (agrees : Type 0) (agents : ℕ) (draws : Option (List Draw)) (old new : List LinkState) (spawns mid spawns' given : ℕ) (before : spawns ≤ mid) (marks : List Mark) (ended : Result Unit loop.Stop) where
-  pub from_before : HandsBack shows agrees agents draws (λ seen. IsFront seen marks) old new mid spawns' given ended → HandsBack shows agrees agents draws (λ seen. IsFront seen marks) old new spawns spawns' given ended
+  pub from_before : HandsBack shows agrees agents draws (λ seen. IsFront seen marks) old new mid spawns' given (numbers opens marks) ended → HandsBack shows agrees agents draws (λ seen. IsFront seen marks) old new spawns spawns' given (numbers opens marks) ended
   from_before h = record {
     lacked = h.lacked;
     short = h.short;
@@ -111,6 +112,7 @@ module _ (shows : ℕ → Ask → Reply → List Mark → Type 0) (agrees : Type
       links = h.all.links;
       are = h.all.are;
       each = h.all.each;
+      own = h.all.own;
       count = h.all.count;
       few = (let few = h.all.few in omega (arith, before, few));
       short_is = h.all.short_is;
@@ -120,12 +122,12 @@ module _ (shows : ℕ → Ask → Reply → List Mark → Type 0) (agrees : Type
     lack = h.lack;
   }
 
-  pub from_same : (marks' : List Mark) → marks' ≡ marks → HandsBack shows agrees agents draws (λ seen. IsFront seen marks) old new mid spawns' given ended → HandsBack shows agrees agents draws (λ seen. IsFront seen marks') old new spawns spawns' given ended
-  from_same marks' same h = subst (λ (l : List Mark). HandsBack shows agrees agents draws (λ seen. IsFront seen l) old new spawns spawns' given ended) (sym same) (from_before h)
+  pub from_same : (marks' : List Mark) → marks' ≡ marks → HandsBack shows agrees agents draws (λ seen. IsFront seen marks) old new mid spawns' given (numbers opens marks) ended → HandsBack shows agrees agents draws (λ seen. IsFront seen marks') old new spawns spawns' given (numbers opens marks') ended
+  from_same marks' same h = subst (λ (l : List Mark). HandsBack shows agrees agents draws (λ seen. IsFront seen l) old new spawns spawns' given (numbers opens l) ended) (sym same) (from_before h)
 
-  well_before : (r : Result Unit loop.Stop) → HandsBack shows agrees agents draws (λ seen. IsFront seen marks) old new mid spawns' given r → r ≡ Ok tt → Rose spawns mid → Rose spawns spawns'
+  well_before : (r : Result Unit loop.Stop) → HandsBack shows agrees agents draws (λ seen. IsFront seen marks) old new mid spawns' given (numbers opens marks) r → r ≡ Ok tt → Rose spawns mid → Rose spawns spawns'
   well_before (Ok done) h well rose = let none = h.well.0 in let few = h.all.few in omega (arith, rose, none, few)
   well_before (Err why) h well rose = absurd (cc well)
 
-  pub rose_before : HandsBack shows agrees agents draws (λ seen. IsFront seen marks) old new mid spawns' given ended → ended ≡ Ok tt → Rose spawns mid → Rose spawns spawns'
+  pub rose_before : HandsBack shows agrees agents draws (λ seen. IsFront seen marks) old new mid spawns' given (numbers opens marks) ended → ended ≡ Ok tt → Rose spawns mid → Rose spawns spawns'
   rose_before h = well_before ended h

@@ -40,6 +40,7 @@ use Rattle.http_exchanges.proofs.MarkLists.{append_none, in_right, joined, none_
 use Rattle.run_rules.specs.Keeping.{Keeps}
 use Rattle.run_rules.specs.Serving.{Serves, Size}
 use Rattle.run_rules.proofs.Keeping.{step_keeps}
+use Rattle.http_front.specs.Asked.{IsUnasked}
 use Rattle.http_front.specs.Shared.{IsOpen, Sifts, shared_of}
 use Rattle.http_front.specs.Ticks.{Ticked, TicksOne, TicksOnly, TicksUpTo, others, tick_of}
 use Rattle.run_rules.proofs.Serving.{agent_ticked_on, asked_on, elected, handed_on, is_booked, is_sound, none_closed, partly_on, settled_on, taken_on, ticked_on}
@@ -387,6 +388,20 @@ first_serves size c c' first count fits step = elected size c c' true first coun
 
 pub begun_serves : (given size : Size) (most : ℕ) (c c' : Cluster) (pairs : ℕ) → given ≡ size → Serves given c → SettlesTo most c c' pairs → Serves size c'
 begun_serves given size most c c' pairs e s (mid, all, is, few, stops) = subst (λ n. Serves n c') e (settled_on given pairs c mid c' s all is)
+
+-- nothing was asked before, and nothing is asked by what is quiet
+still_unasked : (old new : List Mark) → numbers opens old ≡ [] → AddsQuiet old new → numbers opens new ≡ []
+still_unasked old new none q = ap (λ (l : List Mark). numbers opens l) q.are ∙ (none_append opens old q.rest none ∙ q.opens_none)
+
+plain_election : (c : Cluster) (s : ℕ) → IsPlain (event.Timeout s) c
+plain_election c s = record { past = refl; silent = record { opens_none = refl; takes_none = refl } }
+
+pub first_unasked : (stores : List Store) (c c' : Cluster) → IsBegun stores c → ClusterStep c (event.Timeout 1) c' true → IsUnasked c'
+first_unasked stores c c' first step =
+    still_unasked (marks c) (marks c') (subst (λ (z : Cluster). numbers opens (marks z) ≡ []) (sym first.is) refl) (plain_step c c' (event.Timeout 1) true (plain_election c 1) step)
+
+pub begun_unasked : (most : ℕ) (c c' : Cluster) (pairs : ℕ) → IsUnasked c → SettlesTo most c c' pairs → IsUnasked c'
+begun_unasked most c c' pairs none whole = still_unasked (marks c) (marks c') none (settles most c c' (Ok pairs) whole tt)
 
 pub kept : (size : Size) (c : Cluster) → Serves size c → AreKept (marks c)
 kept size c s = are_kept c.past (booked_kept c (is_booked size c s))

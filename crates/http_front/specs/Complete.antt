@@ -11,10 +11,11 @@ use Rattle.cluster_rules.specs.Reached.{MayBegin}
 use Rattle.script_player.specs.declared.report.Report.{Report}
 use Rattle.serve_outside.specs.Links.{LinkState}
 use Rattle.serve_outside.specs.Stores.{AddsMade, Made, made_from}
-use Rattle.turn_lock.specs.Lists.{IsFront}
-use Rattle.http_connections.specs.Complete.{AnswersAll, IsUnbroken}
+use Rattle.turn_lock.specs.Lists.{Among, IsFront}
+use Rattle.http_connections.specs.Complete.{AnswersAll, CameOverOne, IsUnbroken}
 use Rattle.http_connections.specs.Runs.{most_of}
 use Rattle.run_rules.specs.Serving.{Serves, Size}
+use Rattle.http_front.specs.Asked.{asked_in}
 use Rattle.http_front.specs.Shown.{ShowsOver}
 use Rattle.http_front.specs.declared.options.Dns.{Dns}
 use Rattle.http_front.specs.declared.options.Options.{Options}
@@ -72,8 +73,8 @@ NamesAnswered (Some dns) agrees agreed ports ports' =
     (first : PortState) × (port : PortState) × IsNew first × ClosesOne ports ports' port × IsAnswered agrees agreed (most_of dns.packets) first port
 
 -- The server is done: as many links as were asked for came back, and everything that came over each of them that did not
--- break was answered, over the one log of a cluster over just those stores that were made for it. So were the packets of
--- its port of names.
+-- break was answered, over the one log of a cluster over just those stores that were made for it. Nothing was asked of
+-- that cluster but the messages of these links. The packets of its port of names were answered too.
 pub record IsComplete (run : Run) : Type 0 where
   pub report : Report
   pub ended : run.ended ≡ Ok report
@@ -86,4 +87,5 @@ pub record IsComplete (run : Run) : Type 0 where
   pub back : run.closed' ≡ run.closed ++ links
   pub count : length links ≡ most_of run.options.connections
   pub answered : AllByRecursion (λ link. IsUnbroken link → AnswersAll (ShowsOver size.stores) (MayBegin size.stores) size.agents run.draws (λ seen. IsFront seen (reverse reached.past)) link) links
+  pub asked : (n : ℕ) → Among n (asked_in reached) → CameOverOne (ShowsOver size.stores) (MayBegin size.stores) size.agents run.draws (λ seen. IsFront seen (reverse reached.past)) links answered n
   pub names : NamesAnswered run.options.dns (MayBegin size.stores) (commands_of reached.world.agreed) run.ports run.ports'

@@ -2,6 +2,7 @@ pub mod Options
 pub mod Text
 pub mod Stores
 pub mod Names
+pub mod Asked
 pub mod Served
 pub mod Complete
 pub mod Begun

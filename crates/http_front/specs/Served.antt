@@ -20,6 +20,7 @@ use Rattle.http_connections.specs.declared.run.Stop as loop
 use Rattle.http_connections.specs.Runs.{HandsBack, HaveRead, most_of}
 use Rattle.run_rules.specs.Serving.{Size, Serves}
 use Rattle.run_rules.specs.Holding.{Holds}
+use Rattle.http_front.specs.Asked.{asked_in}
 use Rattle.http_front.specs.Shown.{ShowsOver}
 use Rattle.http_front.specs.declared.options.Options.{Options}
 use Rattle.http_front.specs.Names.{NamesServed}
@@ -33,10 +34,11 @@ pub record Fits (options : Options) (size : Size) : Type 0 where
   pub agents : size.agents ≡ options.agents
   pub empty : options.folder ≡ None → AreEmpty size.stores × AreSure size.stores
 
--- Each connection that was given came back: it was served over this cluster's one log, or turned away.
+-- Each connection that was given came back: it was served over this cluster's one log, or turned away. Each request that
+-- was asked of the cluster was asked by one of them.
 abbrev pub Serve : Size → Option (List Draw) → Cluster → List LinkState → List LinkState → ℕ → ℕ → ℕ → Result Unit loop.Stop → Type 0
 Serve size draws c closed closed' faults faults' given result =
-    HandsBack (ShowsOver size.stores) (MayBegin size.stores) size.agents draws (λ seen. IsFront seen (reverse c.past)) closed closed' faults faults' given result
+    HandsBack (ShowsOver size.stores) (MayBegin size.stores) size.agents draws (λ seen. IsFront seen (reverse c.past)) closed closed' faults faults' given (asked_in c) result
 
 -- So many connections were served at the port as asked, by a cluster of this size, of which all that must holds if its
 -- stores were empty or such as an earlier run of as many servers left, and this is reported of it. Then too all lists over

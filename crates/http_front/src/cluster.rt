@@ -3,6 +3,7 @@
 ghost use Rattle.std.specs.Prelude.{◌≡◌, ◌<◌, ◌≤◌, All, IfErr, IfOk, [], length, map};
 ghost use Rattle.std.specs.Option.{ForSome};
 ghost use Rattle.cluster_interface.specs.Starting.{KeepsLimits, store_of};
+ghost use Rattle.http_front.specs.Asked.{IsUnasked};
 ghost use Rattle.http_front.specs.Begun.{HasCause};
 ghost use Rattle.run_rules.specs.Serving.{Serves, Size};
 
@@ -61,6 +62,7 @@ fn elected<S: ClusterInterface>(
     requires unarmed { All (λ k. S.K.armed k ≡ 0) keepers }
     requires limits { All (λ k. ForSome (S.K.held k) KeepsLimits) keepers }
     ensures serves { IfOk result (λ c. Serves (record { stores = map (λ k. store_of (S.K.held k) (S.K.armed k) (S.K.faults k) (S.K.sure k)) keepers; agents = agents }) (S.state c)) }
+    ensures unasked { IfOk result (λ c. IsUnasked (S.state c)) }
     ensures cause { IfErr result (HasCause (λ k. S.K.faults k) keepers) }
 {
     let mut cluster = match S::start(alloc, keepers, agents) {
@@ -76,7 +78,7 @@ fn elected<S: ClusterInterface>(
 
 impl<J: ClusterSize, S: ClusterInterface> ServingCluster<J, S> {
     /// A server for each of these stores, which begins with what its store holds, and so many agents: server 1 has stood
-    /// for election, and at most so many messages were delivered.
+    /// for election, and at most so many messages were delivered. No request was asked.
     pub fn begin(
         alloc: Global,
         keepers: List<S::K>,
@@ -89,6 +91,7 @@ impl<J: ClusterSize, S: ClusterInterface> ServingCluster<J, S> {
         requires unarmed { All (λ k. S.K.armed k ≡ 0) keepers }
         requires limits { All (λ k. ForSome (S.K.held k) KeepsLimits) keepers }
         requires size { J.size ≡ record { stores = map (λ k. store_of (S.K.held k) (S.K.armed k) (S.K.faults k) (S.K.sure k)) keepers; agents = agents } }
+        ensures unasked { IfOk result (λ c. IsUnasked c) }
         ensures cause { IfErr result (HasCause (λ k. S.K.faults k) keepers) }
     {
         let mut cluster = elected(alloc, keepers, agents)?;

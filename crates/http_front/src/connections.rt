@@ -4,11 +4,13 @@ ghost use Rattle.std.specs.Prelude.{◌≡◌, ◌<◌, [], false, IfErr, IfOk, 
 ghost use Rattle.std.specs.Arc.{arc_value};
 ghost use Rattle.outside.specs.Causes.{Rose};
 ghost use Rattle.cluster_rules.specs.Reached.{MayBegin};
-ghost use Rattle.turn_lock.specs.Lists.{IsFront};
+ghost use Rattle.turn_lock.specs.Lists.{IsFront, numbers};
+ghost use Rattle.turn_lock.specs.Rule.{all_shares};
 ghost use Rattle.http_connections.specs.declared.run.Stop.TheVariants as loop;
 ghost use Rattle.http_exchanges.specs.Boards.{IsOurs, known};
-ghost use Rattle.http_exchanges.specs.Marks.{agreed_by};
+ghost use Rattle.http_exchanges.specs.Marks.{agreed_by, opens};
 ghost use Rattle.http_connections.specs.Runs.{HandsBack, HasDrawn, most_of};
+ghost use Rattle.http_front.specs.Asked.{IsUnasked};
 ghost use Rattle.http_front.specs.Names.{GivesPortBack, IsBound, LeavesPort, LeavesServed, NamesServed};
 ghost use Rattle.http_front.specs.Served as spec;
 
@@ -32,7 +34,8 @@ use std::sync::{Arc, Wait};
 use std::thread::Threads;
 use turn_lock::{HistoryLock, Pass};
 
-// A board over the cluster, whose clocks go on from this time, and the pass from which all others are split.
+// A board over the cluster, whose clocks go on from this time, and the pass from which all others are split. What was asked
+// before is the pass's own.
 fn board_over<C: SharedCluster>(
     alloc: Global,
     cluster: C,
@@ -40,6 +43,7 @@ fn board_over<C: SharedCluster>(
 ) -> Result<(Arc<Board<Served<C>>, Global>, Pass<Served<C>>), Memory>
     ensures ours { IfOk result (λ r. IsOurs (arc_value r.0) r.1) }
     ensures untold { IfOk result (λ r. (known r.1).told ≡ []) }
+    ensures whole { IfOk result (λ r. ((known r.1).mine ≡ numbers opens (C.marks cluster)) × (r.1.shares ≡ all_shares)) }
 {
     let served = Served {
         cluster,
@@ -68,6 +72,7 @@ fn server_over<R: Drop, C: SharedCluster, Cl: Clock + Drop, G: Drop>(
     Memory,
 >
     ensures ours { IfOk result (λ r. IsOurs (arc_value r.0.board) r.1) }
+    ensures whole { IfOk result (λ r. ((known r.1).mine ≡ numbers opens (C.marks cluster)) × (r.1.shares ≡ all_shares)) }
     ensures agents { IfOk result (λ r. r.0.agents ≡ agents) }
 {
     let Machine {
@@ -121,8 +126,9 @@ where
     P::Peer: Send + 'static,
     requires ours { IsOurs (arc_value server.now.board) pass }
     requires agents { (0 < server.now.agents) × (server.now.agents ≡ C.agents) }
+    requires whole { ((known pass).mine ≡ []) × (pass.shares ≡ all_shares) }
     requires fresh { (L.given listener.old ≡ 0) × HasDrawn (W.draws words.old) 0 }
-    ensures links { IfOk result.0 (λ r. HandsBack C.shows C.agrees C.agents (W.draws words.new) (λ seen. IsFront seen (C.marks r.0)) (L.closed listener.old) (L.closed listener.new) (Sp.faults spawner.old) (Sp.faults spawner.new) (L.given listener.new) r.1) }
+    ensures links { IfOk result.0 (λ r. HandsBack C.shows C.agrees C.agents (W.draws words.new) (λ seen. IsFront seen (C.marks r.0)) (L.closed listener.old) (L.closed listener.new) (Sp.faults spawner.old) (Sp.faults spawner.new) (L.given listener.new) (numbers opens (C.marks r.0)) r.1) }
     ensures count { IfOk result.0 (λ r. OnOk r.1 (L.given listener.new ≡ most_of count)) }
     ensures cause { IfOk result.0 (λ r. IfErr r.1 (λ why. why ≡ loop.Listener → Rose (L.faults listener.old) (L.faults listener.new))) }
     ensures port { IfOk result.0 (λ r. L.listens_on listener.new ≡ L.listens_on listener.old) }
@@ -176,8 +182,9 @@ where
     C::Pair: Send + Sync + 'static,
     P::Peer: Send + 'static,
     requires agents { (0 < options.now.agents) × (options.now.agents ≡ C.agents) }
+    requires unasked { numbers opens (C.marks cluster) ≡ [] }
     requires fresh { (L.given listener.old ≡ 0) × HasDrawn (W.draws words.old) 0 }
-    ensures links { IfOk result.0 (λ r. HandsBack C.shows C.agrees C.agents (W.draws words.new) (λ seen. IsFront seen (C.marks r.0)) (L.closed listener.old) (L.closed listener.new) (Sp.faults spawner.old) (Sp.faults spawner.new) (L.given listener.new) r.1) }
+    ensures links { IfOk result.0 (λ r. HandsBack C.shows C.agrees C.agents (W.draws words.new) (λ seen. IsFront seen (C.marks r.0)) (L.closed listener.old) (L.closed listener.new) (Sp.faults spawner.old) (Sp.faults spawner.new) (L.given listener.new) (numbers opens (C.marks r.0)) r.1) }
     ensures count { IfOk result.0 (λ r. OnOk r.1 (L.given listener.new ≡ most_of options.now.connections)) }
     ensures cause { IfOk result.0 (λ r. IfErr r.1 (λ why. why ≡ loop.Listener → Rose (L.faults listener.old) (L.faults listener.new))) }
     ensures port { IfOk result.0 (λ r. L.listens_on listener.new ≡ L.listens_on listener.old) }
@@ -237,6 +244,7 @@ where
     P::Peer: Send + 'static,
     requires new { pair.0.taken ≡ [] }
     requires agents { (0 < options.now.agents) × (options.now.agents ≡ J.size.agents) }
+    requires unasked { IsUnasked cluster }
     requires fresh { (L.given listener.old ≡ 0) × HasDrawn (W.draws words.old) 0 }
     ensures links { IfOk result.0 (λ r. spec.Serve J.size (W.draws words.new) r.0 (L.closed listener.old) (L.closed listener.new) (Sp.faults spawner.old) (Sp.faults spawner.new) (L.given listener.new) r.1) }
     ensures count { IfOk result.0 (λ r. OnOk r.1 (L.given listener.new ≡ most_of options.now.connections)) }
@@ -295,6 +303,7 @@ where
     <D::Port as DatagramPort>::Peer: Send + 'static,
     requires new { pair.0.taken ≡ [] }
     requires agents { (0 < options.now.agents) × (options.now.agents ≡ J.size.agents) }
+    requires unasked { IsUnasked cluster }
     requires fresh { (L.given listener.old ≡ 0) × HasDrawn (W.draws words.old) 0 }
     requires bound { IsBound (λ p. D.Port.state p) options.now.dns names }
     ensures links { IfOk result (λ r. spec.Serve J.size (W.draws words.new) r.0 (L.closed listener.old) (L.closed listener.new) (Sp.faults spawner.old) (Sp.faults spawner.new) (L.given listener.new) r.1) }

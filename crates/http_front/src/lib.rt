@@ -8,8 +8,9 @@
 //! Completeness: where no count of faults of keepers, spawner, listener, datagrams and sink rises, a server ends
 //! where memory ran out, or with status 0; then as many connections as were asked for came back, and over each of
 //! those whose own reads and writes did not fail every whole message has its one reply, in order, up to the end of
-//! the client's bytes, a refusal, or a message that asked to close. Carried by: the law `nothing_is_left_out`, of
-//! any run that meets the clauses `served`, `cause`, `keepers` and `binds` of `serve`.
+//! the client's bytes, a refusal, or a message that asked to close. Nothing was asked of the cluster but these messages,
+//! and what a connection asked whose reads or writes failed. Carried by: the law `nothing_is_left_out`, of any run that
+//! meets the clauses `served`, `cause`, `keepers` and `binds` of `serve`.
 //!
 //! The cluster that connections share is one of which no store is made to fail, no message is lost that was not
 //! delivered, and no server restarts: asking puts just one asking mark, with the request's number; advancing and
@@ -17,8 +18,8 @@
 //! but for a server's that would pass its end, and nothing else ticks one; settling delivers the most that it may,
 //! or until no message is left, and says how many; what is collected is the reply of its own mark and, where the
 //! stores were empty or such as an earlier run left, shows what its kind gives over the agreed log that the marks
-//! tell; after running out of memory too it serves on. It begins with what its stores hold; that a store could not
-//! be read it says only where that store counted it, and hands all stores back. Carried by:
+//! tell; after running out of memory too it serves on. It begins with what its stores hold, and no request was asked of
+//! it; that a store could not be read it says only where that store counted it, and hands all stores back. Carried by:
 //! `ServingCluster::begin`, the `SharedCluster` of `ServingCluster`.
 #![tactic(auto)]
 

@@ -11,6 +11,7 @@ ghost use Rattle.http_connections.specs.declared.run.Stop.TheVariants as loop;
 ghost use Rattle.http_connections.specs.Runs.{HasDrawn};
 ghost use Rattle.cluster_interface.specs.Starting.{KeepsLimits, store_of};
 ghost use Rattle.run_rules.specs.Serving.{Serves};
+ghost use Rattle.http_front.specs.Asked.{IsUnasked};
 ghost use Rattle.http_front.specs.Names.{GivesPortBack};
 ghost use Rattle.http_front.specs.Options.{IsWithin};
 ghost use Rattle.http_front.specs.Served as spec;
@@ -138,6 +139,7 @@ where
     D::Port: Send + 'static,
     <D::Port as DatagramPort>::Peer: Send + 'static,
     requires new { pair.0.taken ≡ [] }
+    requires unasked { IsUnasked cluster }
     requires fits { spec.Fits options.now J.size }
     requires bounds { IsWithin options.now }
     requires fresh { (L.given listener.old ≡ 0) × HasDrawn (W.draws words.old) 0 }

@@ -1,9 +1,10 @@
 //! How a server's cluster begins.
 
-ghost use Rattle.std.specs.Prelude.{◌≡◌, ◌<◌, ◌≤◌, All, IsErrOf, OnOk, length, map};
+ghost use Rattle.std.specs.Prelude.{◌≡◌, ◌<◌, ◌≤◌, All, IfOk, IsErrOf, OnOk, length, map};
 ghost use Rattle.std.specs.Option.{ForSome};
 ghost use Rattle.outside.specs.Causes.{Rose};
 ghost use Rattle.cluster_interface.specs.Starting.{KeepsLimits, store_of};
+ghost use Rattle.http_front.specs.Asked.{IsUnasked};
 
 use crate::cluster::{ClusterSize, NotBegun, ServingCluster};
 use crate::stores::give_back;
@@ -31,6 +32,7 @@ where
     requires unused { All (λ k. (S.K.armed k ≡ 0) × (S.K.faults k ≡ 0)) stores }
     requires limits { All (λ k. ForSome (S.K.held k) KeepsLimits) stores }
     requires size { J.size ≡ record { stores = map (λ k. store_of (S.K.held k) (S.K.armed k) (S.K.faults k) (S.K.sure k)) stores; agents = agents } }
+    ensures unasked { IfOk result (λ c. IsUnasked c) }
     ensures failed { IsErrOf result KeepFail.Failed → Rose (Ks.faults keepers.old) (Ks.faults keepers.new) }
     ensures quiet { OnOk result (Ks.faults keepers.new ≡ Ks.faults keepers.old) }
     ensures memory { IsErrOf result KeepFail.Memory → Ks.faults keepers.new ≡ Ks.faults keepers.old }
