@@ -207,7 +207,7 @@ fn expect_ending<R: Abort + Threads + Wait + time::Clock + Copy + Send + Sync + 
 
 fn expect_told(rt: &impl Abort, played: &Played, ending: &Ending) {
     assert_eq!(rt;
-        status_of(&played.outcome),
+        status_of(&played.ran.outcome),
         ending.status,
         "of {:?}",
         ending.text
@@ -235,14 +235,7 @@ fn expect_stores<R: Abort + Threads + Wait + time::Clock + Copy + Send + Sync + 
         ..NONE_FAILS
     };
     let connections = vec![in alloc; silent(alloc)?]?;
-    let played = play_with(
-        rt,
-        alloc,
-        THREE,
-        Bytes::new(alloc, b"")?,
-        failing,
-        connections,
-    )?;
+    let played = play_with(rt, alloc, THREE, connections, failing)?;
     expect_made(&rt, &played, wanted);
     drop(played);
     Ok(())
@@ -272,14 +265,14 @@ fn are_made(made: &[MadeStore], wanted: &[u32]) -> bool {
 
 fn expect_made(rt: &impl Abort, played: &Played, wanted: &Stores) {
     assert_eq!(rt;
-        status_of(&played.outcome),
+        status_of(&played.ran.outcome),
         wanted.status,
         "of {:?}",
         wanted.make
     );
     assert_eq!(rt; played.bytes(), wanted.text.as_bytes());
-    assert!(rt; are_made(played.keepers.made(), wanted.made));
-    assert_eq!(rt; played.listener.port(), wanted.port);
+    assert!(rt; are_made(played.outside.keepers.made(), wanted.made));
+    assert_eq!(rt; played.ran.listener.port(), wanted.port);
 }
 
 #[test]

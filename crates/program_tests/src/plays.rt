@@ -1,11 +1,11 @@
-//! A run over a source and a sink in memory.
+//! Runs whose source, sink or maker of stores fails at a call.
 
 use cat_model::{Bytes, List, Memory};
-use catalog_top::{Machine, Outcome, run};
 use datagram_outside::MemPorts;
 use outside::{MemSink, MemSource};
-use serve_outside::{Bells, CountWords, MemKeepers, MemListener, MemSpawner, Script, SetClock};
-use std::alloc::{AllocError, Global};
+use program_runs::{MemOutside, Ran, run_in_memory};
+use serve_outside::{MemKeepers, Script};
+use std::alloc::Global;
 use std::sync::Wait;
 use std::thread::Threads;
 use std::time;
@@ -24,18 +24,16 @@ pub(crate) const NONE_FAILS: Failing = Failing {
     make: None,
 };
 
-/// How a run ended, what it wrote, the port that it listened on, and the stores that it made.
+/// How a run ended, and what it met.
 #[derive(Drop)]
 pub(crate) struct Played {
-    pub(crate) outcome: Outcome,
-    pub(crate) listener: MemListener,
-    pub(crate) keepers: MemKeepers,
-    sink: MemSink,
+    pub(crate) ran: Ran,
+    pub(crate) outside: MemOutside<MemKeepers>,
 }
 
 impl Played {
     pub(crate) fn bytes(&self) -> &[u8] {
-        self.sink.bytes()
+        self.outside.sink.bytes()
     }
 }
 
@@ -47,9 +45,18 @@ fn listed(alloc: Global, call: Option<u64>) -> Result<List<u64>, Memory> {
     Ok(calls)
 }
 
-// The words of a command line, which a blank ends each.
-fn words_of(alloc: Global, words: &str) -> Result<Vec<&str>, AllocError> {
-    words.split(' ').collect(alloc)
+// An outside with this script, at which these calls fail.
+fn failing_outside(
+    alloc: Global,
+    script: Bytes,
+    failing: Failing,
+) -> Result<MemOutside<MemKeepers>, Memory> {
+    Ok(MemOutside {
+        source: MemSource::new(script, listed(alloc, failing.read)?),
+        sink: MemSink::new(alloc, listed(alloc, failing.write)?),
+        keepers: MemKeepers::new(alloc, listed(alloc, failing.make)?),
+        ports: MemPorts::new(alloc, Vec::new(alloc), List::new(alloc))?,
+    })
 }
 
 /// Runs these words over a script, and with no connection.
@@ -60,50 +67,20 @@ pub(crate) fn play<R: Threads + Wait + time::Clock + Copy + Send + Sync + Drop +
     script: Bytes,
     failing: Failing,
 ) -> Result<Played, Memory> {
-    let none = Vec::new(alloc);
-    play_with(rt, alloc, words, script, failing, none)
+    let mut outside = failing_outside(alloc, script, failing)?;
+    let ran = run_in_memory(rt, alloc, words, Vec::new(alloc), &mut outside)?;
+    Ok(Played { ran, outside })
 }
 
-/// Runs these words over a script, and with these connections.
+/// Runs these words with these connections, and no script.
 pub(crate) fn play_with<R: Threads + Wait + time::Clock + Copy + Send + Sync + Drop + 'static>(
     rt: R,
     alloc: Global,
     words: &str,
-    script: Bytes,
-    failing: Failing,
     connections: Vec<Script>,
+    failing: Failing,
 ) -> Result<Played, Memory> {
-    let mut source = MemSource::new(script, listed(alloc, failing.read)?);
-    let mut sink = MemSink::new(alloc, listed(alloc, failing.write)?);
-    let mut listener = MemListener::new(alloc, connections, List::new(alloc))?;
-    let mut keepers = MemKeepers::new(alloc, listed(alloc, failing.make)?);
-    let mut ports = MemPorts::new(alloc, Vec::new(alloc), List::new(alloc))?;
-    let words = words_of(alloc, words)?;
-    let outcome = run(
-        machine(rt, alloc)?,
-        &words,
-        &mut source,
-        &mut sink,
-        &mut listener,
-        &mut CountWords::new(),
-        &mut MemSpawner::new(List::new(alloc)),
-        &mut keepers,
-        &mut ports,
-    );
-    Ok(Played {
-        outcome,
-        listener,
-        keepers,
-        sink,
-    })
-}
-
-// The machine, with a clock that stands still.
-fn machine<R: Copy + Drop>(rt: R, alloc: Global) -> Result<Machine<R, SetClock, Bells<R>>, Memory> {
-    Ok(Machine {
-        rt,
-        alloc,
-        clock: SetClock { ms: 0 },
-        gate: Bells::new(rt, alloc)?,
-    })
+    let mut outside = failing_outside(alloc, Bytes::new(alloc, b"")?, failing)?;
+    let ran = run_in_memory(rt, alloc, words, connections, &mut outside)?;
+    Ok(Played { ran, outside })
 }

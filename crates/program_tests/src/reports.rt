@@ -110,7 +110,7 @@ fn expect_report<R: Abort + Threads + Wait + time::Clock + Copy + Send + Sync + 
 }
 
 fn expect_done(rt: &impl Abort, played: &Played, wanted: &Reported) {
-    match &played.outcome {
+    match &played.ran.outcome {
         Ok(report) => expect_numbers(rt, report, wanted),
         Err(_) => assert!(rt; false, "of {:?}", wanted.script),
     }

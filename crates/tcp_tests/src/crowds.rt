@@ -1,6 +1,6 @@
 //! Many clients over TCP: at once, one after another, and such as go away while they wait.
 
-use crate::over_tcp::{NOT_FOUND, ask, connect, free_port, hears, serve, serve_words};
+use program_runs::{NOT_FOUND, ask, connect, free_port, hears, serve, serve_words};
 use std::alloc::{Alloc, Global};
 use std::fs::Files;
 use std::net::{Net, TcpListener, TcpStream};

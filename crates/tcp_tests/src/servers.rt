@@ -1,6 +1,6 @@
 //! A server over TCP and threads, and its clients, all at once.
 
-use crate::over_tcp::{FOUND, connect, free_port, hears, serve};
+use program_runs::{FOUND, NOT_FOUND, connect, free_port, hears, serve};
 use std::alloc::Global;
 use std::io::{Read, Write};
 use std::net::{Net, Shutdown, TcpListener, TcpStream};
@@ -32,8 +32,6 @@ enum Part {
     // Ends in the midst of a body, which nobody finds later.
     EndsEarly,
 }
-
-const NOT_FOUND: &[u8] = b"HTTP/1.1 404 Not Found\r\n";
 
 // Puts a key with its name as its value.
 fn put(alloc: Global, stream: &mut TcpStream, key: &str) -> Option<bool> {

@@ -1,6 +1,6 @@
 //! The clocks of agents of a server over TCP and threads.
 
-use crate::over_tcp::{FOUND, connect, free_port, hear, hears, serve};
+use program_runs::{FOUND, connect, free_port, hear, hears, serve};
 use std::alloc::Global;
 use std::io::Write;
 use std::net::{Net, TcpListener, TcpStream};

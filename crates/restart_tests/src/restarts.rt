@@ -1,18 +1,16 @@
 //! Servers over what earlier ones left: over a folder, and over files in memory.
 
+use crate::served::{no_ports, over, served};
 use cat_model::{Bytes, List};
-use catalog_top::{Machine, run, status_of};
-use datagram_outside::MemPorts;
-use host_keeper::{HostFiles, HostKeepers, JournalFiles, MemFiles};
-use outside::{SureSink, SureSource};
-use serve_outside::{Bells, CountWords, MemListener, MemSpawner, Script, SetClock};
+use host_keeper::{HostFiles, JournalFiles, MemFiles};
 use std::alloc::Global;
+use std::process::Abort;
 use std::sync::Wait;
 use std::test::Fail;
 use std::thread::Threads;
 use std::{fs, time};
 
-const FOLDER: &str = "program_tests_kept";
+const FOLDER: &str = "restart_tests_kept";
 
 const PUT: &[u8] = b"PUT /v1/kv/a HTTP/1.1\r\nHost: x\r\nContent-Length: 5\r\n\r\nhello";
 
@@ -25,74 +23,44 @@ const LEFT: [u8; 30] = [
 ];
 
 // The status of so many servers over these files, and what they said to a connection that sent these bytes.
-fn served<
+fn said_by<
     R: Threads + Wait + time::Clock + Copy + Send + Sync + Drop + 'static,
     F: JournalFiles + Drop,
 >(rt: R, alloc: Global, files: F, servers: u32, bytes: &[u8]) -> Result<(u8, Vec<u8>), Fail>
 where
     F::J: Send + 'static,
 {
-    let machine = Machine {
-        rt,
-        alloc,
-        clock: SetClock { ms: 0 },
-        gate: Bells::new(rt, alloc)?,
-    };
-    let mut scripts = Vec::new(alloc);
-    scripts.push(Script {
-        bytes: Bytes::new(alloc, bytes)?,
-        most: usize::MAX,
-        failing: List::new(alloc),
-    })?;
-    let mut listener = MemListener::new(alloc, scripts, List::new(alloc))?;
     let words = format!(in alloc;
         "serve --servers {servers} --agents 1 --port 8500 --connections 1 --keep {FOLDER}"
     )?;
-    let words: Vec<&str> = words.as_str().split(' ').collect(alloc)?;
-    let mut ports = MemPorts::new(alloc, Vec::new(alloc), List::new(alloc))?;
-    let outcome = run(
-        machine,
-        &words,
-        &mut SureSource::new(Bytes::new(alloc, b"")?),
-        &mut SureSink::new(alloc),
-        &mut listener,
-        &mut CountWords::new(),
-        &mut MemSpawner::new(List::new(alloc)),
-        &mut HostKeepers::new(alloc, files, servers),
-        &mut ports,
-    );
-    let mut said = Vec::new(alloc);
-    for link in listener.kept() {
-        said.extend_from_slice(link.said())?;
-    }
-    let status = status_of(&outcome);
-    drop(outcome);
-    Ok((status, said))
+    let outside = over(alloc, files, servers, no_ports(alloc)?)?;
+    let ended = served(rt, alloc, words.as_str(), bytes, outside)?;
+    Ok((ended.status, ended.said))
 }
 
 #[test]
 fn what_was_acknowledged_is_read_again(rt: HostRuntime) -> Result<(), Fail> {
     let alloc = rt.alloc();
     let _ = fs::remove_dir_all(&rt, FOLDER);
-    let (status, said) = served(rt, alloc, HostFiles::new(rt), 3, PUT)?;
+    let (status, said) = said_by(rt, alloc, HostFiles::new(rt), 3, PUT)?;
     assert_eq!(rt; status, 0);
     assert!(rt; said.as_slice().ends_with(b"\r\n\r\ntrue"));
 
     // What was kept is there, again and again.
     for _ in 0..2 {
-        let (status, said) = served(rt, alloc, HostFiles::new(rt), 3, GET)?;
+        let (status, said) = said_by(rt, alloc, HostFiles::new(rt), 3, GET)?;
         assert_eq!(rt; status, 0);
         assert!(rt; said.as_slice().ends_with(b"\r\n\r\nhello"));
     }
 
     // The folder was made for three servers.
     for servers in [1, 4] {
-        let (status, said) = served(rt, alloc, HostFiles::new(rt), servers, GET)?;
+        let (status, said) = said_by(rt, alloc, HostFiles::new(rt), servers, GET)?;
         assert_eq!(rt; status, 9);
         assert!(rt; said.is_empty());
     }
-    fs::write(&rt, "program_tests_kept/server-2.journal", b"hello")?;
-    assert_eq!(rt; served(rt, alloc, HostFiles::new(rt), 3, GET)?.0, 9);
+    fs::write(&rt, "restart_tests_kept/server-2.journal", b"hello")?;
+    assert_eq!(rt; said_by(rt, alloc, HostFiles::new(rt), 3, GET)?.0, 9);
     fs::remove_dir_all(&rt, FOLDER)?;
     Ok(())
 }
@@ -111,7 +79,7 @@ fn what_a_run_left_is_read_again(rt: HostRuntime) -> Result<(), Fail> {
     let alloc = rt.alloc();
     // The third server has not heard of the last entry.
     let left = files(alloc, &[&LEFT, &LEFT, &LEFT[..13]])?;
-    let (status, said) = served(rt, alloc, left, 3, GET)?;
+    let (status, said) = said_by(rt, alloc, left, 3, GET)?;
     assert_eq!(rt; status, 0);
     assert!(rt; said.as_slice().ends_with(b"\r\n\r\nhello"));
     Ok(())
@@ -121,7 +89,7 @@ fn what_a_run_left_is_read_again(rt: HostRuntime) -> Result<(), Fail> {
 fn what_was_cut_off_is_not_there(rt: HostRuntime) -> Result<(), Fail> {
     let alloc = rt.alloc();
     let cut = files(alloc, &[&LEFT[..29]])?;
-    let (status, said) = served(rt, alloc, cut, 1, GET)?;
+    let (status, said) = said_by(rt, alloc, cut, 1, GET)?;
     assert_eq!(rt; status, 0);
     assert!(rt; said.as_slice().starts_with(b"HTTP/1.1 404 "));
     Ok(())
@@ -133,7 +101,7 @@ fn other_files_are_refused(rt: HostRuntime) -> Result<(), Fail> {
     // Text, a file for one server too few, and one for one too many.
     let rows: [(&[&[u8]], u32); 3] = [(&[b"hello"], 1), (&[&LEFT], 2), (&[&LEFT, &LEFT], 1)];
     for (each, servers) in rows {
-        let (status, said) = served(rt, alloc, files(alloc, each)?, servers, GET)?;
+        let (status, said) = said_by(rt, alloc, files(alloc, each)?, servers, GET)?;
         assert_eq!(rt; status, 9);
         assert!(rt; said.is_empty());
     }

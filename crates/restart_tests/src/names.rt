@@ -1,25 +1,21 @@
 //! A server that answers questions of names: over what an earlier one left in a folder, by packets in memory.
 
+use crate::served::{over, served};
 use cat_model::{Bytes, List};
-use catalog_top::{Machine, run, status_of};
 use datagram_outside::{MemPort, MemPorts, Packet, PortScript};
-use host_keeper::{HostFiles, HostKeepers, JournalFiles};
-use outside::{SureSink, SureSource};
-use serve_outside::{Bells, CountWords, MemListener, MemSpawner, Script, SetClock};
+use host_keeper::HostFiles;
 use std::alloc::Global;
+use std::fs;
 use std::process::Abort;
-use std::sync::Wait;
 use std::test::Fail;
-use std::thread::Threads;
-use std::{fs, time};
 
-const FOLDER: &str = "program_tests_names";
+const FOLDER: &str = "restart_tests_names";
 
 const SERVE: &str =
-    "serve --servers 1 --agents 1 --port 8500 --connections 1 --keep program_tests_names";
+    "serve --servers 1 --agents 1 --port 8500 --connections 1 --keep restart_tests_names";
 
 const ANSWER: &str =
-    "serve --servers 1 --agents 1 --port 8500 --connections 1 --keep program_tests_names --dns 8600 --packets 2";
+    "serve --servers 1 --agents 1 --port 8500 --connections 1 --keep restart_tests_names --dns 8600 --packets 2";
 
 // Service web of node n1, at 10.0.0.1.
 const REGISTER: &[u8] =
@@ -41,14 +37,6 @@ const NOPE: &[u8] =
 const NOPE_REPLY: &[u8] =
     b"\x56\x78\x85\x03\x00\x01\x00\x00\x00\x00\x00\x00\x04nope\x07service\x06consul\x00\x00\x01\x00\x01";
 
-// How a server ended: its status, what it wrote, and what gave its port of names.
-#[derive(Drop)]
-struct Ended {
-    status: u8,
-    sink: SureSink,
-    ports: MemPorts,
-}
-
 fn packet(alloc: Global, peer: u64, bytes: &[u8]) -> Result<Packet, Fail> {
     let bytes = Bytes::new(alloc, bytes)?;
     Ok(Packet { peer, bytes })
@@ -65,59 +53,6 @@ fn ports(alloc: Global, failing: u64) -> Result<MemPorts, Fail> {
     calls.push(failing)?;
     let ports = MemPorts::new(alloc, Vec::from_array(alloc, [script])?, calls)?;
     Ok(ports)
-}
-
-// Serves one connection as the words ask for, over these files.
-fn served<
-    R: Threads + Wait + time::Clock + Copy + Send + Sync + Drop + 'static,
-    F: JournalFiles + Drop,
->(
-    rt: R,
-    alloc: Global,
-    files: F,
-    words: &str,
-    bytes: &[u8],
-    mut ports: MemPorts,
-) -> Result<Ended, Fail>
-where
-    F::J: Send + 'static,
-{
-    let machine = Machine {
-        rt,
-        alloc,
-        clock: SetClock { ms: 0 },
-        gate: Bells::new(rt, alloc)?,
-    };
-    let script = Script {
-        bytes: Bytes::new(alloc, bytes)?,
-        most: usize::MAX,
-        failing: List::new(alloc),
-    };
-    let mut listener = MemListener::new(
-        alloc,
-        Vec::from_array(alloc, [script])?,
-        List::new(alloc),
-    )?;
-    let words: Vec<&str> = words.split(' ').collect(alloc)?;
-    let mut sink = SureSink::new(alloc);
-    let outcome = run(
-        machine,
-        &words,
-        &mut SureSource::new(Bytes::new(alloc, b"")?),
-        &mut sink,
-        &mut listener,
-        &mut CountWords::new(),
-        &mut MemSpawner::new(List::new(alloc)),
-        &mut HostKeepers::new(alloc, files, 1),
-        &mut ports,
-    );
-    let status = status_of(&outcome);
-    drop(outcome);
-    Ok(Ended {
-        status,
-        sink,
-        ports,
-    })
 }
 
 // Whether one port came back, by which both replies went to whom their packets came from.
@@ -138,18 +73,13 @@ fn has_both(ports: &[MemPort]) -> bool {
 fn packets_are_answered_beside_connections(rt: HostRuntime) -> Result<(), Fail> {
     let alloc = rt.alloc();
     let _ = fs::remove_dir_all(&rt, FOLDER);
-    let first = served(
-        rt,
-        alloc,
-        HostFiles::new(rt),
-        SERVE,
-        REGISTER,
-        ports(alloc, 0)?,
-    )?;
+    let files = over(alloc, HostFiles::new(rt), 1, ports(alloc, 0)?)?;
+    let first = served(rt, alloc, SERVE, REGISTER, files)?;
     assert_eq!(rt; first.status, 0);
     assert!(rt; first.ports.kept().is_empty());
     drop(first);
-    let second = served(rt, alloc, HostFiles::new(rt), ANSWER, b"", ports(alloc, 0)?)?;
+    let files = over(alloc, HostFiles::new(rt), 1, ports(alloc, 0)?)?;
+    let second = served(rt, alloc, ANSWER, b"", files)?;
     assert_eq!(rt; second.status, 0);
     assert!(rt; has_both(second.ports.kept()));
     drop(second);
@@ -161,7 +91,8 @@ fn packets_are_answered_beside_connections(rt: HostRuntime) -> Result<(), Fail> 
 fn a_port_that_cannot_be_bound_ends_the_run(rt: HostRuntime) -> Result<(), Fail> {
     let alloc = rt.alloc();
     let words = "serve --servers 1 --agents 1 --port 8500 --connections 1 --dns 8600 --packets 2";
-    let ended = served(rt, alloc, HostFiles::new(rt), words, b"", ports(alloc, 1)?)?;
+    let files = over(alloc, HostFiles::new(rt), 1, ports(alloc, 1)?)?;
+    let ended = served(rt, alloc, words, b"", files)?;
     assert_eq!(rt; ended.status, 10);
     assert!(rt; ended.sink.bytes().is_empty());
     assert!(rt; ended.ports.kept().is_empty());

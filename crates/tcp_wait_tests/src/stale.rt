@@ -1,6 +1,6 @@
 //! Stale reads over TCP and threads: on each connection they never go back, and show what it wrote itself.
 
-use crate::over_tcp::{FOUND, ask, between, connect, free_port, hears, serve};
+use program_runs::{FOUND, ask, between, connect, free_port, hears, serve};
 use std::alloc::Global;
 use std::io::Read;
 use std::net::{Net, TcpListener, TcpStream};

@@ -1,4 +1,4 @@
-//! What tests of a server over TCP have in common.
+//! Servers over TCP and threads, and clients of theirs.
 
 use cat_model::{Bytes, List};
 use catalog_top::{Machine, run};
@@ -18,7 +18,7 @@ fn local(port: u16) -> SocketAddr {
     SocketAddr::from((Ipv4Addr::LOCALHOST, port))
 }
 
-// A connection to the server, which is waited for ten seconds.
+/// A connection to the server, which is waited for ten seconds.
 pub fn connect<R: time::Clock + Net<Listener = TcpListener, Stream = TcpStream>>(
     rt: &R,
     port: u16,
@@ -35,8 +35,8 @@ pub fn connect<R: time::Clock + Net<Listener = TcpListener, Stream = TcpStream>>
 // The most pieces in which a reply comes, were each a byte.
 const MOST_PIECES: u32 = 512;
 
-// The reply that comes, up to this end or to the end of the connection. At most so many bytes are read at once, so that
-// one byte reads nothing of the next reply.
+/// The reply that comes, up to this end or to the end of the connection. At most so many bytes are read at once, so that
+/// one byte reads nothing of the next reply.
 pub fn hear(alloc: Global, stream: &mut TcpStream, most: usize, end: &[u8]) -> Option<Vec<u8>> {
     let mut got: Vec<u8> = Vec::new(alloc);
     let mut room = [0u8; 512];
@@ -53,7 +53,7 @@ pub fn hear(alloc: Global, stream: &mut TcpStream, most: usize, end: &[u8]) -> O
     Some(got)
 }
 
-// Whether a reply comes with this front and this end.
+/// Whether a reply comes with this front and this end.
 pub fn hears(
     alloc: Global,
     stream: &mut TcpStream,
@@ -65,16 +65,18 @@ pub fn hears(
     Some(got.as_slice().starts_with(front) && got.as_slice().ends_with(end))
 }
 
-// What stands in a text between these marks.
+/// What stands in a text between these marks.
 pub fn between<'a>(text: &'a str, before: &str, behind: &str) -> Option<&'a str> {
     text.split(before).nth(1)?.split(behind).next()
 }
 
+/// How a reply with status 200 begins.
 pub const FOUND: &[u8] = b"HTTP/1.1 200 OK\r\n";
 
+/// How a reply with status 404 begins.
 pub const NOT_FOUND: &[u8] = b"HTTP/1.1 404 Not Found\r\n";
 
-// Sends a request with this body.
+/// Sends a request with this body.
 pub fn ask(alloc: Global, stream: &mut TcpStream, line: &str, body: &str) -> Option<()> {
     let len = body.len();
     let text = format!(in alloc;
@@ -83,7 +85,7 @@ pub fn ask(alloc: Global, stream: &mut TcpStream, line: &str, body: &str) -> Opt
     stream.write_all(text.as_str().as_bytes()).ok()
 }
 
-// Whether a server of three servers and two agents serves so many connections to their end, and no request is left.
+/// Whether a server of three servers and two agents serves so many connections to their end, and no request is left.
 pub fn serve<
     R: Threads
         + Wait
@@ -109,8 +111,8 @@ fn has(text: &[u8], part: &str) -> bool {
     }
 }
 
-// Whether a server of these words, which end with how many connections it serves, serves them to their end, and its text
-// has this part.
+/// Whether a server of these words, which end with how many connections it serves, serves them to their end, and its text
+/// has this part.
 pub fn serve_words<
     R: Threads
         + Wait
@@ -148,7 +150,7 @@ pub fn serve_words<
     Some(is_well && has(sink.bytes(), part))
 }
 
-// A port on which nothing listens.
+/// A port on which nothing listens.
 pub fn free_port<R: Net<Listener = TcpListener, Stream = TcpStream>>(rt: &R) -> Option<u16> {
     let listener = rt.bind(local(0)).ok()?;
     Some(listener.local_addr().ok()?.port())

@@ -1,7 +1,7 @@
 //! Requests that wait, over TCP and threads: one that the write of another connection answers, and one that the end of a
 //! session answers while nobody asks.
 
-use crate::over_tcp::{FOUND, NOT_FOUND, ask, between, connect, free_port, hear, hears, serve};
+use program_runs::{FOUND, NOT_FOUND, ask, between, connect, free_port, hear, hears, serve};
 use std::alloc::Global;
 use std::net::{Net, TcpListener, TcpStream};
 use std::process::Abort;

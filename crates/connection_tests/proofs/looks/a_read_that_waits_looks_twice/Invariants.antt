@@ -1,7 +1,7 @@
 use Rattle.std.proofs.Common.{Some, true, [], ◌∷◌}
 use Rattle.cat_model.specs.Keeping.{nothing_kept}
 use Rattle.cluster_interface.specs.Starting.{store_of}
-use Rattle.program_tests.proofs.looks.a_read_that_waits_looks_twice.Given as goal
+use Rattle.connection_tests.proofs.looks.a_read_that_waits_looks_twice.Given as goal
 
 -- the cluster is of one server over an empty store, and one agent
 abbrev pub ghosts-is_answered-J-ClusterSize : goal.ghosts-is_answered-J-ClusterSize
