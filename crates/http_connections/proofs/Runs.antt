@@ -1,6 +1,6 @@
 -- The links of a run, one after another.
 use Rattle.std.proofs.Common.{◌≡◌, ℕ, ◌+◌, ◌-◌, ◌<◌, ◌≤◌, ◌⊎◌, ⊎_elim, inl, inr, Bool, true, false, ◌||◌, List, [], ◌∷◌, ◌++◌, length, map, refl, sym, ap, ◌∙◌, subst, arith, append_assoc, append-nil, length-append, Option, None, Some, Result, Ok, Err}
-use Rattle.std.specs.Prelude.{All, IfErr, IfSome, MatchOption, MatchResult, OnOk, min}
+use Rattle.std.specs.Prelude.{All, IfErr, IfSome, MatchOption, OnOk}
 use Rattle.std.specs.List.{AllByRecursion, list_any, slice_index_or, swap_remove}
 use Rattle.std.proofs.lemmas.List.{length-map, map-append}
 use Rattle.std.proofs.lemmas.List.Folds.{list_any-append}
@@ -14,7 +14,7 @@ use Rattle.cluster_rules.specs.Sound.{IsAmong}
 use Rattle.serve_outside.specs.Links.{LinkState, IsNew}
 use Rattle.serve_outside.specs.Tasks.{IsKept, note_of}
 use Rattle.serve_outside.specs.declared.job.Task.{Task}
-use Rattle.turn_lock.specs.Lists.{Among, AreFronts, IsFront, total}
+use Rattle.turn_lock.specs.Lists.{Among, AreFronts, IsFront}
 use Rattle.turn_lock.specs.Rule.{all_shares, given, pooled}
 use Rattle.turn_lock.proofs.Lists.{among_append}
 use Rattle.http_exchanges.specs.declared.cluster.Ask.{Ask}

@@ -1,5 +1,5 @@
 -- The tasks of connections' jobs.
-use Rattle.std.specs.Prelude.{◌≡◌, ℕ, ◌+◌, ◌-◌, ◌%◌, List, All}
+use Rattle.std.specs.Prelude.{ℕ, ◌+◌, ◌-◌, ◌%◌, List, All}
 use Rattle.serve_outside.specs.Tasks.{IsKept, note_of}
 use Rattle.serve_outside.specs.declared.job.Task.{Task}
 use Rattle.turn_lock.specs.Lists.{total}

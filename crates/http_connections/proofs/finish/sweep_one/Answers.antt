@@ -1,4 +1,4 @@
-use Rattle.std.proofs.Common.{◌<◌, ℕ, arith, length, List, subst}
+use Rattle.std.proofs.Common.{◌<◌, arith, length, List, subst}
 use Rattle.serve_outside.specs.Tasks.{note_of}
 use Rattle.std.specs.Arc.{arc_value}
 use Rattle.cat_model.specs.declared.reply.Mark.{Mark}

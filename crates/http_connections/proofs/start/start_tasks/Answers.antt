@@ -1,4 +1,4 @@
-use Rattle.std.proofs.Common.{◌∙◌, ◌≡◌, ◌+◌, [], ap, sym, arith, length, List, refl, subst, Ok, Err}
+use Rattle.std.proofs.Common.{◌∙◌, [], ap, arith, length, List, refl, subst, Ok, Err}
 use Rattle.cat_model.specs.declared.reply.Mark.{Mark}
 use Rattle.cluster_rules.specs.Sound.{IsAmong}
 use Rattle.http_connections.specs.Runs.{KeepsDraws, Starts}
