@@ -430,27 +430,53 @@ pub pooled_all : (n m : ℕ) → n + m ≤ all_shares → pooled n m ≡ n + m
 pooled_all n m l = omega (arith, l)
 
 -- what one more pass or none has of all shares
-module _ {T : Type 0} (f : T → ℕ) (all : ℕ) (whole : all ≡ all_shares) where
-  pub kept_few : (o : Option T) (p : ℕ) → MatchOption o (p ≡ all) (λ k. p + f k ≡ all) → p ≤ all_shares
-  kept_few None p e = omega (arith, e, whole)
-  kept_few (Some k) p e = omega (arith, e, whole)
+module _ {T : Type 0} (o : Option T) (f : T → ℕ) (all : ℕ) (whole : all ≡ all_shares) (p : ℕ) (kept : MatchOption o (p ≡ all) (λ k. p + f k ≡ all)) where
+  abbrev Few : Option T → ℕ → Type 0
+  Few o q = IfSome o (λ k. q + f k ≤ all_shares)
 
-  pub kept_some : (o : Option T) (p q : ℕ) → MatchOption o (p ≡ all) (λ k. p + f k ≡ all) → q ≡ p → IfSome o (λ k. q + f k ≤ all_shares)
-  kept_some None p q e s = tt
-  kept_some (Some k) p q e s = omega (arith, e, s, whole)
+  pub kept_few : p ≤ all_shares
+  kept_few = of o kept
+    where
+      of : (o : Option T) → MatchOption o (p ≡ all) (λ k. p + f k ≡ all) → p ≤ all_shares
+      of None e = omega (arith, e, whole)
+      of (Some k) e = omega (arith, e, whole)
 
-  pub all_back : (o : Option T) (p q r : ℕ) → MatchOption o (p ≡ all) (λ k. p + f k ≡ all) → q ≡ p → MatchOption o (r ≡ q) (λ k. r ≡ q + f k) → r ≡ all_shares
-  all_back None p q r e s g = omega (arith, e, s, g, whole)
-  all_back (Some k) p q r e s g = omega (arith, e, s, g, whole)
+  pub kept_some : (q : ℕ) → q ≡ p → Few o q
+  kept_some q s = of o kept
+    where
+      of : (o : Option T) → MatchOption o (p ≡ all) (λ k. p + f k ≡ all) → Few o q
+      of None e = tt
+      of (Some k) e = omega (arith, e, s, whole)
+
+  pub all_back : (q r : ℕ) → q ≡ p → MatchOption o (r ≡ q) (λ k. r ≡ q + f k) → r ≡ all_shares
+  all_back q r s g = of o kept g
+    where
+      of : (o : Option T) → MatchOption o (p ≡ all) (λ k. p + f k ≡ all) → MatchOption o (r ≡ q) (λ k. r ≡ q + f k) → r ≡ all_shares
+      of None e g = omega (arith, e, s, g, whole)
+      of (Some k) e g = omega (arith, e, s, g, whole)
 
 -- a task was started with the pass that was split off, or the pass was put back
-pub launched_all : {T J : Type 0} → (note : T → J) (f : J → ℕ) (job : J) (o : Option T) (new mid old : ℕ) → MatchOption o (new ≡ mid + f job) (λ t. new ≡ mid) → IfSome o (λ t. note t ≡ job) → mid + f job ≡ old
+pub launched_all : {T J : Type 0} → (o : Option T) (job : J) (note : T → J) (f : J → ℕ) (new mid old : ℕ) → MatchOption o (new ≡ mid + f job) (λ t. new ≡ mid) → IfSome o (λ t. note t ≡ job) → mid + f job ≡ old
     → MatchOption o (new ≡ old) (λ t. new + f (note t) ≡ old)
-launched_all note f job None new mid old e n s = omega (arith, e, s)
-launched_all note f job (Some t) new mid old e n s = let k = ap f n in omega (arith, e, s, k)
+launched_all None job note f new mid old e n s = omega (arith, e, s)
+launched_all (Some t) job note f new mid old e n s = let k = ap f n in omega (arith, e, s, k)
+
+-- the shares of the passes of tasks
+module _ {P D : Type 0} (xs ys : List (Task P D)) (x : Task P D) (shares : P → ℕ) where
+  pub shares_more : ys ≡ xs ++ x ∷ [] → shares_out ys shares ≡ shares_out xs shares + shares (note_of x)
+  shares_more e = total_more (λ (t : Task P D). shares (note_of t)) xs ys x e
+
+  pub shares_swapped : (i : ℕ) → i < length xs → x ≡ slice_index_or xs i x → ys ≡ swap_remove xs i x → shares_out ys shares + shares (note_of x) ≡ shares_out xs shares
+  shares_swapped i l e are = total_swapped (λ (t : Task P D). shares (note_of t)) xs ys i x l e are
+
+pub shares_same : {P D : Type 0} → (xs ys : List (Task P D)) (shares : P → ℕ) → ys ≡ xs → shares_out ys shares ≡ shares_out xs shares
+shares_same {P} {D} xs ys shares e = ap (λ (l : List (Task P D)). shares_out l shares) e
 
 pub match_some : {T : Type 0} → (o : Option T) (t : T) (A : Type 0) (P : T → Type 0) → o ≡ Some t → MatchOption o A P → P t
 match_some o t A P e m = subst (λ (z : Option _). MatchOption z A P) e m
+
+pub some_matches : {T : Type 0} → (o : Option T) (t : T) (A : Type 0) (P : T → Type 0) → o ≡ Some t → P t → MatchOption o A P
+some_matches o t A P e p = subst (λ (z : Option _). MatchOption z A P) (sym e) p
 
 pub match_none : {T : Type 0} → (o : Option T) (A : Type 0) (P : T → Type 0) → o ≡ None → MatchOption o A P → A
 match_none o A P e m = subst (λ (z : Option _). MatchOption z A P) e m

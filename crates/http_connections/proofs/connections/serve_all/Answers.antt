@@ -25,9 +25,8 @@ returns-clause-links g c =
     let told₀ = c.start_tasks-started.new.pass.seat.me.0.told in let told = c.finish_tasks-short.new.pass.seat.me.0.told in let last = c.finish_timekeeper.new.pass.seat.me.0.told in
     let knows₀ : List Mark → Type 0 = λ seen. IsAmong seen told₀ in let knows : List Mark → Type 0 = λ seen. IsAmong seen told in let fronts : List Mark → Type 0 = λ seen. IsFront seen marks in
     let same : KeepsDraws draws draws = λ k w x. x in let mine = c.start_tasks-started.new.pass.seat.me.0.mine in let mine₁ = c.finish_tasks-short.new.pass.seat.me.0.mine in
-    let f' : _ → ℕ = λ k. (note_of k.task).0.value.pass.shares in
     let p = c.start_timekeeper-keeping.new.pass.shares in let q = c.finish_tasks-short.new.pass.shares in let r' = c.finish_timekeeper.new.pass.shares in
-    let back = all_back f' c.args.pass.now.shares c.requires.whole.1 c.start_timekeeper-keeping.result p q r' c.start_timekeeper-keeping.ensures.shares (c.finish_tasks-short.ensures.shares ∙ c.start_tasks-started.ensures.shares) c.finish_timekeeper.ensures.shares in
+    let back = all_back c.start_timekeeper-keeping.result (λ k. (note_of k.task).0.value.pass.shares) c.args.pass.shares c.requires.whole.1 p c.start_timekeeper-keeping.ensures.shares q r' (c.finish_tasks-short.ensures.shares ∙ c.start_tasks-started.ensures.shares) c.finish_timekeeper.ensures.shares in
     let whole : (k : ℕ) → Among k (numbers opens marks) → Among k mine₁ = λ k h. subst (Among k) c.finish_timekeeper.ensures.same (c.last_turn-cluster.ensures.whole back k h) in
     let started = handed_later shows agrees agents draws draws same knows₀ knows c.finish_tasks-short.ensures.told a b f (h + lacking r) n tasks before mine c.start_tasks-started.ensures.handed in
     let joined = subst (λ (w : List _). Joins shows agrees agents draws knows w z tasks 0 before short mine mine₁) c.stop.ensures.closed c.finish_tasks-short.ensures.joins in
@@ -42,15 +41,16 @@ returns-clause-cause g c =
 
 pub start_tasks-started-requires-clause-unasked : goal.start_tasks-started-requires-clause-unasked
 start_tasks-started-requires-clause-unasked g c κs within =
-    let f : _ → ℕ = λ k. (note_of k.task).0.value.pass.shares in let k = c.start_timekeeper-keeping in
-    (k.ensures.same ∙ c.requires.whole.0, kept_few f c.args.pass.now.shares c.requires.whole.1 k.result k.new.pass.shares k.ensures.shares)
+    let k = c.start_timekeeper-keeping in
+    (k.ensures.same ∙ c.requires.whole.0, kept_few k.result (λ k. (note_of k.task).0.value.pass.shares) c.args.pass.shares c.requires.whole.1 k.new.pass.shares k.ensures.shares)
 
 pub finish_tasks-short-requires-clause-few : goal.finish_tasks-short-requires-clause-few
 finish_tasks-short-requires-clause-few g c κs within =
-    let f : _ → ℕ = λ k. (note_of k.task).0.value.pass.shares in let k = c.start_timekeeper-keeping in
-    let few = kept_few f c.args.pass.now.shares c.requires.whole.1 k.result k.new.pass.shares k.ensures.shares in let s = c.start_tasks-started.ensures.shares in omega (arith, few, s)
+    let k = c.start_timekeeper-keeping in
+    let few = kept_few k.result (λ k. (note_of k.task).0.value.pass.shares) c.args.pass.shares c.requires.whole.1 k.new.pass.shares k.ensures.shares in
+    let s = c.start_tasks-started.ensures.shares in omega (arith, few, s)
 
 pub finish_timekeeper-requires-clause-few : goal.finish_timekeeper-requires-clause-few
-finish_timekeeper-requires-clause-few g c κs within =
-    let f : _ → ℕ = λ k. (note_of k.task).0.value.pass.shares in let k = c.start_timekeeper-keeping in
-    kept_some f c.args.pass.now.shares c.requires.whole.1 k.result k.new.pass.shares c.finish_tasks-short.new.pass.shares k.ensures.shares (c.finish_tasks-short.ensures.shares ∙ c.start_tasks-started.ensures.shares)
+finish_timekeeper-requires-clause-few g c =
+    let k = c.start_timekeeper-keeping in
+    kept_some k.result (λ k. (note_of k.task).0.value.pass.shares) c.args.pass.shares c.requires.whole.1 k.new.pass.shares k.ensures.shares c.finish_tasks-short.new.pass.shares (c.finish_tasks-short.ensures.shares ∙ c.start_tasks-started.ensures.shares)

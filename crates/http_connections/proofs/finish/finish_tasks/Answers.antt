@@ -5,8 +5,8 @@ use Rattle.cat_model.specs.declared.reply.Mark.{Mark}
 use Rattle.cluster_rules.specs.Sound.{IsAmong}
 use Rattle.http_exchanges.specs.Jobs.{HasEnded}
 use Rattle.http_connections.specs.Runs.{IsStarted}
-use Rattle.http_connections.proofs.Runs.{joins_later, joins_none, joins_one, joins_on, last_task, pooled_all, tasks_before}
-use Rattle.http_connections.proofs.Tasks.{one_fewer, total_more}
+use Rattle.http_connections.proofs.Runs.{joins_later, joins_none, joins_one, joins_on, last_task, pooled_all, shares_more, tasks_before}
+use Rattle.http_connections.proofs.Tasks.{one_fewer}
 use Rattle.http_connections.proofs.finish.finish_tasks.Goals as goal
 
 pub loop-task-init : goal.loop-task-init
@@ -43,7 +43,7 @@ loop-task-preserved g c =
     let knows : List Mark → Type 0 = λ seen. IsAmong seen c.loop-task.pass.seat.me.0.told in let knows' : List Mark → Type 0 = λ seen. IsAmong seen c.finish_one-one.new.pass.seat.me.0.told in
     let a = closed c.args.listener.now in let b = closed c.loop-task.listener in let z = closed c.finish_one-one.new.listener in
     let mine = c.args.pass.now.seat.me.0.mine in let mine₁ = c.loop-task.pass.seat.me.0.mine in let mine₂ = c.finish_one-one.new.pass.seat.me.0.mine in
-    let all = total_more (λ t. (note_of t).0.value.pass.shares) xs ys x are in
+    let all = shares_more xs ys x (λ q. q.0.value.pass.shares) are in
     let n = length c.args.tasks.now.items in let m = length ys in let o = length xs in (
       c.finish_one-one.ensures.ours,
       ◌∙◌ {a = given c.finish_one-one.new.listener} c.finish_one-one.ensures.given i.1,

@@ -5,8 +5,8 @@ use Rattle.cat_model.specs.declared.reply.Mark.{Mark}
 use Rattle.cluster_rules.specs.Sound.{IsAmong}
 use Rattle.http_exchanges.specs.Jobs.{HasEnded}
 use Rattle.http_connections.specs.Runs.{IsStarted}
-use Rattle.http_connections.proofs.Runs.{joins_none, joins_one, pooled_all, task_at, tasks_left}
-use Rattle.http_connections.proofs.Tasks.{one_swapped, total_swapped}
+use Rattle.http_connections.proofs.Runs.{joins_none, joins_one, pooled_all, shares_swapped, task_at, tasks_left}
+use Rattle.http_connections.proofs.Tasks.{one_swapped}
 use Rattle.http_connections.proofs.finish.sweep_one.Goals as goal
 
 pub finish_one-one-requires-clause-kept : goal.finish_one-one-requires-clause-kept
@@ -45,6 +45,6 @@ returns-clause-tasks g c =
 pub returns-clause-shares : goal.returns-clause-shares
 returns-clause-shares g c =
     let x = c.swap_remove-task.result in let p = c.args.pass.now.shares in let s = (note_of x).0.value.pass.shares in
-    let all = total_swapped (λ t. (note_of t).0.value.pass.shares) c.args.jobs.now.tasks.items c.swap_remove-task.new.self.items c.next_place-at.result x
+    let all = shares_swapped c.args.jobs.now.tasks.items c.swap_remove-task.new.self.items x (λ q. q.0.value.pass.shares) c.next_place-at.result
     (subst (λ (l : List _). c.next_place-at.result < length l) c.deref.ensures.value (c.has_ended.ensures c.if-not-has_ended.false)) c.swap_remove-task.ensures.value c.swap_remove-task.ensures.items in
     let few = c.requires.few in let both = pooled_all p s (omega (arith, all, few)) in let e = c.finish_one-one.ensures.shares in omega (arith, all, both, e)

@@ -2,7 +2,7 @@ use denote.Param.{param}
 use denote.Param.Send.{arg_send, copied_send, param_send, param_sync}
 use denote.Exit.{no}
 use Rattle.stale_view.proofs.Crossing.{viewer_sends}
-use Rattle.http_connections.proofs.Crossing.{job_sends}
+use Rattle.http_exchanges.proofs.Crossing.{job_sends}
 use Rattle.http_exchanges.proofs.job.Finished.TheSendSync as finished
 use Rattle.http_exchanges.proofs.served.Served.TheSendSync as served
 use Rattle.http_connections.proofs.start.start_job.Goals as goal

@@ -22,4 +22,4 @@ returns-in-Ok-job_of-clause-unasked g c = c.launch.ensures.unasked ∙ c.job_of.
 
 pub returns-in-Ok-job_of-clause-shares : goal.returns-in-Ok-job_of-clause-shares
 returns-in-Ok-job_of-clause-shares g c =
-    launched_all (λ t. (note_of t).0.value) (λ j. j.pass.shares) c.in-Ok-job_of.job c.launch.result c.launch.new.pass.shares c.job_of.new.pass.shares c.args.pass.now.shares c.launch.ensures.shares c.launch.ensures.job c.in-Ok-job_of.ensures.shares
+    launched_all c.launch.result c.in-Ok-job_of.job (λ t. (note_of t).0.value) (λ j. j.pass.shares) c.launch.new.pass.shares c.job_of.new.pass.shares c.args.pass.now.shares c.launch.ensures.shares c.launch.ensures.job c.in-Ok-job_of.ensures.shares

@@ -1,9 +1,8 @@
 use Rattle.std.proofs.Common.{◌∙◌, ◌≡◌, ◌+◌, [], ap, sym, arith, length, List, refl, subst, Ok, Err}
 use Rattle.cat_model.specs.declared.reply.Mark.{Mark}
 use Rattle.cluster_rules.specs.Sound.{IsAmong}
-use Rattle.http_connections.specs.Tasks.{shares_out}
 use Rattle.http_connections.specs.Runs.{KeepsDraws, Starts}
-use Rattle.http_connections.proofs.Runs.{handed_goes, handed_joins, handed_later, handed_none, handed_starts}
+use Rattle.http_connections.proofs.Runs.{handed_goes, handed_joins, handed_later, handed_none, handed_starts, shares_same}
 use Rattle.http_exchanges.proofs.Written.{rose_from}
 use Rattle.http_connections.proofs.start.start_tasks.Goals as goal
 
@@ -20,7 +19,7 @@ loop-n-init g c =
       c.requires.tasks,
       refl,
       λ seen a. a,
-      (let e = ap (λ (l : List _). shares_out l (λ p. p.0.value.pass.shares)) c.requires.none.0 in omega (arith, e)),
+      (let e = shares_same [] c.args.jobs.now.tasks.items (λ q. q.0.value.pass.shares) c.requires.none.0 in omega (arith, e)),
     )
 
 pub loop-n-preserved : goal.loop-n-preserved
