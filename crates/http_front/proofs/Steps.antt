@@ -391,7 +391,7 @@ begun_serves given size most c c' pairs e s (mid, all, is, few, stops) = subst (
 
 -- nothing was asked before, and nothing is asked by what is quiet
 still_unasked : (old new : List Mark) → numbers opens old ≡ [] → AddsQuiet old new → numbers opens new ≡ []
-still_unasked old new none q = ap (λ (l : List Mark). numbers opens l) q.are ∙ (none_append opens old q.rest none ∙ q.opens_none)
+still_unasked old new unasked q = ap (λ (l : List Mark). numbers opens l) q.are ∙ (none_append opens old q.rest unasked ∙ q.opens_none)
 
 plain_election : (c : Cluster) (s : ℕ) → IsPlain (event.Timeout s) c
 plain_election c s = record { past = refl; silent = record { opens_none = refl; takes_none = refl } }
@@ -401,7 +401,7 @@ first_unasked stores c c' first step =
     still_unasked (marks c) (marks c') (subst (λ (z : Cluster). numbers opens (marks z) ≡ []) (sym first.is) refl) (plain_step c c' (event.Timeout 1) true (plain_election c 1) step)
 
 pub begun_unasked : (most : ℕ) (c c' : Cluster) (pairs : ℕ) → IsUnasked c → SettlesTo most c c' pairs → IsUnasked c'
-begun_unasked most c c' pairs none whole = still_unasked (marks c) (marks c') none (settles most c c' (Ok pairs) whole tt)
+begun_unasked most c c' pairs unasked whole = still_unasked (marks c) (marks c') unasked (settles most c c' (Ok pairs) whole tt)
 
 pub kept : (size : Size) (c : Cluster) → Serves size c → AreKept (marks c)
 kept size c s = are_kept c.past (booked_kept c (is_booked size c s))
