@@ -45,7 +45,7 @@ without_keeps j k (p ∷ ps) d e =
     (λ _ _. at_bool (λ a. is_some (cond a (Some p) (numbered j ps)) ≡ true → is_some (cond a (Some p) (numbered j (without k ps))) ≡ true) (p.number == j)
     (λ _ _. refl) (λ _ f. without_keeps j k ps d f) e) refl
 
--- Making up leaves the world.
+-- Catching up leaves the world.
 did_world : (i : ℕ) (w : Work) (c : Cluster) → (did i w c).world ≡ c.world
 unfolding did
 did_world i (Replies q kind) c = refl

@@ -48,7 +48,7 @@ evaluates_within n k p a b c d x y z =
 pub evaluates_more : (m n k p : ℕ) (a c : Cluster) → m ≤ n → EvaluatesIn m k p a c → EvaluatesIn n k p a c
 evaluates_more m n k p a c l x = evaluates_on m 0 n k p p a c c (omega (arith, l)) x (evaluates_none p c)
 
--- making up, an act, and making up again
+-- catching up, an act, and catching up again
 pub evaluates_around : (own n k o p : ℕ) (a b c d : Cluster) → Evaluates k o a b → Adds own b c → EvaluatesIn n o p c d → EvaluatesIn (own + n) k p a d
 evaluates_around own n k o p a b c d x y z =
     evaluates_then (own + n) k o p a b d x (evaluates_on own n (own + n) o o p b c d (omega arith) (evaluates_adding own o b c y) z)

@@ -72,7 +72,7 @@ pub served_at_first : (i agent : ℕ) (asked : Asked) (draw : Draw) (found : Cut
 served_at_first i agent asked draw Before a b m = m.1
 served_at_first i agent asked draw Within a b m = inl m.0
 
--- the act of a request whose server has made up, which forgets nothing
+-- the act of a request whose server has caught up, which forgets nothing
 acted : (i agent : ℕ) (asked : Asked) (draw : Draw) (a b c : Cluster) → GoesBy agent asked (Goes i) a → IsMadeUp i (noted (event.Ask agent asked draw) a) b → HandlesNewest i agent asked draw b c →
     (x : Acts 0 (numbered agent asked draw b) i (event.Ask agent asked draw) c) × Remembers x
 acted i agent asked draw a b c g m x =

@@ -78,7 +78,7 @@ SyncsInPart i made Within c c' = SyncsAt i made c c' false
 abbrev pub IsSynced : ℕ → Event → Cluster → Cluster → Type 0
 IsSynced i made c c' = (c₁ : Cluster) × (c₂ : Cluster) × IsMadeUp i c c₁ × SyncsAt i made c₁ c₂ true × IsMadeUp i c₂ c'
 
--- and where it is cut short: while the server makes up before, in the sync, or behind it
+-- and where it is cut short: while the server catches up before, in the sync, or behind it
 abbrev pub IsSyncedInPart : ℕ → Event → Cut → Cluster → Cluster → Type 0
 IsSyncedInPart i made Before c c' = c' ≡ c
 IsSyncedInPart i made Within c c' =

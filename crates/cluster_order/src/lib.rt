@@ -1,5 +1,5 @@
 //! The order of an event's work, over whatever holds a cluster: it is marked, its server catches up on what is due, acts,
-//! makes up again, and its outs join the tray.
+//! catches up again, and its outs join the tray.
 //!
 //! # What is proved
 //!

@@ -1,4 +1,4 @@
-//! Making up, and an event's work at its server.
+//! Catching up, and an event's work at its server.
 
 ghost use Rattle.std.specs.Prelude.{◌≡◌, ◌≢◌, None, Some, Err, IfOk, IfErr, OnOk, OnErr};
 ghost use Rattle.cluster_rules.specs.Due.{due, Works};
@@ -14,7 +14,7 @@ use cat_model::{Memory, Steps};
 use std::alloc::Global;
 use std::sync::ledger::Ledger;
 
-// Makes up for what is still due.
+// Catches up on what is still due.
 fn go_on<P: Parts, L: Ledger>(
     parts: &mut P,
     alloc: Global,
@@ -31,7 +31,7 @@ fn go_on<P: Parts, L: Ledger>(
     Ok(())
 }
 
-/// Makes up for all that is due at a server, and says whether there was something. It lacks memory only where
+/// Catches up on all that is due at a server, and says whether there was something. It lacks memory only where
 /// something is due.
 #[tactic(none)]
 pub fn make_up<P: Parts, L: Ledger>(
@@ -62,7 +62,7 @@ pub fn cut_after(was: bool) -> Cut
     if was { Cut::Within } else { Cut::Before }
 }
 
-/// Makes up for what is due after an act.
+/// Catches up on what is due after an act.
 pub fn finish<P: Parts, L: Ledger>(
     parts: &mut P,
     alloc: Global,

@@ -1,4 +1,4 @@
-//! One turn of a server's making up.
+//! One turn of a server's catching up.
 
 ghost use Rattle.std.specs.Prelude.{◌≡◌, ◌≢◌, ◌<◌, List, None, true, IfOk, OnErr};
 ghost use Rattle.cluster_rules.specs.Agents.{Agent};

@@ -9,14 +9,14 @@ use Rattle.outside.specs.Causes.{Rose}
 use Rattle.cluster_rules.specs.Replies.{Reply}
 use Rattle.http_wire.specs.declared.rejection.Rejection.{Rejection}
 use Rattle.serve_outside.specs.Links.{IsNew, LinkState}
-use Rattle.http_connections.specs.declared.cluster.Ask.{Ask}
-use Rattle.http_connections.specs.declared.cause.Cause.{Cause}
-use Rattle.http_connections.specs.declared.cause.Cause.TheVariants as cause
+use Rattle.http_exchanges.specs.declared.cluster.Ask.{Ask}
+use Rattle.http_exchanges.specs.declared.cause.Cause.{Cause}
+use Rattle.http_exchanges.specs.declared.cause.Cause.TheVariants as cause
 use Rattle.http_connections.specs.Complete.{AnswersAll, EndsWell, IsUnbroken}
-use Rattle.http_connections.specs.Jobs.{agent_of}
-use Rattle.http_connections.specs.Knowing.{HasLearned, Known}
+use Rattle.http_connections.specs.Tasks.{agent_of}
+use Rattle.http_exchanges.specs.Knowing.{HasLearned, Known}
 use Rattle.http_connections.specs.Runs.{Back, IsBack, IsDrawn, IsServed, turned_of, was_short}
-use Rattle.http_connections.specs.Serving.{AreOpen, Closes, EndsBy, Exchange, IsWhole, is_short}
+use Rattle.http_exchanges.specs.Serving.{AreOpen, Closes, EndsBy, Exchange, IsWhole, is_short}
 
 -- what was appended to nothing
 appended : (o o' : Option (List ℕ)) (bytes : List ℕ) → ForSome o (λ b. b ≡ []) → o' ≡ append_known o bytes → ForSome o' (λ b. b ≡ bytes)
@@ -55,6 +55,7 @@ module _ (shows : ℕ → Ask → Reply → List Mark → Type 0) (agrees : Type
         gives = w.came.gives;
         said = subst (λ (z : List ℕ). ForSome link.said (λ b. b ≡ z)) (sym (w.came.due ∙ append-nil w.came.written)) (appended first.said link.said w.came.written new.nothing_said passed.said);
         are_true = passed.are_true;
+        own = w.own;
         ends = last w.es w.rest w.ends;
         shut = shut;
       }

@@ -1,11 +1,3 @@
-pub mod MarkLists
-pub mod Clocks
-pub mod Agreeing
-pub mod OwnTurns
-pub mod Written
-pub mod Exchanges
-pub mod Shutting
-pub mod Leaving
 pub mod Tasks
 pub mod Runs
 pub mod Complete

@@ -1,6 +1,6 @@
 -- The links of a run, one after another.
-use Rattle.std.proofs.Common.{◌≡◌, ℕ, ◌+◌, ◌<◌, ◌≤◌, ◌⊎◌, inl, inr, Bool, true, false, ◌||◌, List, [], ◌∷◌, ◌++◌, length, map, refl, sym, ap, ◌∙◌, subst, arith, append_assoc, append-nil, length-append, Option, None, Some, Result, Ok, Err}
-use Rattle.std.specs.Prelude.{All, IfErr, IfSome, OnOk}
+use Rattle.std.proofs.Common.{◌≡◌, ℕ, ◌+◌, ◌-◌, ◌<◌, ◌≤◌, ◌⊎◌, ⊎_elim, inl, inr, Bool, true, false, ◌||◌, List, [], ◌∷◌, ◌++◌, length, map, refl, sym, ap, ◌∙◌, subst, arith, append_assoc, append-nil, length-append, Option, None, Some, Result, Ok, Err}
+use Rattle.std.specs.Prelude.{All, IfErr, IfSome, MatchOption, MatchResult, OnOk, min}
 use Rattle.std.specs.List.{AllByRecursion, list_any, slice_index_or, swap_remove}
 use Rattle.std.proofs.lemmas.List.{length-map, map-append}
 use Rattle.std.proofs.lemmas.List.Folds.{list_any-append}
@@ -14,22 +14,25 @@ use Rattle.cluster_rules.specs.Sound.{IsAmong}
 use Rattle.serve_outside.specs.Links.{LinkState, IsNew}
 use Rattle.serve_outside.specs.Tasks.{IsKept, note_of}
 use Rattle.serve_outside.specs.declared.job.Task.{Task}
-use Rattle.turn_lock.specs.Lists.{AreFronts, IsFront}
-use Rattle.http_connections.specs.declared.cluster.Ask.{Ask}
-use Rattle.http_connections.specs.declared.cause.Cause.{Cause}
-use Rattle.http_connections.specs.declared.cause.Cause.TheVariants as cause
-use Rattle.http_connections.specs.Jobs.{AllTasks, agent_of}
-use Rattle.http_connections.specs.Knowing.{HasLearned, Known}
-use Rattle.http_connections.specs.Runs.{TurnsAway, IsTurnedAway, TurnedAway, Starts, lacking, HasDrawn, IsDrawn, KeepsDraws, IsStarted, IsStartedAs, IsServed, ServesOne, Joins, Back, IsBack, Handed, HandsBack, was_short, turned_of, outcome_of}
+use Rattle.turn_lock.specs.Lists.{Among, AreFronts, IsFront, total}
+use Rattle.turn_lock.specs.Rule.{all_shares, given, pooled}
+use Rattle.turn_lock.proofs.Lists.{among_append}
+use Rattle.http_exchanges.specs.declared.cluster.Ask.{Ask}
+use Rattle.http_exchanges.specs.declared.cause.Cause.{Cause}
+use Rattle.http_exchanges.specs.declared.cause.Cause.TheVariants as cause
+use Rattle.http_connections.specs.Tasks.{AllTasks, agent_of, shares_out}
+use Rattle.http_exchanges.specs.Knowing.{HasLearned, Known}
+use Rattle.http_connections.specs.Runs.{TurnsAway, IsTurnedAway, TurnedAway, Starts, lacking, HasDrawn, IsDrawn, KeepsDraws, IsStarted, IsStartedAs, IsServed, ServesOne, Joins, Back, IsAskedBy, IsBack, Handed, HandsBack, was_short, turned_of, outcome_of}
 use Rattle.http_connections.specs.declared.run.Stop.{Stop}
 use Rattle.http_connections.specs.declared.run.Stop.TheVariants as stops
-use Rattle.http_connections.specs.declared.job.ServeJob.{ServeJob}
+use Rattle.http_exchanges.specs.declared.job.ServeJob.{ServeJob}
 use Rattle.crossbeam_utils.specs.declared.cache_padded.CachePadded.{CachePadded}
 use Rattle.turn_lock.specs.declared.history.History.{Ghosts}
 use Rattle.turn_lock.specs.declared.lock.HistoryLock.{HistoryLock}
-use Rattle.http_connections.specs.Serving.{Connection, EndsBy, is_short}
-use Rattle.http_connections.proofs.MarkLists.{in_left}
-use Rattle.http_connections.proofs.Tasks.{all_kept, all_last, all_one_more, all_rest, all_swapped}
+use Rattle.http_exchanges.specs.Serving.{Connection, EndsBy, is_short}
+use Rattle.http_exchanges.specs.Waiting.{Grows}
+use Rattle.http_exchanges.proofs.MarkLists.{in_left, in_right}
+use Rattle.http_connections.proofs.Tasks.{all_kept, all_last, all_one_more, all_rest, all_swapped, total_more, total_swapped}
 
 pub if_some : {T : Type 0} → (o : Option T) (t : T) (P : T → Type 0) → o ≡ Some t → IfSome o P → P t
 if_some o t P e i = subst (λ (z : Option _). IfSome z P) e i
@@ -114,13 +117,14 @@ starts_stop a b f g n m t s why x e d = record { turned = lacking (Err why); awa
 module _ {R S Cl G L : Type 0} {H : Ghosts S Mark} where
   pub started_later : (board : CachePadded (HistoryLock S Mark)) (agents : ℕ) (draws : Option (List Draw)) (state : L → LinkState) (x : Draw) (job : ServeJob R S Cl G L (List Command) Mark H) → IsStarted board agents draws state job
       → IsStarted board agents (option_map (λ before. before ++ x ∷ []) draws) state job
-  started_later board agents draws state x job i = record { own = i.own; new = i.new; agent = i.agent; drawn = drawn_later draws x (state job.link).number job.draw i.drawn }
+  started_later board agents draws state x job i = record { own = i.own; unasked = i.unasked; new = i.new; agent = i.agent; drawn = drawn_later draws x (state job.link).number job.draw i.drawn }
 
   pub started_now : (board : CachePadded (HistoryLock S Mark)) (agents : ℕ) (draws : Option (List Draw)) (state : L → LinkState) (x : Draw) (g n : ℕ) (job : ServeJob R S Cl G L (List Command) Mark H) → HasDrawn draws g → n ≡ g + 1 → IsStartedAs n x board agents state job
       → IsStarted board agents (option_map (λ before. before ++ x ∷ []) draws) state job
   started_now board agents draws state x g n job h e i =
       let number : n ≡ (state job.link).number = sym i.new.number in record {
         own = i.own;
+        unasked = i.unasked;
         new = subst (λ (k : ℕ). IsNew k (state job.link)) number i.new;
         agent = i.agent ∙ ap (agent_of agents) number;
         drawn = subst (λ (d : Draw). IsDrawn (option_map (λ before. before ++ x ∷ []) draws) (state job.link).number d) (sym i.draw_is)
@@ -148,6 +152,15 @@ later_number c shows agrees cause.ReadFault link v n x = x.came.passed.later.num
 later_number c shows agrees cause.WriteFault link v n x = x.0.came.passed.later.number
 later_number c shows agrees cause.Left link v n x = x.0.passed.later.number
 later_number c shows agrees cause.Memory link v n x = x.came.passed.later.number
+
+-- what was known at its end has grown
+pub ends_grown : (c : Connection) (shows : ℕ → Ask → Reply → List Mark → Type 0) (agrees : Type 0) (why : Cause) (link : LinkState) (v : Known) (n : ℕ) → EndsBy shows agrees c why link v n → Grows c.begun v
+ends_grown c shows agrees cause.Closed link v n x = x.came.passed.grown
+ends_grown c shows agrees (cause.Refused why) link v n x = x.came.passed.grown
+ends_grown c shows agrees cause.ReadFault link v n x = x.came.passed.grown
+ends_grown c shows agrees cause.WriteFault link v n x = x.0.came.passed.grown
+ends_grown c shows agrees cause.Left link v n x = x.0.passed.grown
+ends_grown c shows agrees cause.Memory link v n x = x.came.passed.grown
 
 -- what a pass knows that others were put into
 pub told_before : (old theirs new : List (List Mark)) (own : List Mark) → new ≡ own ∷ (old ++ theirs) → (seen : List Mark) → IsAmong seen old → IsAmong seen new
@@ -213,40 +226,57 @@ or_assoc false b c = refl
 
 module _ (shows : ℕ → Ask → Reply → List Mark → Type 0) (agrees : Type 0) (agents : ℕ) (draws : Option (List Draw)) where
   module _ (Knows : List Mark → Type 0) where
-    pub is_served : (c : Connection) (link : LinkState) (known : Known) (why : Cause) (requests : ℕ) → Knows known.seen → (is_short why ≡ false → HasLearned agrees known) → IsNew c.first.number c.first → c.agent ≡ agent_of agents c.first.number → IsDrawn draws c.first.number c.draw
-        → EndsBy shows agrees c why link known requests → link.shut ≡ true → IsServed shows agrees agents draws Knows link why
-    is_served c link known why requests seen learned new agent drawn ends shut =
-        let number : c.first.number ≡ link.number = sym (later_number c shows agrees why link known requests ends) in record {
-          first = c.first;
-          draw = c.draw;
-          begun = c.begun;
-          known = known;
-          requests = requests;
-          seen = seen;
-          learned = learned;
-          new = subst (λ (n : ℕ). IsNew n c.first) number new;
-          drawn = subst (λ (n : ℕ). IsDrawn draws n c.draw) number drawn;
-          ends = subst (λ (a : ℕ). EndsBy shows agrees (record { agent = a; draw = c.draw; first = c.first; begun = c.begun }) why link known requests) (agent ∙ ap (agent_of agents) number) ends;
-          shut = shut;
-        }
+    pub is_served : (c : Connection) (link : LinkState) (known : Known) (why : Cause) (requests : ℕ) → Knows known.seen → (is_short why ≡ false → HasLearned agrees known) → c.begun.mine ≡ [] → IsNew c.first.number c.first → c.agent ≡ agent_of agents c.first.number → IsDrawn draws c.first.number c.draw
+        → EndsBy shows agrees c why link known requests → link.shut ≡ true → (is : IsServed shows agrees agents draws Knows link why) × (is.known ≡ known)
+    is_served c link known why requests seen learned unasked new agent drawn ends shut =
+        let number : c.first.number ≡ link.number = sym (later_number c shows agrees why link known requests ends) in (
+          record {
+            first = c.first;
+            draw = c.draw;
+            begun = c.begun;
+            known = known;
+            unasked = unasked;
+            requests = requests;
+            seen = seen;
+            learned = learned;
+            new = subst (λ (n : ℕ). IsNew n c.first) number new;
+            drawn = subst (λ (n : ℕ). IsDrawn draws n c.draw) number drawn;
+            ends = subst (λ (a : ℕ). EndsBy shows agrees (record { agent = a; draw = c.draw; first = c.first; begun = c.begun }) why link known requests) (agent ∙ ap (agent_of agents) number) ends;
+            shut = shut;
+          },
+          refl,
+        )
+
+    asked_left : (xs ys : List Back) (n : ℕ) → IsAskedBy shows agrees agents draws Knows xs n → IsAskedBy shows agrees agents draws Knows (xs ++ ys) n
+    asked_left xs ys n q = (q.0, q.1, in_left (q.0, Some q.1) xs ys q.2, q.3)
+
+    asked_right : (xs ys : List Back) (n : ℕ) → IsAskedBy shows agrees agents draws Knows ys n → IsAskedBy shows agrees agents draws Knows (xs ++ ys) n
+    asked_right xs ys n q = (q.0, q.1, in_right (q.0, Some q.1) xs ys q.2, q.3)
 
     -- what tasks that end leave
-    pub joins_none : (old : List LinkState) (n : ℕ) (short : Bool) → Joins shows agrees agents draws Knows old old n n short short
-    joins_none old n short = record { links = []; are = sym (append-nil old); each = tt; count = omega arith; short_is = sym (or_false short) }
+    pub joins_none : (old : List LinkState) (n : ℕ) (short : Bool) (mine : List ℕ) → Joins shows agrees agents draws Knows old old n n short short mine mine
+    joins_none old n short mine = record { links = []; own = λ k h. inl h; are = sym (append-nil old); each = tt; count = omega arith; short_is = sym (or_false short) }
 
-    pub joins_one : (a b : List LinkState) (n m : ℕ) (short one now : Bool) → m + 1 ≡ n → ServesOne shows agrees agents draws Knows a b one → now ≡ (short || one) → Joins shows agrees agents draws Knows a b n m short now
-    joins_one a b n m short one now count x is = record {
+    pub joins_one : (a b : List LinkState) (n m : ℕ) (short one now : Bool) (mine mine' : List ℕ) → m + 1 ≡ n → ServesOne shows agrees agents draws Knows a b one mine mine' → now ≡ (short || one) → Joins shows agrees agents draws Knows a b n m short now mine mine'
+    joins_one a b n m short one now mine mine' count x is = record {
       links = (x.link, x.why) ∷ [];
+      own = λ k h. ⊎_elim (λ (old : Among k mine). inl old) (λ (new : Among k x.is.known.mine). inr (x.link, x.why, inl refl, (x.is, new))) (among_append k mine x.is.known.mine (subst (Among k) x.own h));
       are = x.are;
       each = (x.is, tt);
       count = let c = count in omega arith;
       short_is = is ∙ ap (λ b. short || b) (x.short_is ∙ sym (or_false (is_short x.why)));
     }
 
-    pub joins_on : (a b c : List LinkState) (n m o : ℕ) (s t u : Bool) → Joins shows agrees agents draws Knows a b n m s t → Joins shows agrees agents draws Knows b c m o t u → Joins shows agrees agents draws Knows a c n o s u
-    joins_on a b c n m o s t u x y =
+    pub joins_on : (a b c : List LinkState) (n m o : ℕ) (s t u : Bool) (mine mine₁ mine₂ : List ℕ) → Joins shows agrees agents draws Knows a b n m s t mine mine₁ → Joins shows agrees agents draws Knows b c m o t u mine₁ mine₂ → Joins shows agrees agents draws Knows a c n o s u mine mine₂
+    joins_on a b c n m o s t u mine mine₁ mine₂ x y =
         let test : LinkState × Cause → Bool = λ l. is_short l.1 in let link : LinkState × Cause → LinkState = λ l. l.0 in record {
           links = x.links ++ y.links;
+          own = λ k h. let both = sym (map-append as_served x.links y.links) in ⊎_elim
+              (λ (mid : Among k mine₁). ⊎_elim (λ (old : Among k mine). inl old)
+              (λ (q : IsAskedBy shows agrees agents draws Knows (map as_served x.links) k). inr (subst (λ (l : List Back). IsAskedBy shows agrees agents draws Knows l k) both (asked_left (map as_served x.links) (map as_served y.links) k q)))
+              (x.own k mid))
+              (λ (q : IsAskedBy shows agrees agents draws Knows (map as_served y.links) k). inr (subst (λ (l : List Back). IsAskedBy shows agrees agents draws Knows l k) both (asked_right (map as_served x.links) (map as_served y.links) k q)))
+              (y.own k h);
           are = y.are ∙ (ap (λ (l : List LinkState). l ++ map link y.links) x.are ∙ (append_assoc a (map link x.links) (map link y.links) ∙ ap (λ (l : List LinkState). a ++ l) (sym (map-append link x.links y.links))));
           each = each_more (λ l. IsServed shows agrees agents draws Knows l.0 l.1) x.links y.links x.each y.each;
           count = let k = x.count in let j = y.count in let e = length-append x.links y.links in omega arith;
@@ -262,13 +292,14 @@ module _ (shows : ℕ → Ask → Reply → List Mark → Type 0) (agrees : Type
     served_back [] each = tt
     served_back (l ∷ ls) each = (each.0, served_back ls each.1)
 
-    pub handed_none : (old : List LinkState) (f n t : ℕ) (s : Bool) → n ≡ 0 → t ≡ 0 → s ≡ false → Handed shows agrees agents draws Knows old old f f n t s
-    handed_none old f n t s none empty long = record { links = []; are = sym (append-nil old); each = tt; count = omega (arith, empty, none); few = omega arith; short_is = long }
+    pub handed_none : (old : List LinkState) (f n t : ℕ) (s : Bool) (mine : List ℕ) → n ≡ 0 → t ≡ 0 → s ≡ false → mine ≡ [] → Handed shows agrees agents draws Knows old old f f n t s mine
+    handed_none old f n t s mine none empty long unasked = record { links = []; own = λ k h. absurd (subst (Among k) unasked h); are = sym (append-nil old); each = tt; count = omega (arith, empty, none); few = omega arith; short_is = long }
 
-    pub handed_starts : (a b c : List LinkState) (f g h n m t s : ℕ) (short : Bool) (r : Result Unit Stop) → Handed shows agrees agents draws Knows a b f g n t short → Starts b c g h n m t s r → Handed shows agrees agents draws Knows a c f (h + lacking r) m s short
-    handed_starts a b c f g h n m t s short r x y =
+    pub handed_starts : (a b c : List LinkState) (f g h n m t s : ℕ) (short : Bool) (r : Result Unit Stop) (mine mine' : List ℕ) → mine' ≡ mine → Handed shows agrees agents draws Knows a b f g n t short mine → Starts b c g h n m t s r → Handed shows agrees agents draws Knows a c f (h + lacking r) m s short mine'
+    handed_starts a b c f g h n m t s short r mine mine' same x y =
         let turned = y.away.links in record {
           links = x.links ++ map as_turned turned;
+          own = λ k q. asked_left x.links (map as_turned turned) k (x.own k (subst (Among k) same q));
           are = y.away.are ∙ (ap (λ (l : List LinkState). l ++ turned) x.are ∙ (append_assoc a (map link_of x.links) turned
               ∙ ap (λ (l : List LinkState). a ++ l) (ap (λ (l : List LinkState). map link_of x.links ++ l) (turned_links turned) ∙ sym (map-append link_of x.links (map as_turned turned)))));
           each = each_more (IsBack shows agrees agents draws Knows) x.links (map as_turned turned) x.each (turned_back turned y.away.each);
@@ -277,13 +308,14 @@ module _ (shows : ℕ → Ask → Reply → List Mark → Type 0) (agrees : Type
           short_is = x.short_is ∙ (sym (or_false (list_any short_of x.links)) ∙ (ap (λ b. list_any short_of x.links || b) (sym (turned_long turned)) ∙ sym (list_any-append short_of x.links (map as_turned turned))));
         }
 
-    pub handed_goes : (a b c : List LinkState) (f g h n m t s : ℕ) (short : Bool) {u : Unit {0}} → Handed shows agrees agents draws Knows a b f g n t short → Starts b c g h n m t s (Ok u) → Handed shows agrees agents draws Knows a c f h m s short
-    handed_goes a b c f g h n m t s short {u} x y = subst (λ (k : ℕ). Handed shows agrees agents draws Knows a c f k m s short) (let e : h + lacking (Ok u) ≡ h = omega arith in e) (handed_starts a b c f g h n m t s short (Ok u) x y)
+    pub handed_goes : (a b c : List LinkState) (f g h n m t s : ℕ) (short : Bool) (mine mine' : List ℕ) {u : Unit {0}} → mine' ≡ mine → Handed shows agrees agents draws Knows a b f g n t short mine → Starts b c g h n m t s (Ok u) → Handed shows agrees agents draws Knows a c f h m s short mine'
+    handed_goes a b c f g h n m t s short mine mine' {u} same x y = subst (λ (k : ℕ). Handed shows agrees agents draws Knows a c f k m s short mine') (let e : h + lacking (Ok u) ≡ h = omega arith in e) (handed_starts a b c f g h n m t s short (Ok u) mine mine' same x y)
 
-    pub handed_joins : (a b c : List LinkState) (f g n t s : ℕ) (short short' : Bool) → Handed shows agrees agents draws Knows a b f g n t short → Joins shows agrees agents draws Knows b c t s short short' → Handed shows agrees agents draws Knows a c f g n s short'
-    handed_joins a b c f g n t s short short' x y =
+    pub handed_joins : (a b c : List LinkState) (f g n t s : ℕ) (short short' : Bool) (mine mine' : List ℕ) → Handed shows agrees agents draws Knows a b f g n t short mine → Joins shows agrees agents draws Knows b c t s short short' mine mine' → Handed shows agrees agents draws Knows a c f g n s short' mine'
+    handed_joins a b c f g n t s short short' mine mine' x y =
         let served = y.links in record {
           links = x.links ++ map as_served served;
+          own = λ k h. ⊎_elim (λ (old : Among k mine). asked_left x.links (map as_served served) k (x.own k old)) (λ (new : IsAskedBy shows agrees agents draws Knows (map as_served served) k). asked_right x.links (map as_served served) k new) (y.own k h);
           are = y.are ∙ (ap (λ (l : List LinkState). l ++ map (λ l. l.0) served) x.are ∙ (append_assoc a (map link_of x.links) (map (λ l. l.0) served)
               ∙ ap (λ (l : List LinkState). a ++ l) (ap (λ (l : List LinkState). map link_of x.links ++ l) (served_links served) ∙ sym (map-append link_of x.links (map as_served served)))));
           each = each_more (IsBack shows agrees agents draws Knows) x.links (map as_served served) x.each (served_back served y.each);
@@ -292,11 +324,11 @@ module _ (shows : ℕ → Ask → Reply → List Mark → Type 0) (agrees : Type
           short_is = y.short_is ∙ (ap (λ b. b || list_any (λ (l : LinkState × Cause). is_short l.1) served) x.short_is ∙ (ap (λ b. list_any short_of x.links || b) (served_short served) ∙ sym (list_any-append short_of x.links (map as_served served))));
         }
 
-    pub hands_back : (a c : List LinkState) (f g n n' t : ℕ) (r r' : Result Unit Stop) (short : Bool) → Handed shows agrees agents draws Knows a c f (g + lacking r) n t short → t ≡ 0 → n' ≡ n → r' ≡ outcome_of r short → HandsBack shows agrees agents draws Knows a c f g n' r'
-    hands_back a c f g n n' t r r' short x none same is = subst (λ (z : Result Unit Stop). HandsBack shows agrees agents draws Knows a c f g n' z) (sym is) (record {
+    pub hands_back : (a c : List LinkState) (f g n n' t : ℕ) (r r' : Result Unit Stop) (short : Bool) (mine asked : List ℕ) → ((k : ℕ) → Among k asked → Among k mine) → Handed shows agrees agents draws Knows a c f (g + lacking r) n t short mine → t ≡ 0 → n' ≡ n → r' ≡ outcome_of r short → HandsBack shows agrees agents draws Knows a c f g n' asked r'
+    hands_back a c f g n n' t r r' short mine asked whole x none same is = subst (λ (z : Result Unit Stop). HandsBack shows agrees agents draws Knows a c f g n' asked z) (sym is) (record {
       lacked = lacking r;
       short = short;
-      all = record { links = x.links; are = x.are; each = x.each; count = let k = x.count in omega arith; few = x.few; short_is = x.short_is };
+      all = record { links = x.links; own = λ k h. x.own k (whole k h); are = x.are; each = x.each; count = let k = x.count in omega arith; few = x.few; short_is = x.short_is };
       most = lacks_one r;
       well = is_well r short;
       lack = is_lack r short;
@@ -320,8 +352,14 @@ module _ (shows : ℕ → Ask → Reply → List Mark → Type 0) (agrees : Type
 
 -- what was seen may be known in another way, and more may have been drawn
 module _ (shows : ℕ → Ask → Reply → List Mark → Type 0) (agrees : Type 0) (agents : ℕ) (draws draws' : Option (List Draw)) (drawn : KeepsDraws draws draws') (Knows Knows' : List Mark → Type 0) (knows : (seen : List Mark) → Knows seen → Knows' seen) where
+  served_later_as : (link : LinkState) (why : Cause) (i : IsServed shows agrees agents draws Knows link why) → (is : IsServed shows agrees agents draws' Knows' link why) × (is.known ≡ i.known)
+  served_later_as link why i = (record { first = i.first; draw = i.draw; begun = i.begun; known = i.known; unasked = i.unasked; requests = i.requests; seen = knows i.known.seen i.seen; learned = i.learned; new = i.new; drawn = drawn link.number i.draw i.drawn; ends = i.ends; shut = i.shut }, refl)
+
   served_later : (link : LinkState) (why : Cause) → IsServed shows agrees agents draws Knows link why → IsServed shows agrees agents draws' Knows' link why
-  served_later link why i = record { first = i.first; draw = i.draw; begun = i.begun; known = i.known; requests = i.requests; seen = knows i.known.seen i.seen; learned = i.learned; new = i.new; drawn = drawn link.number i.draw i.drawn; ends = i.ends; shut = i.shut }
+  served_later link why i = (served_later_as link why i).0
+
+  asked_later : (links : List Back) (n : ℕ) → IsAskedBy shows agrees agents draws Knows links n → IsAskedBy shows agrees agents draws' Knows' links n
+  asked_later links n q = let i = q.3.0 in let s = served_later_as q.0 q.1 i in (q.0, q.1, q.2, (s.0, subst (λ (k : Known). Among n k.mine) (sym s.1) q.3.1))
 
   back_later : (b : Back) → IsBack shows agrees agents draws Knows b → IsBack shows agrees agents draws' Knows' b
   back_later (link, None) is = is
@@ -335,11 +373,45 @@ module _ (shows : ℕ → Ask → Reply → List Mark → Type 0) (agrees : Type
   ends_later [] each = tt
   ends_later (l ∷ ls) each = (served_later l.0 l.1 each.0, ends_later ls each.1)
 
-  pub handed_later : (a b : List LinkState) (f g n t : ℕ) (short : Bool) → Handed shows agrees agents draws Knows a b f g n t short → Handed shows agrees agents draws' Knows' a b f g n t short
-  handed_later a b f g n t short x = record { links = x.links; are = x.are; each = backs_later x.links x.each; count = x.count; few = x.few; short_is = x.short_is }
+  pub handed_later : (a b : List LinkState) (f g n t : ℕ) (short : Bool) (mine : List ℕ) → Handed shows agrees agents draws Knows a b f g n t short mine → Handed shows agrees agents draws' Knows' a b f g n t short mine
+  handed_later a b f g n t short mine x = record { links = x.links; own = λ k h. asked_later x.links k (x.own k h); are = x.are; each = backs_later x.links x.each; count = x.count; few = x.few; short_is = x.short_is }
 
-  pub joins_later : (a b : List LinkState) (n m : ℕ) (s t : Bool) → Joins shows agrees agents draws Knows a b n m s t → Joins shows agrees agents draws' Knows' a b n m s t
-  joins_later a b n m s t x = record { links = x.links; are = x.are; each = ends_later x.links x.each; count = x.count; short_is = x.short_is }
+  pub joins_later : (a b : List LinkState) (n m : ℕ) (s t : Bool) (mine mine' : List ℕ) → Joins shows agrees agents draws Knows a b n m s t mine mine' → Joins shows agrees agents draws' Knows' a b n m s t mine mine'
+  joins_later a b n m s t mine mine' x = record { links = x.links; own = λ k h. ⊎_elim (λ (old : Among k mine). inl old) (λ (q : IsAskedBy shows agrees agents draws Knows (map as_served x.links) k). inr (asked_later (map as_served x.links) k q)) (x.own k h); are = x.are; each = ends_later x.links x.each; count = x.count; short_is = x.short_is }
+
+-- shares of two passes that fit into the numbers are added up
+pub pooled_all : (n m : ℕ) → n + m ≤ all_shares → pooled n m ≡ n + m
+pooled_all n m l = omega (arith, l)
+
+-- what one more pass or none has of all shares
+module _ {T : Type 0} (f : T → ℕ) (all : ℕ) (whole : all ≡ all_shares) where
+  pub kept_few : (o : Option T) (p : ℕ) → MatchOption o (p ≡ all) (λ k. p + f k ≡ all) → p ≤ all_shares
+  kept_few None p e = omega (arith, e, whole)
+  kept_few (Some k) p e = omega (arith, e, whole)
+
+  pub kept_some : (o : Option T) (p q : ℕ) → MatchOption o (p ≡ all) (λ k. p + f k ≡ all) → q ≡ p → IfSome o (λ k. q + f k ≤ all_shares)
+  kept_some None p q e s = tt
+  kept_some (Some k) p q e s = omega (arith, e, s, whole)
+
+  pub all_back : (o : Option T) (p q r : ℕ) → MatchOption o (p ≡ all) (λ k. p + f k ≡ all) → q ≡ p → MatchOption o (r ≡ q) (λ k. r ≡ q + f k) → r ≡ all_shares
+  all_back None p q r e s g = omega (arith, e, s, g, whole)
+  all_back (Some k) p q r e s g = omega (arith, e, s, g, whole)
+
+-- a task was started with the pass that was split off, or the pass was put back
+pub launched_all : {T J : Type 0} → (note : T → J) (f : J → ℕ) (job : J) (o : Option T) (new mid old : ℕ) → MatchOption o (new ≡ mid + f job) (λ t. new ≡ mid) → IfSome o (λ t. note t ≡ job) → mid + f job ≡ old
+    → MatchOption o (new ≡ old) (λ t. new + f (note t) ≡ old)
+launched_all note f job None new mid old e n s = omega (arith, e, s)
+launched_all note f job (Some t) new mid old e n s = let k = ap f n in omega (arith, e, s, k)
+
+pub match_some : {T : Type 0} → (o : Option T) (t : T) (A : Type 0) (P : T → Type 0) → o ≡ Some t → MatchOption o A P → P t
+match_some o t A P e m = subst (λ (z : Option _). MatchOption z A P) e m
+
+pub match_none : {T : Type 0} → (o : Option T) (A : Type 0) (P : T → Type 0) → o ≡ None → MatchOption o A P → A
+match_none o A P e m = subst (λ (z : Option _). MatchOption z A P) e m
+
+-- shares of a part that was split off
+pub split_all : (old new part : ℕ) → part ≡ given old → new ≡ old - part → new + part ≡ old
+split_all old new part g e = omega (arith, g, e)
 
 -- what a run's outcome tells of its start
 pub given_all : (given given' count : ℕ) (r r' : Result Unit Stop) (short : Bool) → given' ≡ given → r' ≡ outcome_of r short → OnOk r (given ≡ count) → OnOk r' (given' ≡ count)

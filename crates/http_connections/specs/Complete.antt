@@ -7,11 +7,11 @@ use Rattle.cluster_rules.specs.Replies.{Reply}
 use Rattle.http_wire.specs.declared.rejection.Rejection.{Rejection}
 use Rattle.http_wire.specs.State.{GivesAll}
 use Rattle.serve_outside.specs.Links.{IsNew, LinkState}
-use Rattle.http_connections.specs.declared.cluster.Ask.{Ask}
-use Rattle.http_connections.specs.Jobs.{agent_of}
-use Rattle.http_connections.specs.Knowing.{HasLearned, Known}
+use Rattle.http_exchanges.specs.declared.cluster.Ask.{Ask}
+use Rattle.http_connections.specs.Tasks.{agent_of}
+use Rattle.http_exchanges.specs.Knowing.{HasLearned, Known}
 use Rattle.http_connections.specs.Runs.{IsDrawn}
-use Rattle.http_connections.specs.Serving.{AreOpen, AreTrue, Closes, Exchange, bytes_of, items_of, last_bytes}
+use Rattle.http_exchanges.specs.Serving.{AreOpen, AreTrue, Closes, Exchange, asked_numbers, bytes_of, items_of, last_bytes}
 
 -- no read and no write of the link failed since it came
 abbrev pub IsUnbroken : LinkState → Type 0
@@ -25,9 +25,8 @@ EndsWell None es rest ends = ((rest ≡ []) × AreOpen es × (0 < ends)) ⊎ (Cl
 
 -- Everything that came over the link was answered. The bytes that it tells as read give these messages, and a refusal
 -- behind them if there is one; the bytes that it tells as written are, in the same order, one reply to each message, and
--- then the refusal's; each reply is the true one, and no
--- view showed more than what was agreed. `Knows` tells which beginnings of the cluster's marks were seen, and `agrees` whether
--- its servers agree.
+-- then the refusal's; each reply is the true one, no view showed more than what was agreed, and nothing was asked but these
+-- messages. `Knows` tells which beginnings of the cluster's marks were seen, and `agrees` whether its servers agree.
 pub record AnswersAll (shows : ℕ → Ask → Reply → List Mark → Type 0) (agrees : Type 0) (agents : ℕ) (draws : Option (List Draw)) (Knows : List Mark → Type 0) (link : LinkState) : Type 0 where
   pub first : LinkState
   pub draw : Draw
@@ -45,5 +44,6 @@ pub record AnswersAll (shows : ℕ → Ask → Reply → List Mark → Type 0) (
   pub gives : GivesAll stream (items_of es) rejection
   pub said : ForSome link.said (λ bytes. bytes ≡ bytes_of es ++ last_bytes rejection)
   pub are_true : AreTrue shows agrees (record { agent = agent_of agents link.number; draw = draw; first = first; begun = begun }) es known
+  pub own : known.mine ≡ begun.mine ++ asked_numbers es
   pub ends : EndsWell rejection es rest link.ends
   pub shut : link.shut ≡ true

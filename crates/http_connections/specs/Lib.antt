@@ -1,13 +1,3 @@
-pub mod Marks
-pub mod Collects
-pub mod Turns
-pub mod Boards
-pub mod Knowing
-pub mod Waiting
-pub mod Replies
-pub mod Serving
-pub mod Stages
-pub mod Services
-pub mod Jobs
+pub mod Tasks
 pub mod Runs
 pub mod Complete

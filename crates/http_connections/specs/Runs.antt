@@ -7,21 +7,24 @@ use Rattle.cat_model.specs.declared.request.Draw.{Draw}
 use Rattle.cat_model.specs.declared.reply.Mark.{Mark}
 use Rattle.cat_model.specs.declared.reply.Refusal.TheVariants.{NoWorker}
 use Rattle.cluster_rules.specs.Replies.{Reply}
+use Rattle.cluster_rules.specs.Sound.{IsAmong}
 use Rattle.crossbeam_utils.specs.declared.cache_padded.CachePadded.{CachePadded}
 use Rattle.crossbeam_utils.specs.Padded.{padded_value}
 use Rattle.serve_outside.specs.Links.{LinkState, IsNew}
 use Rattle.turn_lock.specs.declared.history.History.{Ghosts}
 use Rattle.turn_lock.specs.declared.lock.HistoryLock.{HistoryLock}
-use Rattle.http_connections.specs.declared.cause.Cause.{Cause}
-use Rattle.http_connections.specs.declared.cluster.Ask.{Ask}
-use Rattle.http_connections.specs.declared.job.ServeJob.{ServeJob}
+use Rattle.turn_lock.specs.Lists.{Among}
+use Rattle.http_exchanges.specs.declared.cause.Cause.{Cause}
+use Rattle.http_exchanges.specs.declared.cluster.Ask.{Ask}
+use Rattle.http_exchanges.specs.declared.job.ServeJob.{ServeJob}
 use Rattle.http_connections.specs.declared.run.Stop.{Stop}
 use Rattle.http_connections.specs.declared.run.Stop.TheVariants as stops
-use Rattle.http_connections.specs.Jobs.{agent_of}
-use Rattle.http_connections.specs.Knowing.{HasLearned, Known}
-use Rattle.http_connections.specs.Replies.{refusing, text_of}
-use Rattle.http_connections.specs.Serving.{EndsBy, is_short}
-use Rattle.http_connections.specs.Stages.{Wrote}
+use Rattle.http_exchanges.specs.Boards.{known}
+use Rattle.http_connections.specs.Tasks.{agent_of}
+use Rattle.http_exchanges.specs.Knowing.{HasLearned, Known}
+use Rattle.http_exchanges.specs.Replies.{refusing, text_of}
+use Rattle.http_exchanges.specs.Serving.{EndsBy, is_short}
+use Rattle.http_exchanges.specs.Stages.{Wrote}
 
 -- A link was told that no worker could be had, as far as that could be written, and shut.
 pub record TurnsAway (first last : LinkState) : Type 0 where
@@ -71,16 +74,18 @@ IsDrawn None n draw = ⊤
 IsDrawn (Some draws) n draw = IsPlaced draws n draw
 
 module _ {R S Cl G L : Type 0} {H : Ghosts S Mark} where
-  -- the job is that of the n-th link, and has this draw
+  -- the job is that of the n-th link, has this draw, and has asked nothing
   pub record IsStartedAs (n : ℕ) (draw : Draw) (board : CachePadded (HistoryLock S Mark)) (agents : ℕ) (state : L → LinkState) (job : ServeJob R S Cl G L (List Command) Mark H) : Type 0 where
     pub own : job.pass.seat.table_id ≡ (padded_value board).table.shared.table_id
+    pub unasked : (known job.pass).mine ≡ []
     pub new : IsNew n (state job.link)
     pub agent : job.agent ≡ agent_of agents n
     pub draw_is : job.draw ≡ draw
 
-  -- The job is that of a new link. The link's number says which agent and which draw it has.
+  -- The job is that of a new link, and has asked nothing. The link's number says which agent and which draw it has.
   pub record IsStarted (board : CachePadded (HistoryLock S Mark)) (agents : ℕ) (draws : Option (List Draw)) (state : L → LinkState) (job : ServeJob R S Cl G L (List Command) Mark H) : Type 0 where
     pub own : job.pass.seat.table_id ≡ (padded_value board).table.shared.table_id
+    pub unasked : (known job.pass).mine ≡ []
     pub new : IsNew (state job.link).number (state job.link)
     pub agent : job.agent ≡ agent_of agents (state job.link).number
     pub drawn : IsDrawn draws (state job.link).number job.draw
@@ -124,6 +129,7 @@ module _ (shows : ℕ → Ask → Reply → List Mark → Type 0) (agrees : Type
     pub draw : Draw
     pub begun : Known
     pub known : Known
+    pub unasked : begun.mine ≡ []
     pub requests : ℕ
     pub seen : Knows known.seen
     pub learned : is_short why ≡ false → HasLearned agrees known
@@ -132,18 +138,25 @@ module _ (shows : ℕ → Ask → Reply → List Mark → Type 0) (agrees : Type
     pub ends : EndsBy shows agrees (record { agent = agent_of agents link.number; draw = draw; first = first; begun = begun }) why link known requests
     pub shut : link.shut ≡ true
 
-  -- one link more was served and handed back; `short` tells whether it ended for lack of memory
-  pub record ServesOne (old new : List LinkState) (short : Bool) : Type 0 where
+  -- one of these links was served, and the number is among those that its pass opened
+  abbrev pub IsAskedBy : List Back → ℕ → Type 0
+  IsAskedBy links n = (link : LinkState) × (why : Cause) × IsAmong (link, Some why) links × ((is : IsServed link why) × Among n is.known.mine)
+
+  -- One link more was served and handed back; `short` tells whether it ended for lack of memory. `mine` and `mine'` are the
+  -- numbers of the pass that took its pass back, before and after.
+  pub record ServesOne (old new : List LinkState) (short : Bool) (mine mine' : List ℕ) : Type 0 where
     pub link : LinkState
     pub why : Cause
     pub is : IsServed link why
+    pub own : mine' ≡ mine ++ is.known.mine
     pub are : new ≡ old ++ link ∷ []
     pub short_is : short ≡ is_short why
 
   -- Some of the tasks ended, whose links were served and handed back. `short` tells whether one of them, or one before,
-  -- ended for lack of memory.
-  pub record Joins (old new : List LinkState) (tasks tasks' : ℕ) (short short' : Bool) : Type 0 where
+  -- ended for lack of memory. Each number that the pass which took their passes back has more is one of theirs.
+  pub record Joins (old new : List LinkState) (tasks tasks' : ℕ) (short short' : Bool) (mine mine' : List ℕ) : Type 0 where
     pub links : List (LinkState × Cause)
+    pub own : (n : ℕ) → Among n mine' → Among n mine ⊎ IsAskedBy (map (λ (l : LinkState × Cause). (l.0, Some l.1)) links) n
     pub are : new ≡ old ++ map (λ l. l.0) links
     pub each : AllByRecursion (λ l. IsServed l.0 l.1) links
     pub count : length links + tasks' ≡ tasks
@@ -161,8 +174,10 @@ module _ (shows : ℕ → Ask → Reply → List Mark → Type 0) (agrees : Type
 
   -- So many links were given since: each was handed back, or has one of so many tasks. At least as many faults of the
   -- spawner were counted as links were turned away, and `short` tells whether one of the others ended for lack of memory.
-  pub record Handed (old new : List LinkState) (faults faults' given tasks : ℕ) (short : Bool) : Type 0 where
+  -- Each of the numbers `asked` is one of theirs.
+  pub record Handed (old new : List LinkState) (faults faults' given tasks : ℕ) (short : Bool) (asked : List ℕ) : Type 0 where
     pub links : List Back
+    pub own : (n : ℕ) → Among n asked → IsAskedBy links n
     pub are : new ≡ old ++ map (λ b. b.0) links
     pub each : AllByRecursion IsBack links
     pub count : length links + tasks ≡ given
@@ -171,11 +186,11 @@ module _ (shows : ℕ → Ask → Reply → List Mark → Type 0) (agrees : Type
 
   -- Each link that came was handed back, in whatever order: turned away, or served to its end. `lacked` counts one more
   -- that was turned away for lack of memory than the spawner's faults tell. Where all is well there is none, and none of
-  -- the others ended for lack of memory.
-  pub record HandsBack (old new : List LinkState) (faults faults' given : ℕ) (result : Result Unit Stop) : Type 0 where
+  -- the others ended for lack of memory. Each of the numbers `asked` was asked by one of them.
+  pub record HandsBack (old new : List LinkState) (faults faults' given : ℕ) (asked : List ℕ) (result : Result Unit Stop) : Type 0 where
     pub lacked : ℕ
     pub short : Bool
-    pub all : Handed old new faults (faults' + lacked) given 0 short
+    pub all : Handed old new faults (faults' + lacked) given 0 short asked
     pub most : lacked ≤ 1
     pub well : OnOk result ((lacked ≡ 0) × (short ≡ false))
     pub lack : result ≡ Err stops.Memory → (lacked ≡ 1) ⊎ (short ≡ true)

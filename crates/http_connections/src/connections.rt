@@ -4,17 +4,17 @@ ghost use Rattle.std.specs.Prelude.{◌≡◌, ◌<◌, [], false, IfErr, OnOk};
 ghost use Rattle.std.specs.Arc.{arc_value};
 ghost use Rattle.outside.specs.Causes.{Rose};
 ghost use Rattle.http_connections.specs.declared.run.Stop.TheVariants as stops;
-ghost use Rattle.http_connections.specs.Boards.{IsOurs, known};
-ghost use Rattle.http_connections.specs.Marks.{AreKept};
+ghost use Rattle.http_exchanges.specs.Boards.{IsOurs, known};
+ghost use Rattle.http_exchanges.specs.Marks.{AreKept, opens};
 ghost use Rattle.http_connections.specs.Runs.{HandsBack, HasDrawn, most_of, outcome_of};
-ghost use Rattle.turn_lock.specs.Lists.{AreFronts, IsFront};
+ghost use Rattle.turn_lock.specs.Lists.{AreFronts, IsFront, OpensOnly, numbers};
+ghost use Rattle.turn_lock.specs.Rule.{all_shares};
 
-use crate::cluster::SharedCluster;
 use crate::finish::finish_tasks;
 use crate::run::{Jobs, Server, Stop, TaskOf};
-use crate::served::Served;
 use crate::start::start_tasks;
 use crate::timekeeper::{finish_timekeeper, start_timekeeper};
+use http_exchanges::{Served, SharedCluster};
 use serve_outside::{Clock, Gate, Listener, Spawner, Words};
 use stale_view::Viewer;
 use std::alloc::Global;
@@ -31,6 +31,7 @@ fn last_turn<R: Wait, C: SharedCluster, Cl, G>(
     requires ours { IsOurs (arc_value server.now.board) pass }
     ensures kept { AreKept (C.marks result) }
     ensures told { AreFronts (known pass).told (C.marks result) }
+    ensures whole { pass.shares ≡ all_shares → OpensOnly opens (known pass).mine (C.marks result) }
 {
     let lock = &**server.board;
     let turn = lock.take(&server.rt, &mut pass);
@@ -96,9 +97,10 @@ where
     C::Pair: Send + Sync + 'static,
     requires ours { IsOurs (arc_value server.now.board) pass }
     requires agents { (0 < server.now.agents) × (server.now.agents ≡ C.agents) }
+    requires whole { ((known pass).mine ≡ []) × (pass.shares ≡ all_shares) }
     requires fresh { (L.given listener.old ≡ 0) × HasDrawn (W.draws words.old) 0 }
     ensures given { OnOk result.1 (L.given listener.new ≡ most_of count) }
-    ensures links { HandsBack C.shows C.agrees C.agents (W.draws words.new) (λ seen. IsFront seen (C.marks result.0)) (L.closed listener.old) (L.closed listener.new) (Sp.faults spawner.old) (Sp.faults spawner.new) (L.given listener.new) result.1 }
+    ensures links { HandsBack C.shows C.agrees C.agents (W.draws words.new) (λ seen. IsFront seen (C.marks result.0)) (L.closed listener.old) (L.closed listener.new) (Sp.faults spawner.old) (Sp.faults spawner.new) (L.given listener.new) (numbers opens (C.marks result.0)) result.1 }
     ensures kept { AreKept (C.marks result.0) }
     ensures cause { IfErr result.1 (λ why. why ≡ stops.Listener → Rose (L.faults listener.old) (L.faults listener.new)) }
     ensures port { L.listens_on listener.new ≡ L.listens_on listener.old }

@@ -1,20 +1,19 @@
 //! The jobs of a run are waited for, and their links and passes taken back.
 
-ghost use Rattle.std.specs.Prelude.{◌≡◌, ◌<◌, ◌||◌, true, List, length};
+ghost use Rattle.std.specs.Prelude.{◌≡◌, ◌+◌, ◌<◌, ◌≤◌, ◌||◌, true, List, length};
 ghost use Rattle.std.specs.Arc.{arc_value};
 ghost use Rattle.cat_model.specs.declared.reply.Mark.{Mark as SpecMark};
 ghost use Rattle.cluster_rules.specs.Sound.{IsAmong};
 ghost use Rattle.serve_outside.specs.Tasks.{IsKept, note_of};
-ghost use Rattle.http_connections.specs.Boards.{IsOurs, known};
-ghost use Rattle.http_connections.specs.Jobs.{AllTasks, HasEnded};
+ghost use Rattle.turn_lock.specs.Rule.{all_shares, pooled};
+ghost use Rattle.http_exchanges.specs.Boards.{IsOurs, known};
+ghost use Rattle.http_exchanges.specs.Jobs.{HasEnded};
+ghost use Rattle.http_connections.specs.Tasks.{AllTasks, shares_out};
 ghost use Rattle.http_connections.specs.Runs.{IsStarted, Joins, ServesOne};
-ghost use Rattle.http_connections.specs.Serving.{is_short};
+ghost use Rattle.http_exchanges.specs.Serving.{is_short};
 
-use crate::cause::Cause;
-use crate::cluster::SharedCluster;
-use crate::job::{Finished, ServeJob};
 use crate::run::{Jobs, Server, TaskOf, give_back};
-use crate::served::Served;
+use http_exchanges::{Cause, Finished, ServeJob, Served, SharedCluster};
 use serve_outside::{Clock, Gate, Link, Listener, NoteOf, Task, Words, finish};
 use stale_view::Viewer;
 use std::sync::Wait;
@@ -42,17 +41,6 @@ fn finish_task<
     finish(&server.rt, task)
 }
 
-// Whether the connection ended for lack of memory.
-pub(crate) fn lacked_memory(cause: Cause) -> bool
-    ensures { result ≡ is_short cause }
-{
-    match cause {
-        Cause::Memory => true,
-        Cause::Closed | Cause::Refused(_) | Cause::ReadFault | Cause::WriteFault | Cause::Left =>
-            false,
-    }
-}
-
 // Waits for a task, and takes its pass and its link back. Says whether the connection ended for lack of memory.
 fn finish_one<
     R: Threads + Wait + Copy + Send + Drop + 'static,
@@ -78,7 +66,8 @@ where
     ensures given { L.given listener.new ≡ L.given listener.old }
     ensures faults { L.faults listener.new ≡ L.faults listener.old }
     ensures port { L.listens_on listener.new ≡ L.listens_on listener.old }
-    ensures served { ServesOne C.shows C.agrees C.agents (W.draws words.now) (λ seen. IsAmong seen (known pass.new).told) (L.closed listener.old) (L.closed listener.new) result }
+    ensures shares { pass.new.shares ≡ pooled pass.old.shares (note_of task).0.value.pass.shares }
+    ensures served { ServesOne C.shows C.agrees C.agents (W.draws words.now) (λ seen. IsAmong seen (known pass.new).told) (L.closed listener.old) (L.closed listener.new) result (known pass.old).mine (known pass.new).mine }
 {
     let Finished {
         link,
@@ -88,7 +77,7 @@ where
     } = finish_task(server, task);
     give_back(server, pass, own);
     listener.close(link);
-    lacked_memory(cause)
+    cause.is_short()
 }
 
 // Whether the job at this place has ended.
@@ -125,6 +114,7 @@ fn sweep_one<
 where
     L::Link: Send + 'static,
     requires ours { IsOurs (arc_value server.now.board) pass.old }
+    requires few { pass.old.shares + shares_out jobs.old.tasks.items (λ p. p.0.value.pass.shares) ≤ all_shares }
     requires tasks { AllTasks jobs.old.tasks.items ⟦<NoteOf<ServeJob<R, Served<C>, Cl, G, L::Link, Viewer<C::Pair>>> as Promise<Finished<L::Link, Served<C>, Viewer<C::Pair>>>>⟧.kept_by (λ p. IsStarted (arc_value server.now.board) C.agents (W.draws words.now) L.Link.state p.0.value) }
     ensures ours { IsOurs (arc_value server.now.board) pass.new }
     ensures tasks { AllTasks jobs.new.tasks.items ⟦<NoteOf<ServeJob<R, Served<C>, Cl, G, L::Link, Viewer<C::Pair>>> as Promise<Finished<L::Link, Served<C>, Viewer<C::Pair>>>>⟧.kept_by (λ p. IsStarted (arc_value server.now.board) C.agents (W.draws words.now) L.Link.state p.0.value) }
@@ -132,7 +122,8 @@ where
     ensures given { L.given listener.new ≡ L.given listener.old }
     ensures faults { L.faults listener.new ≡ L.faults listener.old }
     ensures port { L.listens_on listener.new ≡ L.listens_on listener.old }
-    ensures joins { Joins C.shows C.agrees C.agents (W.draws words.now) (λ seen. IsAmong seen (known pass.new).told) (L.closed listener.old) (L.closed listener.new) (length jobs.old.tasks.items) (length jobs.new.tasks.items) jobs.old.short jobs.new.short }
+    ensures joins { Joins C.shows C.agrees C.agents (W.draws words.now) (λ seen. IsAmong seen (known pass.new).told) (L.closed listener.old) (L.closed listener.new) (length jobs.old.tasks.items) (length jobs.new.tasks.items) jobs.old.short jobs.new.short (known pass.old).mine (known pass.new).mine }
+    ensures shares { pass.new.shares + shares_out jobs.new.tasks.items (λ p. p.0.value.pass.shares) ≡ pass.old.shares + shares_out jobs.old.tasks.items (λ p. p.0.value.pass.shares) }
 {
     let at = next_place(jobs.at, jobs.tasks.len());
     if !has_ended(&jobs.tasks, at) {
@@ -164,6 +155,7 @@ pub(crate) fn sweep<
 where
     L::Link: Send + 'static,
     requires ours { IsOurs (arc_value server.now.board) pass.old }
+    requires few { pass.old.shares + shares_out jobs.old.tasks.items (λ p. p.0.value.pass.shares) ≤ all_shares }
     requires tasks { AllTasks jobs.old.tasks.items ⟦<NoteOf<ServeJob<R, Served<C>, Cl, G, L::Link, Viewer<C::Pair>>> as Promise<Finished<L::Link, Served<C>, Viewer<C::Pair>>>>⟧.kept_by (λ p. IsStarted (arc_value server.now.board) C.agents (W.draws words.now) L.Link.state p.0.value) }
     ensures ours { IsOurs (arc_value server.now.board) pass.new }
     ensures tasks { AllTasks jobs.new.tasks.items ⟦<NoteOf<ServeJob<R, Served<C>, Cl, G, L::Link, Viewer<C::Pair>>> as Promise<Finished<L::Link, Served<C>, Viewer<C::Pair>>>>⟧.kept_by (λ p. IsStarted (arc_value server.now.board) C.agents (W.draws words.now) L.Link.state p.0.value) }
@@ -171,7 +163,8 @@ where
     ensures given { L.given listener.new ≡ L.given listener.old }
     ensures faults { L.faults listener.new ≡ L.faults listener.old }
     ensures port { L.listens_on listener.new ≡ L.listens_on listener.old }
-    ensures joins { Joins C.shows C.agrees C.agents (W.draws words.now) (λ seen. IsAmong seen (known pass.new).told) (L.closed listener.old) (L.closed listener.new) (length jobs.old.tasks.items) (length jobs.new.tasks.items) jobs.old.short jobs.new.short }
+    ensures joins { Joins C.shows C.agrees C.agents (W.draws words.now) (λ seen. IsAmong seen (known pass.new).told) (L.closed listener.old) (L.closed listener.new) (length jobs.old.tasks.items) (length jobs.new.tasks.items) jobs.old.short jobs.new.short (known pass.old).mine (known pass.new).mine }
+    ensures shares { pass.new.shares + shares_out jobs.new.tasks.items (λ p. p.0.value.pass.shares) ≡ pass.old.shares + shares_out jobs.old.tasks.items (λ p. p.0.value.pass.shares) }
 {
     let mut left = jobs.tasks.len().min(LOOKS);
     while left > 0 {
@@ -200,13 +193,15 @@ pub(crate) fn finish_tasks<
 where
     L::Link: Send + 'static,
     requires ours { IsOurs (arc_value server.now.board) pass.old }
+    requires few { pass.old.shares + shares_out tasks.old.items (λ p. p.0.value.pass.shares) ≤ all_shares }
     requires tasks { AllTasks tasks.old.items ⟦<NoteOf<ServeJob<R, Served<C>, Cl, G, L::Link, Viewer<C::Pair>>> as Promise<Finished<L::Link, Served<C>, Viewer<C::Pair>>>>⟧.kept_by (λ p. IsStarted (arc_value server.now.board) C.agents (W.draws words.now) L.Link.state p.0.value) }
     ensures ours { IsOurs (arc_value server.now.board) pass.new }
     ensures told { (seen : List SpecMark) → IsAmong seen (known pass.old).told → IsAmong seen (known pass.new).told }
     ensures given { L.given listener.new ≡ L.given listener.old }
     ensures faults { L.faults listener.new ≡ L.faults listener.old }
     ensures port { L.listens_on listener.new ≡ L.listens_on listener.old }
-    ensures joins { Joins C.shows C.agrees C.agents (W.draws words.now) (λ seen. IsAmong seen (known pass.new).told) (L.closed listener.old) (L.closed listener.new) (length tasks.old.items) 0 before result }
+    ensures joins { Joins C.shows C.agrees C.agents (W.draws words.now) (λ seen. IsAmong seen (known pass.new).told) (L.closed listener.old) (L.closed listener.new) (length tasks.old.items) 0 before result (known pass.old).mine (known pass.new).mine }
+    ensures shares { pass.new.shares ≡ pass.old.shares + shares_out tasks.old.items (λ p. p.0.value.pass.shares) }
 {
     let mut short = before;
     while let Some(task) = tasks.pop() {

@@ -1,46 +1,22 @@
-//! HTTP/1.1 connections that are served from one cluster, which their threads share by turns.
+//! All connections of a run over one cluster: they are accepted, each is served by a job of its own, and a timekeeper
+//! lets the clocks go on beside them.
 //!
 //! # What is proved
 //!
-//! Over any cluster whose calls put their marks as `SharedCluster` says: the bytes written on a connection are, in
-//! order, a `Continue` where a head asks for it and the bytes of one reply for each message read, through the
-//! filter of its target, those of a HEAD without content, up to the cause of its end, which is a closing by either
-//! side (nothing is served behind a reply that closes), a refused stream with its refusal, a read or write that
-//! failed and was counted, or running out of memory; the reply to what is no request is its refusal, and to any
-//! other that of the one answer mark of a number that was asked once, by this connection's pass, with its agent and
-//! its draw, and behind all that the connection knew when the reply before was made, so that it reads what it
-//! wrote, showing what the agreed log then tells. All this holds, in a run, of each link that was handed back, but
-//! for those that were turned away because no job could be started, of which there are no more than the spawner's
-//! count rose by, and one more where there was no memory for a job; and what the pass of each had seen is a
-//! beginning of the marks of the cluster that is left. A turn lets the servers' clocks go on by just the time since
-//! the last one, a day at most and not at all where the outside clock fell, each clock once; where it found memory,
-//! each did go on that does not pass its end by it, then messages were delivered until none was left, 4,096 at
-//! most, and only then the request was asked, and messages were delivered again. The timekeeper asks nothing. Of
-//! agents' clocks no clause speaks, and none says that a call that waits returns. Carried by: `serve_connection`,
-//! `serve_all`, `Served::turn`.
+//! Each link that came is handed back, and what `http_exchanges` says of a connection holds of it, but for those that
+//! were turned away because no job could be started, of which there are no more than the spawner's count rose by, and
+//! one more where there was no memory for a job; what the pass of each had seen is a beginning of the marks of the
+//! cluster that is left, and each number that these marks ask is among those that the pass of one of the links opened:
+//! nobody but a client asks. The timekeeper asks nothing. No clause says that a call that waits returns. Carried by:
+//! `serve_all`, `keep_clocks`.
 #![tactic(auto)]
 
-mod cause;
-mod cluster;
 mod connections;
 mod finish;
-mod job;
-mod patience;
-mod replies;
 mod run;
-mod served;
-mod service;
 mod start;
 mod timekeeper;
-mod turns;
-mod views;
-mod writer;
 
-pub use cause::Cause;
-pub use cluster::{Ask, Collected, SharedCluster};
 pub use connections::serve_all;
-pub use job::{Finished, ServeJob, serve_connection};
 pub use run::{Server, Stop};
-pub use served::{Served, Turned};
-pub use service::Board;
 pub use timekeeper::{Timekeeper, keep_clocks};

@@ -2,12 +2,10 @@
 
 ghost use Rattle.std.specs.Prelude.{◌≡◌, ◌+◌, ◌++◌, ◌∷◌};
 ghost use Rattle.std.specs.Arc.{arc_value};
-ghost use Rattle.http_connections.specs.Boards.{IsOurs, known};
+ghost use Rattle.turn_lock.specs.Rule.{pooled};
+ghost use Rattle.http_exchanges.specs.Boards.{IsOurs, known};
 
-use crate::cluster::SharedCluster;
-use crate::job::{Finished, ServeJob};
-use crate::served::Served;
-use crate::service::Board;
+use http_exchanges::{Board, Finished, ServeJob, Served, SharedCluster};
 use http_routes::Routes;
 use serve_outside::{NoteOf, Task};
 use stale_view::Viewer;
@@ -65,6 +63,8 @@ pub(crate) fn give_back<R, C: SharedCluster, Cl, G>(
     requires ours { IsOurs (arc_value server.now.board) pass.old }
     requires theirs { IsOurs (arc_value server.now.board) other }
     ensures ours { IsOurs (arc_value server.now.board) pass.new }
+    ensures mine { (known pass.new).mine ≡ (known pass.old).mine ++ (known other).mine }
+    ensures shares { pass.new.shares ≡ pooled pass.old.shares other.shares }
     ensures told { (known pass.new).told ≡ (known other).seen ∷ ((known pass.old).told ++ (known other).told) }
 {
     let lock = &**server.board;

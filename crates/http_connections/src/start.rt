@@ -9,18 +9,15 @@ ghost use Rattle.http_wire.specs.State.{Told};
 ghost use Rattle.serve_outside.specs.Links.{IsNew};
 ghost use Rattle.serve_outside.specs.Tasks.{IsKept, note_of};
 ghost use Rattle.http_connections.specs.declared.run.Stop.TheVariants as stops;
-ghost use Rattle.http_connections.specs.Boards.{IsOurs, known};
-ghost use Rattle.http_connections.specs.Jobs.{AllTasks, agent_of};
+ghost use Rattle.turn_lock.specs.Rule.{all_shares};
+ghost use Rattle.http_exchanges.specs.Boards.{IsOurs, known};
+ghost use Rattle.http_connections.specs.Tasks.{AllTasks, agent_of, shares_out};
 ghost use Rattle.http_connections.specs.Runs.{Handed, HasDrawn, IsStarted, IsStartedAs, KeepsDraws, Starts, TurnedAway, TurnsAway, lacking};
 
-use crate::cluster::SharedCluster;
 use crate::finish::sweep;
-use crate::job::{Finished, ServeJob};
 use crate::run::{Jobs, Server, Stop, TaskOf, give_back};
-use crate::served::Served;
-use crate::service::Board;
-use crate::writer::send_refusing;
 use cat_model::{Draw, Memory, Refusal};
+use http_exchanges::{Board, Finished, ServeJob, Served, SharedCluster, send_refusing};
 use http_routes::{Routes, routes_cross};
 use http_wire::RequestReader;
 use serve_outside::{Clock, Gate, Job, Link, Listener, NoteOf, Spawner, Words, start};
@@ -48,9 +45,11 @@ fn parts<R, C: SharedCluster, Cl, G: Drop>(
     requires ours { IsOurs (arc_value server.now.board) pass.old }
     ensures ours { IsOurs (arc_value server.now.board) pass.new }
     ensures told { (known pass.new).told ≡ (known pass.old).told }
+    ensures same { (known pass.new).mine ≡ (known pass.old).mine }
+    ensures shares { MatchResult result (λ r. pass.new.shares + r.3.shares ≡ pass.old.shares) (λ _. pass.new.shares ≡ pass.old.shares) }
     ensures reader { IfOk result (λ r. (r.0.stop ≡ None) × Told [] [] r.0.held r.0.stop) }
     ensures board { IfOk result (λ r. arc_value r.1 ≡ arc_value server.now.board) }
-    ensures pass { IfOk result (λ r. IsOurs (arc_value server.now.board) r.3) }
+    ensures pass { IfOk result (λ r. IsOurs (arc_value server.now.board) r.3 × ((known r.3).mine ≡ [])) }
 {
     let reader = RequestReader::new(server.alloc)?;
     let board = Arc::try_clone(&server.board)?;
@@ -93,9 +92,11 @@ fn job_of<
     requires unshut { (L.state link).shut ≡ false }
     ensures ours { IsOurs (arc_value server.now.board) pass.new }
     ensures told { (known pass.new).told ≡ (known pass.old).told }
+    ensures same { (known pass.new).mine ≡ (known pass.old).mine }
+    ensures shares { MatchResult result (λ job. pass.new.shares + job.pass.shares ≡ pass.old.shares) (λ _. pass.new.shares ≡ pass.old.shares) }
     ensures ready { IfOk result (⟦<ServeJob<R, Served<C>, Cl, G, L, Viewer<C::Pair>> as Job>⟧.ready) }
     ensures job { IfOk result (λ job. (job.link ≡ link) × (job.draw ≡ draw) × (job.agent ≡ agent_of C.agents n)) }
-    ensures pass { IfOk result (λ job. IsOurs (arc_value server.now.board) job.pass) }
+    ensures pass { IfOk result (λ job. IsOurs (arc_value server.now.board) job.pass × ((known job.pass).mine ≡ [])) }
     ensures refused { IfErr result (λ back. back ≡ link) }
 {
     match parts(server, pass) {
@@ -172,11 +173,14 @@ where
     L::Link: Send + 'static,
     C::Pair: Send + Sync + 'static,
     requires ours { IsOurs (arc_value server.now.board) pass.old }
-    requires theirs { IsOurs (arc_value server.now.board) job.pass }
+    requires theirs { IsOurs (arc_value server.now.board) job.pass × ((known job.pass).mine ≡ []) }
+    requires few { pass.old.shares + job.pass.shares ≤ all_shares }
     requires ready { ⟦<ServeJob<R, Served<C>, Cl, G, L::Link, Viewer<C::Pair>> as Job>⟧.ready job }
     requires new { IsNew (L.Link.state job.link).number (L.Link.state job.link) }
     ensures ours { IsOurs (arc_value server.now.board) pass.new }
     ensures told { (seen : List SpecMark) → IsAmong seen (known pass.old).told → IsAmong seen (known pass.new).told }
+    ensures unasked { (known pass.new).mine ≡ (known pass.old).mine }
+    ensures shares { MatchOption result (pass.new.shares ≡ pass.old.shares + job.pass.shares) (λ _. pass.new.shares ≡ pass.old.shares) }
     ensures given { L.given listener.new ≡ L.given listener.old }
     ensures faults { L.faults listener.new ≡ L.faults listener.old }
     ensures port { L.listens_on listener.new ≡ L.listens_on listener.old }
@@ -222,10 +226,15 @@ where
     L::Link: Send + 'static,
     C::Pair: Send + Sync + 'static,
     requires ours { IsOurs (arc_value server.now.board) pass.old }
+    requires few { pass.old.shares ≤ all_shares }
     requires agents { (0 < server.now.agents) × (server.now.agents ≡ C.agents) }
     requires number { n ≡ L.given listener.old + 1 }
     ensures ours { IsOurs (arc_value server.now.board) pass.new }
     ensures told { (seen : List SpecMark) → IsAmong seen (known pass.old).told → IsAmong seen (known pass.new).told }
+    ensures unasked { (known pass.new).mine ≡ (known pass.old).mine }
+    ensures shares { MatchResult result
+        (λ o. MatchOption o (pass.new.shares ≡ pass.old.shares) (λ task. pass.new.shares + (note_of task).0.value.pass.shares ≡ pass.old.shares))
+        (λ _. pass.new.shares ≡ pass.old.shares) }
     ensures given { MatchResult result (λ _. L.given listener.new ≡ n) (λ why. L.given listener.new ≡ L.given listener.old + lacking (Err why)) }
     ensures kept { IfOk result (λ o. IfSome o (IsKept ⟦<NoteOf<ServeJob<R, Served<C>, Cl, G, L::Link, Viewer<C::Pair>>> as Promise<Finished<L::Link, Served<C>, Viewer<C::Pair>>>>⟧.kept_by)) }
     ensures job { IfOk result (λ o. IfSome o (λ task. IsStartedAs n draw (arc_value server.now.board) C.agents L.Link.state (note_of task).0.value)) }
@@ -273,12 +282,15 @@ where
     L::Link: Send + 'static,
     C::Pair: Send + Sync + 'static,
     requires ours { IsOurs (arc_value server.now.board) pass.old }
+    requires few { pass.old.shares ≤ all_shares }
     requires agents { (0 < server.now.agents) × (server.now.agents ≡ C.agents) }
     requires number { n ≡ L.given listener.old + 1 }
     requires drawn { HasDrawn (W.draws words.old) (L.given listener.old) }
     requires tasks { AllTasks tasks.old.items ⟦<NoteOf<ServeJob<R, Served<C>, Cl, G, L::Link, Viewer<C::Pair>>> as Promise<Finished<L::Link, Served<C>, Viewer<C::Pair>>>>⟧.kept_by (λ p. IsStarted (arc_value server.now.board) C.agents (W.draws words.old) L.Link.state p.0.value) }
     ensures ours { IsOurs (arc_value server.now.board) pass.new }
     ensures told { (seen : List SpecMark) → IsAmong seen (known pass.old).told → IsAmong seen (known pass.new).told }
+    ensures unasked { (known pass.new).mine ≡ (known pass.old).mine }
+    ensures shares { pass.new.shares + shares_out tasks.new.items (λ p. p.0.value.pass.shares) ≡ pass.old.shares + shares_out tasks.old.items (λ p. p.0.value.pass.shares) }
     ensures given { OnOk result (L.given listener.new ≡ n) }
     ensures drawn { OnOk result (HasDrawn (W.draws words.new) n) }
     ensures later { KeepsDraws (W.draws words.old) (W.draws words.new) }
@@ -329,12 +341,14 @@ where
     requires agents { (0 < server.now.agents) × (server.now.agents ≡ C.agents) }
     requires fresh { (L.given listener.old ≡ 0) × HasDrawn (W.draws words.old) 0 }
     requires none { (jobs.old.tasks.items ≡ []) × (jobs.old.short ≡ false) }
+    requires unasked { ((known pass.old).mine ≡ []) × (pass.old.shares ≤ all_shares) }
     requires tasks { AllTasks jobs.old.tasks.items ⟦<NoteOf<ServeJob<R, Served<C>, Cl, G, L::Link, Viewer<C::Pair>>> as Promise<Finished<L::Link, Served<C>, Viewer<C::Pair>>>>⟧.kept_by (λ p. IsStarted (arc_value server.now.board) C.agents (W.draws words.old) L.Link.state p.0.value) }
     ensures ours { IsOurs (arc_value server.now.board) pass.new }
     ensures told { (seen : List SpecMark) → IsAmong seen (known pass.old).told → IsAmong seen (known pass.new).told }
+    ensures shares { pass.new.shares + shares_out jobs.new.tasks.items (λ p. p.0.value.pass.shares) ≡ pass.old.shares }
     ensures given { OnOk result (L.given listener.new ≡ count) }
     ensures tasks { AllTasks jobs.new.tasks.items ⟦<NoteOf<ServeJob<R, Served<C>, Cl, G, L::Link, Viewer<C::Pair>>> as Promise<Finished<L::Link, Served<C>, Viewer<C::Pair>>>>⟧.kept_by (λ p. IsStarted (arc_value server.now.board) C.agents (W.draws words.new) L.Link.state p.0.value) }
-    ensures handed { Handed C.shows C.agrees C.agents (W.draws words.new) (λ seen. IsAmong seen (known pass.new).told) (L.closed listener.old) (L.closed listener.new) (Sp.faults spawner.old) (Sp.faults spawner.new + lacking result) (L.given listener.new) (length jobs.new.tasks.items) jobs.new.short }
+    ensures handed { Handed C.shows C.agrees C.agents (W.draws words.new) (λ seen. IsAmong seen (known pass.new).told) (L.closed listener.old) (L.closed listener.new) (Sp.faults spawner.old) (Sp.faults spawner.new + lacking result) (L.given listener.new) (length jobs.new.tasks.items) jobs.new.short (known pass.new).mine }
     ensures cause { IfErr result (λ why. why ≡ stops.Listener → Rose (L.faults listener.old) (L.faults listener.new)) }
     ensures port { L.listens_on listener.new ≡ L.listens_on listener.old }
 {

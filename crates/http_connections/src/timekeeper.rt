@@ -1,17 +1,16 @@
 //! The job that lets the clocks go on while nobody asks.
 
-ghost use Rattle.std.specs.Prelude.{◌≡◌, IfOk, IfSome, List};
+ghost use Rattle.std.specs.Prelude.{◌≡◌, ◌+◌, ◌≤◌, [], IfOk, IfSome, List, MatchOption, MatchResult};
 ghost use Rattle.std.specs.Arc.{arc_value};
 ghost use Rattle.cat_model.specs.declared.reply.Mark.{Mark as SpecMark};
 ghost use Rattle.cluster_rules.specs.Sound.{IsAmong};
 ghost use Rattle.serve_outside.specs.Tasks.{IsKept, note_of};
-ghost use Rattle.http_connections.specs.Boards.{IsOurs, known};
+ghost use Rattle.turn_lock.specs.Rule.{all_shares};
+ghost use Rattle.http_exchanges.specs.Boards.{IsOurs, known};
 
-use crate::cluster::SharedCluster;
 use crate::run::{Server, give_back};
-use crate::served::{NOBODY, Served};
-use crate::service::Board;
 use cat_model::Memory;
+use http_exchanges::{Board, NOBODY, Served, SharedCluster};
 use http_routes::routes_cross;
 use serve_outside::{Clock, Gate, Job, NoteOf, Spawner, Task, finish, start_beside};
 use stale_view::{Viewer, parts_cross};
@@ -58,7 +57,7 @@ fn keep_time<R: Wait, C: SharedCluster, G: Gate>(
 )
     requires ours { IsOurs board.now pass.old }
     ensures ours { IsOurs board.now pass.new }
-    ensures asks_none { (known pass.new).mine ≡ (known pass.old).mine }
+    ensures asks_none { ((known pass.new).mine ≡ (known pass.old).mine) × (pass.new.shares ≡ pass.old.shares) }
 {
     let lock = &**board;
     let mut turn = lock.take(rt, pass);
@@ -73,7 +72,7 @@ pub fn keep_clocks<R: Wait + Drop, C: SharedCluster, Cl: Clock + Drop, G: Gate +
 ) -> Pass<Served<C>>
     requires ours { IsOurs (arc_value keeper.server.board) keeper.pass }
     ensures ours { IsOurs (arc_value keeper.server.board) result }
-    ensures asks_none { (known result).mine ≡ (known keeper.pass).mine }
+    ensures asks_none { ((known result).mine ≡ (known keeper.pass).mine) × (result.shares ≡ keeper.pass.shares) }
 {
     let Timekeeper {
         server,
@@ -105,13 +104,13 @@ pub fn keep_clocks<R: Wait + Drop, C: SharedCluster, Cl: Clock + Drop, G: Gate +
 impl<R: Wait + Drop, C: SharedCluster, Cl: Clock + Drop, G: Gate + Drop> Job
     for Timekeeper<R, Served<C>, Cl, G, Viewer<C::Pair>> {
     ghost use Rattle.std.specs.Arc.{arc_value};
-    ghost use Rattle.http_connections.specs.Boards.{IsOurs, known};
+    ghost use Rattle.http_exchanges.specs.Boards.{IsOurs, known};
 
     type Done = Pass<Served<C>>;
 
     ghost ready = { λ keeper. IsOurs (arc_value keeper.server.board) keeper.pass };
 
-    ghost keeps = { λ keeper pass. IsOurs (arc_value keeper.server.board) pass × ((known pass).mine ≡ (known keeper.pass).mine) };
+    ghost keeps = { λ keeper pass. IsOurs (arc_value keeper.server.board) pass × ((known pass).mine ≡ (known keeper.pass).mine) × (pass.shares ≡ keeper.pass.shares) };
 
     fn run(self) -> Pass<Served<C>> {
         keep_clocks(self)
@@ -153,8 +152,10 @@ fn make_timekeeper<R: Copy + Drop, C: SharedCluster, Cl: Copy + Drop, G: Drop>(
 >
     requires ours { IsOurs (arc_value server.now.board) pass.old }
     ensures ours { IsOurs (arc_value server.now.board) pass.new }
+    ensures same { (known pass.new).mine ≡ (known pass.old).mine }
+    ensures shares { MatchResult result (λ r. pass.new.shares + r.0.pass.shares ≡ pass.old.shares) (λ _. pass.new.shares ≡ pass.old.shares) }
     ensures board { IfOk result (λ r. arc_value r.0.server.board ≡ arc_value server.now.board) }
-    ensures pass { IfOk result (λ r. IsOurs (arc_value server.now.board) r.0.pass) }
+    ensures pass { IfOk result (λ r. IsOurs (arc_value server.now.board) r.0.pass × ((known r.0.pass).mine ≡ [])) }
 {
     let own = shared(server)?;
     let stop = Arc::new(server.alloc, AtomicBool::new(false))?;
@@ -190,6 +191,9 @@ where
     requires ours { IsOurs (arc_value server.now.board) pass.old }
     ensures ours { IsOurs (arc_value server.now.board) pass.new }
     ensures kept { IfSome result (λ k. IsKept ⟦<NoteOf<Timekeeper<R, Served<C>, Cl, G, Viewer<C::Pair>>> as Promise<Pass<Served<C>>>>⟧.kept_by k.task) }
+    ensures same { (known pass.new).mine ≡ (known pass.old).mine }
+    ensures shares { MatchOption result (pass.new.shares ≡ pass.old.shares) (λ k. pass.new.shares + (note_of k.task).0.value.pass.shares ≡ pass.old.shares) }
+    ensures unasked { IfSome result (λ k. (known (note_of k.task).0.value.pass).mine ≡ []) }
     ensures board { IfSome result (λ k. arc_value (note_of k.task).0.value.server.board ≡ arc_value server.now.board) }
 {
     match make_timekeeper(server, pass) {
@@ -211,6 +215,7 @@ fn finish_keeping<R: Threads + Wait + Drop, C: SharedCluster, Cl: Clock + Drop, 
     requires kept { IsKept ⟦<NoteOf<Timekeeper<R, Served<C>, Cl, G, Viewer<C::Pair>>> as Promise<Pass<Served<C>>>>⟧.kept_by keeping.task }
     requires board { arc_value (note_of keeping.task).0.value.server.board ≡ arc_value server.now.board }
     ensures ours { IsOurs (arc_value server.now.board) result }
+    ensures same { ((known result).mine ≡ (known (note_of keeping.task).0.value.pass).mine) × (result.shares ≡ (note_of keeping.task).0.value.pass.shares) }
 {
     let Keeping { stop, task } = keeping;
     stop.store(true, Ordering::SeqCst);
@@ -232,7 +237,11 @@ pub(crate) fn finish_timekeeper<
     requires ours { IsOurs (arc_value server.now.board) pass.old }
     requires kept { IfSome keeping (λ k. IsKept ⟦<NoteOf<Timekeeper<R, Served<C>, Cl, G, Viewer<C::Pair>>> as Promise<Pass<Served<C>>>>⟧.kept_by k.task) }
     requires board { IfSome keeping (λ k. arc_value (note_of k.task).0.value.server.board ≡ arc_value server.now.board) }
+    requires unasked { IfSome keeping (λ k. (known (note_of k.task).0.value.pass).mine ≡ []) }
+    requires few { IfSome keeping (λ k. pass.old.shares + (note_of k.task).0.value.pass.shares ≤ all_shares) }
     ensures ours { IsOurs (arc_value server.now.board) pass.new }
+    ensures same { (known pass.new).mine ≡ (known pass.old).mine }
+    ensures shares { MatchOption keeping (pass.new.shares ≡ pass.old.shares) (λ k. pass.new.shares ≡ pass.old.shares + (note_of k.task).0.value.pass.shares) }
     ensures told { (seen : List SpecMark) → IsAmong seen (known pass.old).told → IsAmong seen (known pass.new).told }
 {
     if let Some(keeping) = keeping {

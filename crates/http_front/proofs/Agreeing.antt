@@ -13,8 +13,8 @@ use Rattle.turn_lock.specs.Lists.{IsFront}
 use Rattle.run_rules.specs.Serving.{Serves, Size}
 use Rattle.run_rules.proofs.Serving.{is_sound}
 use Rattle.stale_view.proofs.Fronts.{prefix_trans}
-use Rattle.http_connections.specs.Marks.{AddsQuiet, TicksNone, agreed_by}
-use Rattle.http_connections.proofs.Agreeing.{agreed_front}
+use Rattle.http_exchanges.specs.Marks.{AddsQuiet, TicksNone, agreed_by}
+use Rattle.http_exchanges.proofs.Agreeing.{agreed_front}
 
 -- the marks tell the agreed log
 pub agreed_is : (size : Size) (c : Cluster) → Serves size c → MayBegin size.stores → agreed_by (reverse c.past) ≡ commands_of c.world.agreed

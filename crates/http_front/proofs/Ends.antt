@@ -10,8 +10,8 @@ use Rattle.cluster_rules.specs.Reached.{MayBegin}
 use Rattle.datagram_outside.specs.Ports.{PortState}
 use Rattle.cluster_rules.specs.Sound.{entered_in}
 use Rattle.turn_lock.specs.Lists.{IsFront}
-use Rattle.http_connections.specs.Marks.{agreed_by}
-use Rattle.http_connections.proofs.Agreeing.{agreed_front}
+use Rattle.http_exchanges.specs.Marks.{agreed_by}
+use Rattle.http_exchanges.proofs.Agreeing.{agreed_front}
 use Rattle.run_rules.specs.Holding.{Holds}
 use Rattle.http_front.specs.Shown.{ShowsOver}
 use Rattle.std.specs.Prelude.{IfErr, IfOk, OnErr, OnOk}

@@ -1,18 +1,17 @@
 -- What the marks of a cluster's rules, the last one first, tell as marks of which the first one stands first.
-use Rattle.std.proofs.Common.{◌≡◌, ℕ, inl, inr, List, [], ◌∷◌, ◌++◌, reverse, refl, sym, ap, ◌∙◌, subst, append_assoc, Option}
+use Rattle.std.proofs.Common.{◌≡◌, ℕ, inl, inr, List, [], ◌∷◌, ◌++◌, length, ◌≤◌, reverse, refl, sym, ap, ◌∙◌, subst, arith, append_assoc, Option, Some, None}
 use Rattle.std.proofs.lemmas.List.{reverse-append}
-use Rattle.cat_model.specs.declared.request.Event.TheVariants as event
 use Rattle.cat_model.specs.declared.reply.Mark.{Mark}
 use Rattle.cat_model.specs.declared.reply.Mark.TheVariants as mark
 use Rattle.cluster_rules.specs.Past as past
 use Rattle.cluster_rules.specs.Reached.{moves_of}
 use Rattle.cluster_rules.specs.Sound.{IsAmong}
 use Rattle.turn_lock.specs.Lists.{Among, EachOnce, ahead, numbers}
-use Rattle.http_connections.specs.declared.cluster.Ask.{Ask}
-use Rattle.http_connections.specs.Marks.{AddsAsked, AddsCut, AddsQuiet, AreKept, TicksNone, answers, asked_mark, opens, takes, ticks, ticks_by}
-use Rattle.http_connections.proofs.Clocks.{by_none}
-use Rattle.http_connections.proofs.MarkLists.{none_append}
-use Rattle.http_front.specs.Ticks.{TicksOne}
+use Rattle.http_exchanges.specs.declared.cluster.Ask.{Ask}
+use Rattle.http_exchanges.specs.Marks.{AddsAsked, AddsCut, AddsQuiet, AreKept, TicksNone, Whose, Servers, Agents, answers, asked_mark, opens, takes, ticks, ticks_by}
+use Rattle.http_exchanges.proofs.Clocks.{by_none}
+use Rattle.http_exchanges.proofs.MarkLists.{few_as, none_append}
+use Rattle.http_front.specs.Ticks.{TicksOne, others, tick_of}
 use Rattle.http_front.proofs.Reverses.{among_back, among_reverse, in_reverse, none_reverse, numbers_reverse, once_reverse}
 
 -- Marks that name no move ask and take nothing.
@@ -74,6 +73,11 @@ asked_event more number a old new e q =
     at_end [] m = inl refl
     at_end (x ∷ more) m = inr (at_end more m)
 
+-- one mark asks one request at most
+one_mark : (o : Option ℕ) → length (reverse (ahead o [])) ≤ 1
+one_mark None = omega arith
+one_mark (Some n) = omega arith
+
 -- a mark that takes nothing, and then silent ones
 pub cut_event : (more : List Mark) (m : Mark) (old new : List Mark) → new ≡ more ++ m ∷ old → moves_of more ≡ [] → numbers takes (m ∷ []) ≡ [] → AddsCut (reverse old) (reverse new)
 cut_event more m old new e q t =
@@ -81,53 +85,77 @@ cut_event more m old new e q t =
     record {
       rest = reverse (more ++ m ∷ []);
       are = behind (more ++ m ∷ []) old new (grown more m old new e);
+      opens_few = few_as (numbers opens (reverse (more ++ m ∷ []))) (reverse (ahead (opens m) [])) (numbers_reverse opens (more ++ m ∷ []) ∙ ap (λ (l : List ℕ). reverse l) (of_own opens more m s.opens_none)) (one_mark (opens m));
       takes_none = none_reverse takes (more ++ m ∷ []) (none_append takes more (m ∷ []) s.takes_none ∙ t);
     }
 
 -- no clock goes on by marks that name no move
-unticked : (marks : List Mark) → moves_of marks ≡ [] → numbers ticks marks ≡ []
-unticked [] e = refl
-unticked (mark.Asked number agent asked draw ∷ marks) e = absurd (cc e)
-unticked (mark.Made made ∷ marks) e = absurd (cc e)
-unticked (mark.Taken number ∷ marks) e = absurd (cc e)
-unticked (mark.Settled pairs whole ∷ marks) e = absurd (cc e)
-unticked (mark.Advanced ms made ∷ marks) e = absurd (cc e)
-unticked (mark.Halted server ∷ marks) e = unticked marks e
-unticked (mark.Entry entry ∷ marks) e = unticked marks e
-unticked (mark.Answered number kind known contact ∷ marks) e = unticked marks e
+unticked : (whose : Whose) (marks : List Mark) → moves_of marks ≡ [] → numbers (ticks whose) marks ≡ []
+unticked whose [] e = refl
+unticked whose (mark.Asked number agent asked draw ∷ marks) e = absurd (cc e)
+unticked whose (mark.Made made ∷ marks) e = absurd (cc e)
+unticked whose (mark.Taken number ∷ marks) e = absurd (cc e)
+unticked whose (mark.Settled pairs whole ∷ marks) e = absurd (cc e)
+unticked whose (mark.Advanced ms made ∷ marks) e = absurd (cc e)
+unticked whose (mark.Halted server ∷ marks) e = unticked whose marks e
+unticked whose (mark.Entry entry ∷ marks) e = unticked whose marks e
+unticked whose (mark.Answered number kind known contact ∷ marks) e = unticked whose marks e
+
+-- nor by a mark by which no server's does and no agent's
+pub none_at : (m : Mark) → numbers (ticks Servers) (m ∷ []) ≡ [] → numbers (ticks Agents) (m ∷ []) ≡ [] → (whose : Whose) → numbers (ticks whose) (m ∷ []) ≡ []
+none_at m servers agents Servers = servers
+none_at m servers agents Agents = agents
 
 -- a mark by which no clock goes on, and then silent ones
-pub unticked_event : (more : List Mark) (m : Mark) (old new : List Mark) → new ≡ more ++ m ∷ old → moves_of more ≡ [] → numbers ticks (m ∷ []) ≡ [] → TicksNone (reverse old) (reverse new)
+pub unticked_event : (more : List Mark) (m : Mark) (old new : List Mark) → new ≡ more ++ m ∷ old → moves_of more ≡ [] → ((whose : Whose) → numbers (ticks whose) (m ∷ []) ≡ []) → TicksNone (reverse old) (reverse new)
 unticked_event more m old new e q own = record {
   rest = reverse (more ++ m ∷ []);
   are = behind (more ++ m ∷ []) old new (grown more m old new e);
-  none = none_reverse ticks (more ++ m ∷ []) (none_append ticks more (m ∷ []) (unticked more q) ∙ own);
+  none = λ w. none_reverse (ticks w) (more ++ m ∷ []) (none_append (ticks w) more (m ∷ []) (unticked w more q) ∙ own w);
 }
 
+-- the mark of a tick by itself
+own_tick : (whose : Whose) (n ms : ℕ) → numbers (ticks whose) (mark.Made (tick_of whose n ms) ∷ []) ≡ n ∷ []
+own_tick Servers n ms = refl
+own_tick Agents n ms = refl
+
+own_by : (whose : Whose) (n ms : ℕ) → numbers (ticks_by whose) (mark.Made (tick_of whose n ms) ∷ []) ≡ ms ∷ []
+own_by Servers n ms = refl
+own_by Agents n ms = refl
+
+own_alone : (whose : Whose) (n ms : ℕ) → numbers (ticks (others whose)) (mark.Made (tick_of whose n ms) ∷ []) ≡ []
+own_alone Servers n ms = refl
+own_alone Agents n ms = refl
+
+-- an own mark, and then silent ones, the first one first
+own_reverse : (f : Mark → Option ℕ) (more : List Mark) (m : Mark) (n : ℕ) → numbers f more ≡ [] → numbers f (m ∷ []) ≡ n ∷ [] → numbers f (reverse (more ++ m ∷ [])) ≡ n ∷ []
+own_reverse f more m n none own = numbers_reverse f (more ++ m ∷ []) ∙ ap (λ (l : List ℕ). reverse l) (none_append f more (m ∷ []) none ∙ own)
+
 -- the mark of a tick, and then silent ones
-pub ticked_event : (more : List Mark) (server ms : ℕ) (old new : List Mark) → new ≡ more ++ mark.Made (event.Tick server ms) ∷ old → moves_of more ≡ [] → TicksOne server ms (reverse old) (reverse new)
-ticked_event more server ms old new e q =
-    let m : Mark = mark.Made (event.Tick server ms) in record {
+pub ticked_event : (whose : Whose) (more : List Mark) (n ms : ℕ) (old new : List Mark) → new ≡ more ++ mark.Made (tick_of whose n ms) ∷ old → moves_of more ≡ [] → TicksOne whose n ms (reverse old) (reverse new)
+ticked_event whose more n ms old new e q =
+    let m : Mark = mark.Made (tick_of whose n ms) in record {
       rest = reverse (more ++ m ∷ []);
       are = behind (more ++ m ∷ []) old new (grown more m old new e);
       ticked = inl (
-        numbers_reverse ticks (more ++ m ∷ []) ∙ ap (λ (l : List ℕ). reverse l) (of_own ticks more m (unticked more q)),
-        numbers_reverse ticks_by (more ++ m ∷ []) ∙ ap (λ (l : List ℕ). reverse l) (of_own ticks_by more m (by_none more (unticked more q))),
+        own_reverse (ticks whose) more m n (unticked whose more q) (own_tick whose n ms),
+        own_reverse (ticks_by whose) more m ms (by_none whose more (unticked whose more q)) (own_by whose n ms),
       );
+      none = none_reverse (ticks (others whose)) (more ++ m ∷ []) (none_append (ticks (others whose)) more (m ∷ []) (unticked (others whose) more q) ∙ own_alone whose n ms);
     }
 
--- this server's clock went on
-pub record Went (server : ℕ) (old new : List Mark) : Type 0 where
+-- this clock went on
+pub record Went (whose : Whose) (n : ℕ) (old new : List Mark) : Type 0 where
   pub rest : List Mark
   pub are : new ≡ old ++ rest
-  pub went : Among server (numbers ticks rest)
+  pub went : Among n (numbers (ticks whose) rest)
 
-pub went_event : (more : List Mark) (server ms : ℕ) (old new : List Mark) → new ≡ more ++ mark.Made (event.Tick server ms) ∷ old → moves_of more ≡ [] → Went server (reverse old) (reverse new)
-went_event more server ms old new e q =
-    let m : Mark = mark.Made (event.Tick server ms) in record {
+pub went_event : (whose : Whose) (more : List Mark) (n ms : ℕ) (old new : List Mark) → new ≡ more ++ mark.Made (tick_of whose n ms) ∷ old → moves_of more ≡ [] → Went whose n (reverse old) (reverse new)
+went_event whose more n ms old new e q =
+    let m : Mark = mark.Made (tick_of whose n ms) in record {
       rest = reverse (more ++ m ∷ []);
       are = behind (more ++ m ∷ []) old new (grown more m old new e);
-      went = subst (Among server) (sym (numbers_reverse ticks (more ++ m ∷ []) ∙ ap (λ (l : List ℕ). reverse l) (of_own ticks more m (unticked more q)))) (inl refl);
+      went = subst (Among n) (sym (own_reverse (ticks whose) more m n (unticked whose more q) (own_tick whose n ms))) (inl refl);
     }
 
 -- the numbers that marks ask, answer and take

@@ -10,7 +10,7 @@ use Rattle.cluster_rules.specs.Replies.{Reply}
 use Rattle.datagram_outside.specs.Ports.{IsNew, PortState}
 use Rattle.serve_outside.specs.Links.{LinkState}
 use Rattle.turn_lock.specs.Lists.{IsFront}
-use Rattle.http_connections.specs.declared.cluster.Ask.{Ask}
+use Rattle.http_exchanges.specs.declared.cluster.Ask.{Ask}
 use Rattle.http_connections.specs.declared.run.Stop as loop
 use Rattle.http_connections.specs.Runs.{HandsBack, most_of}
 use Rattle.http_front.specs.declared.names.Answering.{Answering}

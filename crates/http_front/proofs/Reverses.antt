@@ -6,7 +6,7 @@ use Rattle.cluster_rules.proofs.Tools.{eq_tells_not}
 use Rattle.cluster_rules.specs.Sound.{IsAmong}
 use Rattle.turn_lock.specs.Lists.{Among, EachOnce, ahead, numbers}
 use Rattle.turn_lock.proofs.Lists.{among_append, among_left, among_right, numbers_append}
-use Rattle.http_connections.proofs.MarkLists.{in_left, in_right}
+use Rattle.http_exchanges.proofs.MarkLists.{in_left, in_right}
 
 pub reverse_cons : {A : Type 0} → (x : A) (xs : List A) → reverse (x ∷ xs) ≡ reverse xs ++ x ∷ []
 reverse_cons x xs = reverse-append (x ∷ []) xs

@@ -31,20 +31,20 @@ use Rattle.run_rules.specs.Lines.{misfit}
 use Rattle.run_rules.proofs.Fitting.{event_fits}
 use Rattle.turn_lock.specs.Lists.{Among, EachOnce, numbers}
 use Rattle.turn_lock.proofs.Lists.{numbers_append}
-use Rattle.http_connections.specs.declared.cluster.Ask.{Ask}
-use Rattle.http_connections.specs.declared.cluster.Collected.TheVariants as collected
-use Rattle.http_connections.specs.Collects.{Collects, IsGiven}
-use Rattle.http_connections.specs.Marks.{AddsAsked, AddsCut, AddsQuiet, AreKept, Delivers, TicksBy, TicksNone, answered_mark, asked_mark, log_of, opens, takes, ticks, ticks_by}
-use Rattle.http_connections.proofs.Clocks.{by_none, none_none, ticks_none}
-use Rattle.http_connections.proofs.MarkLists.{append_none, in_right, joined, quiet_cut, quiet_none, quiet_quiet}
+use Rattle.http_exchanges.specs.declared.cluster.Ask.{Ask}
+use Rattle.http_exchanges.specs.declared.cluster.Collected.TheVariants as collected
+use Rattle.http_exchanges.specs.Collects.{Collects, IsGiven}
+use Rattle.http_exchanges.specs.Marks.{AddsAsked, AddsCut, AddsQuiet, AreKept, Delivers, TicksBy, TicksNone, Whose, Servers, Agents, answered_mark, asked_mark, log_of, opens, takes, ticks, ticks_by}
+use Rattle.http_exchanges.proofs.Clocks.{by_none, none_none, ticks_none}
+use Rattle.http_exchanges.proofs.MarkLists.{append_none, in_right, joined, none_append, quiet_cut, quiet_none, quiet_quiet}
 use Rattle.run_rules.specs.Keeping.{Keeps}
 use Rattle.run_rules.specs.Serving.{Serves, Size}
 use Rattle.run_rules.proofs.Keeping.{step_keeps}
 use Rattle.http_front.specs.Shared.{IsOpen, Sifts, shared_of}
-use Rattle.http_front.specs.Ticks.{Ticked, TicksOne, TicksUpTo}
+use Rattle.http_front.specs.Ticks.{Ticked, TicksOne, TicksOnly, TicksUpTo, others, tick_of}
 use Rattle.run_rules.proofs.Serving.{agent_ticked_on, asked_on, elected, handed_on, is_booked, is_sound, none_closed, partly_on, settled_on, taken_on, ticked_on}
 use Rattle.http_front.specs.Shown.{ShowsOver, question}
-use Rattle.http_front.proofs.Marks.{Silent, Went, are_kept, asked_event, cut_event, opened, quiet_event, quietly, ticked_event, took, unticked_event, went_event}
+use Rattle.http_front.proofs.Marks.{Silent, Went, are_kept, asked_event, cut_event, none_at, opened, quiet_event, quietly, ticked_event, took, unticked_event, went_event}
 use Rattle.http_front.proofs.Reverses.{among_or_not, in_back, in_reverse, once_last, reverse_cons}
 
 abbrev marks : Cluster → List Mark
@@ -62,8 +62,9 @@ plain_step c c' made whole p s = either (step_keeps c c' made whole s)
     either (inl k) = quiet_event k.more (mark.Made made) c.past c'.past (k.past ∙ ap (λ (l : List Mark). k.more ++ l) p.past) k.quiet p.silent
     either (inr k) = quiet_event k.0.more (mark.Made made) c.past c'.past k.0.past k.0.quiet p.silent
 
-plain_tick : (c : Cluster) (server ms : ℕ) → IsPlain (event.Tick server ms) c
-plain_tick c server ms = record { past = refl; silent = record { opens_none = refl; takes_none = refl } }
+plain_tick : (whose : Whose) (c : Cluster) (n ms : ℕ) → IsPlain (tick_of whose n ms) c
+plain_tick Servers c n ms = record { past = refl; silent = record { opens_none = refl; takes_none = refl } }
+plain_tick Agents c n ms = record { past = refl; silent = record { opens_none = refl; takes_none = refl } }
 
 plain_delivery : (c : Cluster) (k : ℕ) → IsPlain (event.Deliver k) c
 plain_delivery c k = record { past = refl; silent = record { opens_none = refl; takes_none = refl } }
@@ -72,7 +73,7 @@ plain_loss : (c : Cluster) (k : ℕ) → IsPlain (event.Drop k) c
 plain_loss c k = record { past = refl; silent = record { opens_none = refl; takes_none = refl } }
 
 -- no clock goes on by the event
-plain_still : (c c' : Cluster) (made : Event) (whole : Bool) → IsPlain made c → numbers ticks (mark.Made made ∷ []) ≡ [] → ClusterStep c made c' whole → TicksNone (marks c) (marks c')
+plain_still : (c c' : Cluster) (made : Event) (whole : Bool) → IsPlain made c → ((whose : Whose) → numbers (ticks whose) (mark.Made made ∷ []) ≡ []) → ClusterStep c made c' whole → TicksNone (marks c) (marks c')
 plain_still c c' made whole p own s = either (step_keeps c c' made whole s)
   where
     either : Keeps (marked made c) c' ⊎ (Keeps (noted made c) c' × (whole ≡ false)) → TicksNone (marks c) (marks c')
@@ -80,35 +81,35 @@ plain_still c c' made whole p own s = either (step_keeps c c' made whole s)
     either (inr k) = unticked_event k.0.more (mark.Made made) c.past c'.past k.0.past k.0.quiet own
 
 delivery_still : (c c' : Cluster) (k : ℕ) (whole : Bool) → ClusterStep c (event.Deliver k) c' whole → TicksNone (marks c) (marks c')
-delivery_still c c' k whole s = plain_still c c' (event.Deliver k) whole (plain_delivery c k) refl s
+delivery_still c c' k whole s = plain_still c c' (event.Deliver k) whole (plain_delivery c k) (none_at (mark.Made (event.Deliver k)) refl refl) s
 
 loss_still : (c c' : Cluster) (k : ℕ) (whole : Bool) → ClusterStep c (event.Drop k) c' whole → TicksNone (marks c) (marks c')
-loss_still c c' k whole s = plain_still c c' (event.Drop k) whole (plain_loss c k) refl s
+loss_still c c' k whole s = plain_still c c' (event.Drop k) whole (plain_loss c k) (none_at (mark.Made (event.Drop k)) refl refl) s
 
 -- a clock goes on, or no clock does
-one_step : (c c' : Cluster) (server ms : ℕ) (whole : Bool) → ClusterStep c (event.Tick server ms) c' whole → TicksOne server ms (marks c) (marks c')
-one_step c c' server ms whole s = either (step_keeps c c' (event.Tick server ms) whole s)
+one_step : (whose : Whose) (c c' : Cluster) (n ms : ℕ) (whole : Bool) → ClusterStep c (tick_of whose n ms) c' whole → TicksOne whose n ms (marks c) (marks c')
+one_step whose c c' n ms whole s = either (step_keeps c c' (tick_of whose n ms) whole s)
   where
-    either : Keeps (marked (event.Tick server ms) c) c' ⊎ (Keeps (noted (event.Tick server ms) c) c' × (whole ≡ false)) → TicksOne server ms (marks c) (marks c')
-    either (inl k) = ticked_event k.more server ms c.past c'.past (k.past ∙ ap (λ (l : List Mark). k.more ++ l) (plain_tick c server ms).past) k.quiet
-    either (inr k) = ticked_event k.0.more server ms c.past c'.past k.0.past k.0.quiet
+    either : Keeps (marked (tick_of whose n ms) c) c' ⊎ (Keeps (noted (tick_of whose n ms) c) c' × (whole ≡ false)) → TicksOne whose n ms (marks c) (marks c')
+    either (inl k) = ticked_event whose k.more n ms c.past c'.past (k.past ∙ ap (λ (l : List Mark). k.more ++ l) (plain_tick whose c n ms).past) k.quiet
+    either (inr k) = ticked_event whose k.0.more n ms c.past c'.past k.0.past k.0.quiet
 
-pub ticked_mark : (c c' : Cluster) (server ms : ℕ) (whole : Bool) → ClusterStep c (event.Tick server ms) c' whole → Went server (marks c) (marks c')
-ticked_mark c c' server ms whole s = either (step_keeps c c' (event.Tick server ms) whole s)
+pub ticked_mark : (whose : Whose) (c c' : Cluster) (n ms : ℕ) (whole : Bool) → ClusterStep c (tick_of whose n ms) c' whole → Went whose n (marks c) (marks c')
+ticked_mark whose c c' n ms whole s = either (step_keeps c c' (tick_of whose n ms) whole s)
   where
-    either : Keeps (marked (event.Tick server ms) c) c' ⊎ (Keeps (noted (event.Tick server ms) c) c' × (whole ≡ false)) → Went server (marks c) (marks c')
-    either (inl k) = went_event k.more server ms c.past c'.past (k.past ∙ ap (λ (l : List Mark). k.more ++ l) (plain_tick c server ms).past) k.quiet
-    either (inr k) = went_event k.0.more server ms c.past c'.past k.0.past k.0.quiet
+    either : Keeps (marked (tick_of whose n ms) c) c' ⊎ (Keeps (noted (tick_of whose n ms) c) c' × (whole ≡ false)) → Went whose n (marks c) (marks c')
+    either (inl k) = went_event whose k.more n ms c.past c'.past (k.past ∙ ap (λ (l : List Mark). k.more ++ l) (plain_tick whose c n ms).past) k.quiet
+    either (inr k) = went_event whose k.0.more n ms c.past c'.past k.0.past k.0.quiet
 
-pub one_none : (server ms : ℕ) (old : List Mark) → TicksOne server ms old old
-one_none server ms old = record { rest = []; are = sym (append-nil old); ticked = inr refl }
+pub one_none : (whose : Whose) (n ms : ℕ) (old : List Mark) → TicksOne whose n ms old old
+one_none whose n ms old = record { rest = []; are = sym (append-nil old); ticked = inr refl; none = refl }
 
-pub tick_ticks : (c c' : Cluster) (server ms : ℕ) (r : Result (Unit {0}) Memory) → OnOk r (ClusterStep c (event.Tick server ms) c' true) → OnErr r (FindsNoMemory (event.Tick server ms) c c') → TicksOne server ms (marks c) (marks c')
-tick_ticks c c' server ms (Ok done) whole cut = one_step c c' server ms true whole
-tick_ticks c c' server ms (Err why) whole (inl e) = subst (λ (z : Cluster). TicksOne server ms (marks c) (marks z)) (sym e) (one_none server ms (marks c))
-tick_ticks c c' server ms (Err why) whole (inr short) = one_step c c' server ms false short
+pub tick_ticks : (whose : Whose) (c c' : Cluster) (n ms : ℕ) (r : Result (Unit {0}) Memory) → OnOk r (ClusterStep c (tick_of whose n ms) c' true) → OnErr r (FindsNoMemory (tick_of whose n ms) c c') → TicksOne whose n ms (marks c) (marks c')
+tick_ticks whose c c' n ms (Ok done) whole cut = one_step whose c c' n ms true whole
+tick_ticks whose c c' n ms (Err why) whole (inl e) = subst (λ (z : Cluster). TicksOne whose n ms (marks c) (marks z)) (sym e) (one_none whose n ms (marks c))
+tick_ticks whose c c' n ms (Err why) whole (inr short) = one_step whose c c' n ms false short
 
--- one server's clock after another's
+-- one clock after another
 all_last : (P : ℕ → Type 0) (xs : List ℕ) (x : ℕ) → AllByRecursion P xs → P x → AllByRecursion P (xs ++ x ∷ [])
 all_last P [] x a p = (p, tt)
 all_last P (y ∷ xs) x a p = (a.0, all_last P xs x a.1 p)
@@ -122,74 +123,85 @@ not_above n [] a b = b
 not_above n (x ∷ xs) a (inl e) = omega (arith, a.0, e)
 not_above n (x ∷ xs) a (inr b) = not_above n xs a.1 b
 
-pub up_to_none : (ms : ℕ) (old : List Mark) → TicksUpTo 0 ms old old
-up_to_none ms old = record { rest = []; are = sym (append-nil old); once = tt; by_ms = tt; most = tt }
+pub up_to_none : (whose : Whose) (ms : ℕ) (old : List Mark) → TicksUpTo whose 0 ms old old
+up_to_none whose ms old = record { rest = []; are = sym (append-nil old); once = tt; by_ms = tt; most = tt; none = refl }
 
-pub up_to_next : (server ms : ℕ) (a b c : List Mark) → TicksUpTo server ms a b → TicksOne (server + 1) ms b c → TicksUpTo (server + 1) ms a c
-up_to_next server ms a b c x y = record {
+pub up_to_next : (whose : Whose) (n ms : ℕ) (a b c : List Mark) → TicksUpTo whose n ms a b → TicksOne whose (n + 1) ms b c → TicksUpTo whose (n + 1) ms a c
+up_to_next whose n ms a b c x y = record {
   rest = x.rest ++ y.rest;
   are = joined a b c x.rest y.rest x.are y.are;
   once = once y.ticked;
   by_ms = by_ms y.ticked;
   most = most y.ticked;
+  none = none_append (ticks (others whose)) x.rest y.rest x.none ∙ y.none;
 }
   where
-    one : (f : Mark → Option ℕ) (n : ℕ) → numbers f y.rest ≡ n ∷ [] → numbers f (x.rest ++ y.rest) ≡ numbers f x.rest ++ n ∷ []
-    one f n e = numbers_append f x.rest y.rest ∙ ap (λ (l : List ℕ). numbers f x.rest ++ l) e
+    one : (f : Mark → Option ℕ) (k : ℕ) → numbers f y.rest ≡ k ∷ [] → numbers f (x.rest ++ y.rest) ≡ numbers f x.rest ++ k ∷ []
+    one f k e = numbers_append f x.rest y.rest ∙ ap (λ (l : List ℕ). numbers f x.rest ++ l) e
 
-    once : Ticked (server + 1) ms y.rest → EachOnce (numbers ticks (x.rest ++ y.rest))
-    once (inl t) = subst EachOnce (sym (one ticks (server + 1) t.0)) (once_last (numbers ticks x.rest) (server + 1) x.once (not_above server (numbers ticks x.rest) x.most))
-    once (inr e) = subst EachOnce (sym (append_none ticks x.rest y.rest e)) x.once
+    once : Ticked whose (n + 1) ms y.rest → EachOnce (numbers (ticks whose) (x.rest ++ y.rest))
+    once (inl t) = subst EachOnce (sym (one (ticks whose) (n + 1) t.0)) (once_last (numbers (ticks whose) x.rest) (n + 1) x.once (not_above n (numbers (ticks whose) x.rest) x.most))
+    once (inr e) = subst EachOnce (sym (append_none (ticks whose) x.rest y.rest e)) x.once
 
-    by_ms : Ticked (server + 1) ms y.rest → AllByRecursion (λ n. n ≡ ms) (numbers ticks_by (x.rest ++ y.rest))
-    by_ms (inl t) = subst (AllByRecursion (λ n. n ≡ ms)) (sym (one ticks_by ms t.1)) (all_last (λ n. n ≡ ms) (numbers ticks_by x.rest) ms x.by_ms refl)
-    by_ms (inr e) = subst (AllByRecursion (λ n. n ≡ ms)) (sym (append_none ticks_by x.rest y.rest (by_none y.rest e))) x.by_ms
+    by_ms : Ticked whose (n + 1) ms y.rest → AllByRecursion (λ k. k ≡ ms) (numbers (ticks_by whose) (x.rest ++ y.rest))
+    by_ms (inl t) = subst (AllByRecursion (λ k. k ≡ ms)) (sym (one (ticks_by whose) ms t.1)) (all_last (λ k. k ≡ ms) (numbers (ticks_by whose) x.rest) ms x.by_ms refl)
+    by_ms (inr e) = subst (AllByRecursion (λ k. k ≡ ms)) (sym (append_none (ticks_by whose) x.rest y.rest (by_none whose y.rest e))) x.by_ms
 
-    most : Ticked (server + 1) ms y.rest → AllByRecursion (λ n. n ≤ server + 1) (numbers ticks (x.rest ++ y.rest))
-    most (inl t) = subst (AllByRecursion (λ n. n ≤ server + 1)) (sym (one ticks (server + 1) t.0)) (all_last (λ n. n ≤ server + 1) (numbers ticks x.rest) (server + 1) (all_more server (numbers ticks x.rest) x.most) (omega arith))
-    most (inr e) = subst (AllByRecursion (λ n. n ≤ server + 1)) (sym (append_none ticks x.rest y.rest e)) (all_more server (numbers ticks x.rest) x.most)
+    most : Ticked whose (n + 1) ms y.rest → AllByRecursion (λ k. k ≤ n + 1) (numbers (ticks whose) (x.rest ++ y.rest))
+    most (inl t) = subst (AllByRecursion (λ k. k ≤ n + 1)) (sym (one (ticks whose) (n + 1) t.0)) (all_last (λ k. k ≤ n + 1) (numbers (ticks whose) x.rest) (n + 1) (all_more n (numbers (ticks whose) x.rest) x.most) (omega arith))
+    most (inr e) = subst (AllByRecursion (λ k. k ≤ n + 1)) (sym (append_none (ticks whose) x.rest y.rest e)) (all_more n (numbers (ticks whose) x.rest) x.most)
 
-pub up_to_all : (server ms : ℕ) (a b : List Mark) → TicksUpTo server ms a b → TicksBy ms a b
-up_to_all server ms a b x = record { rest = x.rest; are = x.are; once = x.once; by_ms = x.by_ms }
+pub up_to_only : (whose : Whose) (n ms : ℕ) (a b : List Mark) → TicksUpTo whose n ms a b → TicksOnly whose ms a b
+up_to_only whose n ms a b x = record { rest = x.rest; are = x.are; once = x.once; by_ms = x.by_ms; none = x.none }
+
+-- servers' clocks alone, and agents' behind them
+none_once : (whose : Whose) (xs : List Mark) → numbers (ticks whose) xs ≡ [] → EachOnce (numbers (ticks whose) xs)
+none_once whose xs e = subst EachOnce (sym e) tt
+
+none_by : (whose : Whose) (ms : ℕ) (xs : List Mark) → numbers (ticks whose) xs ≡ [] → AllByRecursion (λ k. k ≡ ms) (numbers (ticks_by whose) xs)
+none_by whose ms xs e = subst (AllByRecursion (λ k. k ≡ ms)) (sym (by_none whose xs e)) tt
+
+-- where no clock went on, none did by another time
+pub stands_by : (ms : ℕ) (old : List Mark) → TicksBy ms old old
+stands_by ms old = record { rest = []; are = sym (append-nil old); once = λ w. tt; by_ms = λ w. tt }
+
+pub servers_by : (ms : ℕ) (a b : List Mark) → TicksOnly Servers ms a b → TicksBy ms a b
+servers_by ms a b x = record { rest = x.rest; are = x.are; once = once; by_ms = by_ms }
+  where
+    once : (whose : Whose) → EachOnce (numbers (ticks whose) x.rest)
+    once Servers = x.once
+    once Agents = none_once Agents x.rest x.none
+
+    by_ms : (whose : Whose) → AllByRecursion (λ k. k ≡ ms) (numbers (ticks_by whose) x.rest)
+    by_ms Servers = x.by_ms
+    by_ms Agents = none_by Agents ms x.rest x.none
+
+pub both_by : (ms : ℕ) (a b c : List Mark) → TicksOnly Servers ms a b → TicksOnly Agents ms b c → TicksBy ms a c
+both_by ms a b c x y = record { rest = x.rest ++ y.rest; are = joined a b c x.rest y.rest x.are y.are; once = once; by_ms = by_ms }
+  where
+    once : (whose : Whose) → EachOnce (numbers (ticks whose) (x.rest ++ y.rest))
+    once Servers = subst EachOnce (sym (append_none (ticks Servers) x.rest y.rest y.none)) x.once
+    once Agents = subst EachOnce (sym (none_append (ticks Agents) x.rest y.rest x.none)) y.once
+
+    by_ms : (whose : Whose) → AllByRecursion (λ k. k ≡ ms) (numbers (ticks_by whose) (x.rest ++ y.rest))
+    by_ms Servers = subst (AllByRecursion (λ k. k ≡ ms)) (sym (append_none (ticks_by Servers) x.rest y.rest (by_none Servers y.rest y.none))) x.by_ms
+    by_ms Agents = subst (AllByRecursion (λ k. k ≡ ms)) (sym (none_append (ticks_by Agents) x.rest y.rest (by_none Agents x.rest x.none))) y.by_ms
 
 -- a tick
-pub tick_quiet : (c c' : Cluster) (server ms : ℕ) (r : Result (Unit {0}) Memory) → OnOk r (ClusterStep c (event.Tick server ms) c' true) → OnErr r (FindsNoMemory (event.Tick server ms) c c') → AddsQuiet (marks c) (marks c')
-tick_quiet c c' server ms (Ok done) whole cut = plain_step c c' (event.Tick server ms) true (plain_tick c server ms) whole
-tick_quiet c c' server ms (Err why) whole (inl e) = subst (λ (z : Cluster). AddsQuiet (marks c) (marks z)) (sym e) (quiet_none (marks c))
-tick_quiet c c' server ms (Err why) whole (inr short) = plain_step c c' (event.Tick server ms) false (plain_tick c server ms) short
+pub tick_quiet : (whose : Whose) (c c' : Cluster) (n ms : ℕ) (r : Result (Unit {0}) Memory) → OnOk r (ClusterStep c (tick_of whose n ms) c' true) → OnErr r (FindsNoMemory (tick_of whose n ms) c c') → AddsQuiet (marks c) (marks c')
+tick_quiet whose c c' n ms (Ok done) whole cut = plain_step c c' (tick_of whose n ms) true (plain_tick whose c n ms) whole
+tick_quiet whose c c' n ms (Err why) whole (inl e) = subst (λ (z : Cluster). AddsQuiet (marks c) (marks z)) (sym e) (quiet_none (marks c))
+tick_quiet whose c c' n ms (Err why) whole (inr short) = plain_step c c' (tick_of whose n ms) false (plain_tick whose c n ms) short
 
 pub tick_serves : (size : Size) (c c' : Cluster) (server ms : ℕ) (r : Result (Unit {0}) Memory) → Serves size c → misfit c (event.Tick server ms) ≡ None → OnOk r (ClusterStep c (event.Tick server ms) c' true) → OnErr r (FindsNoMemory (event.Tick server ms) c c') → Serves size c'
 tick_serves size c c' server ms (Ok done) s fits whole cut = ticked_on size c c' server ms true s (event_fits c (event.Tick server ms) fits) whole
 tick_serves size c c' server ms (Err why) s fits whole (inl e) = subst (Serves size) (sym e) s
 tick_serves size c c' server ms (Err why) s fits whole (inr short) = ticked_on size c c' server ms false s (event_fits c (event.Tick server ms) fits) short
 
--- the tick of an agent's clock, by which no server's goes on
-plain_agent : (c : Cluster) (agent ms : ℕ) → IsPlain (event.AgentTick agent ms) c
-plain_agent c agent ms = record { past = refl; silent = record { opens_none = refl; takes_none = refl } }
-
-pub agent_quiet : (c c' : Cluster) (agent ms : ℕ) (r : Result (Unit {0}) Memory) → OnOk r (ClusterStep c (event.AgentTick agent ms) c' true) → OnErr r (FindsNoMemory (event.AgentTick agent ms) c c') → AddsQuiet (marks c) (marks c')
-agent_quiet c c' agent ms (Ok done) whole cut = plain_step c c' (event.AgentTick agent ms) true (plain_agent c agent ms) whole
-agent_quiet c c' agent ms (Err why) whole (inl e) = subst (λ (z : Cluster). AddsQuiet (marks c) (marks z)) (sym e) (quiet_none (marks c))
-agent_quiet c c' agent ms (Err why) whole (inr short) = plain_step c c' (event.AgentTick agent ms) false (plain_agent c agent ms) short
-
-pub agent_still : (c c' : Cluster) (agent ms : ℕ) (r : Result (Unit {0}) Memory) → OnOk r (ClusterStep c (event.AgentTick agent ms) c' true) → OnErr r (FindsNoMemory (event.AgentTick agent ms) c c') → TicksNone (marks c) (marks c')
-agent_still c c' agent ms (Ok done) whole cut = plain_still c c' (event.AgentTick agent ms) true (plain_agent c agent ms) refl whole
-agent_still c c' agent ms (Err why) whole (inl e) = subst (λ (z : Cluster). TicksNone (marks c) (marks z)) (sym e) (ticks_none (marks c))
-agent_still c c' agent ms (Err why) whole (inr short) = plain_still c c' (event.AgentTick agent ms) false (plain_agent c agent ms) refl short
-
 pub agent_serves : (size : Size) (c c' : Cluster) (agent ms : ℕ) (r : Result (Unit {0}) Memory) → Serves size c → misfit c (event.AgentTick agent ms) ≡ None → OnOk r (ClusterStep c (event.AgentTick agent ms) c' true) → OnErr r (FindsNoMemory (event.AgentTick agent ms) c c') → Serves size c'
 agent_serves size c c' agent ms (Ok done) s fits whole cut = agent_ticked_on size c c' agent ms true s (event_fits c (event.AgentTick agent ms) fits) whole
 agent_serves size c c' agent ms (Err why) s fits whole (inl e) = subst (Serves size) (sym e) s
 agent_serves size c c' agent ms (Err why) s fits whole (inr short) = agent_ticked_on size c c' agent ms false s (event_fits c (event.AgentTick agent ms) fits) short
-
--- after the clocks went on, none does
-pub by_still : (ms : ℕ) (a b c : List Mark) → TicksBy ms a b → TicksNone b c → TicksBy ms a c
-by_still ms a b c x y = record {
-  rest = x.rest ++ y.rest;
-  are = joined a b c x.rest y.rest x.are y.are;
-  once = subst EachOnce (sym (append_none ticks x.rest y.rest y.none)) x.once;
-  by_ms = subst (AllByRecursion (λ n. n ≡ ms)) (sym (append_none ticks_by x.rest y.rest (by_none y.rest y.none))) x.by_ms;
-}
 
 -- a request
 asked_whole : (c c' : Cluster) (a : Ask) → ClusterStep c (event.Ask a.agent a.asked a.draw) c' true → (number : ℕ) → number ≡ c'.asked → AddsAsked number a (marks c) (marks c')
@@ -219,8 +231,8 @@ asked_still : (c c' : Cluster) (a : Ask) (whole : Bool) → ClusterStep c (event
 asked_still c c' a whole s = either (step_keeps c c' (event.Ask a.agent a.asked a.draw) whole s)
   where
     either : Keeps (marked (event.Ask a.agent a.asked a.draw) c) c' ⊎ (Keeps (noted (event.Ask a.agent a.asked a.draw) c) c' × (whole ≡ false)) → TicksNone (marks c) (marks c')
-    either (inl k) = unticked_event k.more (asked_mark (suc c.asked) a) c.past c'.past k.past k.quiet refl
-    either (inr k) = unticked_event k.0.more (mark.Made (event.Ask a.agent a.asked a.draw)) c.past c'.past k.0.past k.0.quiet refl
+    either (inl k) = unticked_event k.more (asked_mark (suc c.asked) a) c.past c'.past k.past k.quiet (λ w. refl)
+    either (inr k) = unticked_event k.0.more (mark.Made (event.Ask a.agent a.asked a.draw)) c.past c'.past k.0.past k.0.quiet (none_at (mark.Made (event.Ask a.agent a.asked a.draw)) refl refl)
 
 pub asks_still : (c c' : Cluster) (a : Ask) (r : Result ℕ Memory) → OnOk r (ClusterStep c (event.Ask a.agent a.asked a.draw) c' true) → OnErr r (FindsNoMemory (event.Ask a.agent a.asked a.draw) c c') → TicksNone (marks c) (marks c')
 asks_still c c' a (Ok number) whole cut = asked_still c c' a true whole
@@ -262,7 +274,7 @@ pairs_still n c c' (pair {n = k} p c₁ c₂ low fits first fits' second more) =
     none_none (marks c) (marks c₁) (marks c') (delivery_still c c₁ p.number true first) (none_none (marks c₁) (marks c₂) (marks c') (loss_still c₁ c₂ p.number true second) (pairs_still k c₂ c' more))
 
 mark_still : (pairs : ℕ) (c : Cluster) → TicksNone (marks c) (marks (settled pairs c))
-mark_still pairs c = unticked_event [] (mark.Settled pairs true) c.past (mark.Settled pairs true ∷ c.past) refl refl refl
+mark_still pairs c = unticked_event [] (mark.Settled pairs true) c.past (mark.Settled pairs true ∷ c.past) refl refl (λ w. refl)
 
 part_still : (c c' : Cluster) → IsPartOfPair c c' → TicksNone (marks c) (marks c')
 part_still c c' (inl e) = subst (λ (z : Cluster). TicksNone (marks c) (marks z)) (sym e) (ticks_none (marks c))

@@ -3,8 +3,8 @@ use Rattle.std.specs.Prelude.{◌≡◌, ◌⊎◌}
 use Rattle.cluster_interface.specs.Taking.{DropsSyncs}
 use Rattle.cluster_rules.specs.Cluster.{Cluster}
 use Rattle.cluster_requests.specs.declared.collected.Collected as cluster
-use Rattle.http_connections.specs.declared.cluster.Collected.{Collected}
-use Rattle.http_connections.specs.declared.cluster.Collected.TheVariants as collected
+use Rattle.http_exchanges.specs.declared.cluster.Collected.{Collected}
+use Rattle.http_exchanges.specs.declared.cluster.Collected.TheVariants as collected
 
 -- the request is not closed
 abbrev pub IsOpen : cluster.Collected → Type 0

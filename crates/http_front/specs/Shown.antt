@@ -5,8 +5,8 @@ use Rattle.raft_model.specs.Node.{Store}
 use Rattle.cluster_rules.specs.Reached.{MayBegin}
 use Rattle.cluster_rules.specs.Lasting.{Lasting}
 use Rattle.cluster_rules.specs.Replies.{Question, Reply, reply_of}
-use Rattle.http_connections.specs.declared.cluster.Ask.{Ask}
-use Rattle.http_connections.specs.Marks.{log_of}
+use Rattle.http_exchanges.specs.declared.cluster.Ask.{Ask}
+use Rattle.http_exchanges.specs.Marks.{log_of}
 
 -- the request with this number
 abbrev pub question : ℕ → Ask → Question

@@ -13,13 +13,13 @@
 //!
 //! The cluster that connections share is one of which no store is made to fail, no message is lost that was not
 //! delivered, and no server restarts: asking puts just one asking mark, with the request's number; advancing and
-//! settling ask and take nothing; advancing ticks each server's clock once, by just that time, but for one that
-//! would pass its end, and nothing else ticks one; settling delivers the most that it may, or until no message is
-//! left, and says how many; what is collected is the reply of its own mark and, where the stores were empty or such
-//! as an earlier run left, shows what its kind gives over the agreed log that the marks tell; after running out of
-//! memory too it serves on. It begins with what its stores hold; that a store could not be read it says only where
-//! that store counted it, and hands all stores back. Carried by: `ServingCluster::begin`, the `SharedCluster` of
-//! `ServingCluster`.
+//! settling ask and take nothing; advancing ticks the clock of each server and of each agent once, by just that time,
+//! but for a server's that would pass its end, and nothing else ticks one; settling delivers the most that it may,
+//! or until no message is left, and says how many; what is collected is the reply of its own mark and, where the
+//! stores were empty or such as an earlier run left, shows what its kind gives over the agreed log that the marks
+//! tell; after running out of memory too it serves on. It begins with what its stores hold; that a store could not
+//! be read it says only where that store counted it, and hands all stores back. Carried by:
+//! `ServingCluster::begin`, the `SharedCluster` of `ServingCluster`.
 #![tactic(auto)]
 
 mod cluster;

@@ -5,7 +5,7 @@ ghost use mathlib.Core.List.{IsPrefix};
 ghost use Rattle.outside.specs.Causes.{HasCause, Rose};
 ghost use Rattle.dns_server.specs.declared.packets.DnsCause.TheVariants as dns_cause;
 ghost use Rattle.serve_outside.specs.Tasks.{IsKept, note_of};
-ghost use Rattle.http_connections.specs.Marks.{agreed_by};
+ghost use Rattle.http_exchanges.specs.Marks.{agreed_by};
 ghost use Rattle.http_connections.specs.Runs.{most_of};
 ghost use Rattle.http_front.specs.Names.{Answers, AnswersAs, Finishes, IsAnswered, IsBound, LeavesPort, told_by};
 
@@ -14,7 +14,7 @@ use cat_model::Memory;
 use datagram_outside::{DatagramPort, Datagrams};
 use dns_jobs::{DnsDone, DnsJob, NamesTask, finish_names, start_names};
 use dns_server::{DnsCause, DnsEnded};
-use http_connections::SharedCluster;
+use http_exchanges::SharedCluster;
 use outside::Failed;
 use serve_outside::{NoteOf, Spawner};
 use stale_view::{PairName, Viewer};

@@ -5,17 +5,17 @@ ghost use Rattle.cat_model.specs.Log.{commands_of};
 ghost use Rattle.cluster_rules.specs.Cluster.{clock_of};
 ghost use Rattle.cluster_rules.specs.Reached.{MayBegin};
 ghost use Rattle.cluster_requests.specs.Taking.{IsNumberAt};
-ghost use Rattle.http_connections.specs.Collects.{Collects};
-ghost use Rattle.http_connections.specs.Marks.{AddsAsked, AddsCut, AddsQuiet, AreKept, Delivers, TicksAll, TicksBy, TicksNone, agreed_by};
-ghost use Rattle.http_connections.specs.Turns.{MayAsk};
+ghost use Rattle.http_exchanges.specs.Collects.{Collects};
+ghost use Rattle.http_exchanges.specs.Marks.{AddsAsked, AddsCut, AddsQuiet, Agents, AreKept, Delivers, Servers, TicksAll, TicksBy, TicksNone, agreed_by};
+ghost use Rattle.http_exchanges.specs.Turns.{MayAsk};
 ghost use Rattle.http_front.specs.Shown.{ShowsOver};
 ghost use Rattle.http_front.specs.Shared.{IsOpen, Sifts, shared_of};
-ghost use Rattle.http_front.specs.Ticks.{TicksOne, TicksWholly};
+ghost use Rattle.http_front.specs.Ticks.{TicksEach, TicksOne, TicksOnly, TicksWholly};
 
 use crate::cluster::{ClusterSize, ServingCluster};
 use cat_model::{Entry, Event, Memory};
 use cluster_interface::ClusterInterface;
-use http_connections::{Ask, Collected};
+use http_exchanges::{Ask, Collected};
 use std::alloc::Global;
 
 // A request's reply, or what else there is of a request that is not closed.
@@ -54,8 +54,8 @@ impl<J: ClusterSize, S: ClusterInterface> ServingCluster<J, S> {
     // The clock of a server goes on. One that is at its end stays there.
     fn tick(&mut self, alloc: Global, server: u32, ms: u64) -> Result<(), Memory>
         ensures quiet { AddsQuiet (reverse self.old.past) (reverse self.new.past) }
-        ensures ticks { TicksOne server ms (reverse self.old.past) (reverse self.new.past) }
-        ensures wholly { OnOk result (TicksWholly server ms self.old self.new) }
+        ensures ticks { TicksOne Servers server ms (reverse self.old.past) (reverse self.new.past) }
+        ensures wholly { OnOk result (TicksWholly Servers server ms self.old self.new) }
     {
         let tick = Event::Tick(server, ms);
         let fits = self.cluster.fits(&tick);
@@ -68,11 +68,11 @@ impl<J: ClusterSize, S: ClusterInterface> ServingCluster<J, S> {
         }
     }
 
-    // The clocks of all servers go on, one after another.
-    fn tick_all(&mut self, alloc: Global, ms: u64) -> Result<(), Memory>
+    // The clocks of all servers go on, one after another. No agent's does.
+    fn tick_servers(&mut self, alloc: Global, ms: u64) -> Result<(), Memory>
         ensures quiet { AddsQuiet (reverse self.old.past) (reverse self.new.past) }
-        ensures ticks { TicksBy ms (reverse self.old.past) (reverse self.new.past) }
-        ensures all { OnOk result (TicksAll (length self.old.servers) (λ s. clock_of self.old.world s) ms (reverse self.old.past) (reverse self.new.past)) }
+        ensures ticks { TicksOnly Servers ms (reverse self.old.past) (reverse self.new.past) }
+        ensures each { OnOk result (TicksEach Servers (length self.old.servers) ms self.old self.new) }
     {
         let last = self.cluster.servers();
         let mut server = 0;
@@ -86,10 +86,11 @@ impl<J: ClusterSize, S: ClusterInterface> ServingCluster<J, S> {
         Ok(())
     }
 
-    // The clock of an agent goes on, and with it what the agent does by itself. One that is at its end stays there.
+    // The clock of an agent goes on, and with it what the agent does by itself. It has no end.
     fn tick_agent(&mut self, alloc: Global, agent: u32, ms: u64) -> Result<(), Memory>
         ensures quiet { AddsQuiet (reverse self.old.past) (reverse self.new.past) }
-        ensures unticked { TicksNone (reverse self.old.past) (reverse self.new.past) }
+        ensures ticks { TicksOne Agents agent ms (reverse self.old.past) (reverse self.new.past) }
+        ensures wholly { OnOk result (TicksWholly Agents agent ms self.old self.new) }
     {
         let tick = Event::AgentTick(agent, ms);
         let fits = self.cluster.fits(&tick);
@@ -105,7 +106,8 @@ impl<J: ClusterSize, S: ClusterInterface> ServingCluster<J, S> {
     // The clocks of all agents go on, one after another. No server's does.
     fn tick_agents(&mut self, alloc: Global, ms: u64) -> Result<(), Memory>
         ensures quiet { AddsQuiet (reverse self.old.past) (reverse self.new.past) }
-        ensures unticked { TicksNone (reverse self.old.past) (reverse self.new.past) }
+        ensures ticks { TicksOnly Agents ms (reverse self.old.past) (reverse self.new.past) }
+        ensures each { OnOk result (TicksEach Agents J.size.agents ms self.old self.new) }
     {
         let last = self.cluster.agents();
         let mut agent = 0;
@@ -123,9 +125,9 @@ impl<J: ClusterSize, S: ClusterInterface> ServingCluster<J, S> {
     fn go_on(&mut self, alloc: Global, ms: u64) -> Result<(), Memory>
         ensures quiet { AddsQuiet (reverse self.old.past) (reverse self.new.past) }
         ensures ticks { TicksBy ms (reverse self.old.past) (reverse self.new.past) }
-        ensures all { OnOk result (TicksAll (length self.old.servers) (λ s. clock_of self.old.world s) ms (reverse self.old.past) (reverse self.new.past)) }
+        ensures all { OnOk result (TicksAll (length self.old.servers) J.size.agents (λ s. clock_of self.old.world s) ms (reverse self.old.past) (reverse self.new.past)) }
     {
-        match self.tick_all(alloc, ms) {
+        match self.tick_servers(alloc, ms) {
             Ok(()) => self.tick_agents(alloc, ms),
             Err(Memory) => Err(Memory),
         }
@@ -190,7 +192,7 @@ impl<J: ClusterSize, S: ClusterInterface> ServingCluster<J, S> {
     pub(crate) fn advance(&mut self, alloc: Global, ms: u64) -> Result<(), Memory>
         ensures quiet { AddsQuiet (reverse self.old.past) (reverse self.new.past) }
         ensures ticks { TicksBy ms (reverse self.old.past) (reverse self.new.past) }
-        ensures all { OnOk result (0 < ms → TicksAll (length self.old.servers) (λ s. clock_of self.old.world s) ms (reverse self.old.past) (reverse self.new.past)) }
+        ensures all { OnOk result (0 < ms → TicksAll (length self.old.servers) J.size.agents (λ s. clock_of self.old.world s) ms (reverse self.old.past) (reverse self.new.past)) }
     {
         if ms == 0 {
             return Ok(());

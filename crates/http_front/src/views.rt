@@ -3,12 +3,12 @@
 ghost use Rattle.std.specs.Prelude.{◌≡◌, [], OnOk, reverse};
 ghost use mathlib.Core.List.{IsPrefix};
 ghost use Rattle.cluster_rules.specs.Reached.{MayBegin};
-ghost use Rattle.http_connections.specs.Marks.{agreed_by};
+ghost use Rattle.http_exchanges.specs.Marks.{agreed_by};
 
 use crate::cluster::{ClusterSize, ServingCluster};
 use cat_model::Memory;
 use cluster_interface::ClusterInterface;
-use http_connections::{Ask, Collected, SharedCluster};
+use http_exchanges::{Ask, Collected, SharedCluster};
 use stale_view::{PairName, Publisher, Viewer};
 use std::alloc::Global;
 use std::marker::Model;
@@ -29,7 +29,7 @@ impl<J: ClusterSize + PairName, S: ClusterInterface, R: Wait + Drop> Model
     ghost use mathlib.Core.List.{IsPrefix};
     ghost use Rattle.cluster_rules.specs.Cluster as rules;
     ghost use Rattle.cluster_rules.specs.Reached.{MayBegin};
-    ghost use Rattle.http_connections.specs.Marks.{agreed_by};
+    ghost use Rattle.http_exchanges.specs.Marks.{agreed_by};
 
     ghost Value = { rules.Cluster };
 

@@ -1,4 +1,5 @@
-//! What holds of each host, and of hosts whose links deliver only what was sent, each the contract of a function with an empty body.
+//! What holds of each host, and of hosts whose links deliver only what was sent, each the contract of a function with an
+//! empty body.
 
 ghost use Rattle.std.specs.Prelude.{List};
 ghost use Rattle.node_journals.specs.Agreement.{Agree, HaveOneLeader, HaveOneLog};

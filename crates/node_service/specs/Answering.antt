@@ -20,7 +20,7 @@ peers_of h = record { id = h.node.id; servers = h.node.servers }
 abbrev pub state_of : Hosted → Frame
 state_of h = let status = status_of h in State status.term status.role status.commit status.last
 
--- The frame that says how a proposal ended. Want of memory has none.
+-- The frame that says how a proposal ended. Running out of memory has none.
 abbrev pub Says : Result Place ProposeFault → Option Frame → Type 0
 Says (Ok place) answer = answer ≡ Some (Placed place.index place.term)
 Says (Err faults.NotLeader) answer = answer ≡ Some (Refused whys.NotLeader)

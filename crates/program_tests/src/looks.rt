@@ -4,12 +4,12 @@ ghost use Rattle.std.specs.Prelude.{◌≡◌, ◌∷◌, [], IfOk, Some, true};
 ghost use Rattle.std.specs.Arc.{arc_value};
 ghost use Rattle.cat_model.specs.Keeping.{nothing_kept};
 ghost use Rattle.cluster_interface.specs.Starting.{store_of};
-ghost use Rattle.http_connections.specs.Boards.{IsOurs};
+ghost use Rattle.http_exchanges.specs.Boards.{IsOurs};
 
 use cat_model::{Bytes, Draw, List, Memory};
 use cluster::Cluster;
 use crossbeam_utils::CachePadded;
-use http_connections::{Board, Cause, ServeJob, Served, SharedCluster, serve_connection};
+use http_exchanges::{Board, Cause, ServeJob, Served, SharedCluster, serve_connection};
 use http_front::{ClusterSize, ServingCluster, ViewedCluster};
 use http_routes::Routes;
 use http_wire::RequestReader;

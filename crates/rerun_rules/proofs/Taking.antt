@@ -13,7 +13,7 @@ use Rattle.cluster_rules.specs.Proposals.{is_agents, sync_of}
 use Rattle.cluster_rules.specs.Requests.{moved}
 use Rattle.cluster_rules.specs.Step.{Acts, ClusterStep, Does, Passes, Remembers, act, acts_of, arms, cut, cut_between, cut_early, done, handles, input_of, leaderless, loses, marked, over, passed, replies, restarts, stays, syncs, takes, tends, ticks}
 
--- Making up leaves the world.
+-- Catching up leaves the world.
 did_world : (i : ℕ) (w : Work) (c : Cluster) → (did i w c).world ≡ c.world
 unfolding did
 did_world i (Replies q kind) c = refl

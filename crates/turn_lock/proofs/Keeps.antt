@@ -11,9 +11,9 @@ use lib.ListN.{get_elem?}
 use Rattle.atomic_table.specs.Table.{State, Me, Act, keeps, takes, gives, step, stepped, Valid, carried_after, Allows, Splits, Joins}
 use Rattle.atomic_table.proofs.Lists.{at_set, at_snoc, set_again, set_else, at_longer, one_turn}
 use Rattle.turn_lock.specs.declared.knowledge.Knowledge.{Knowledge}
-use Rattle.turn_lock.specs.Lists.{Among, AreFronts, EachOnce, numbers, total, Extends}
-use Rattle.turn_lock.specs.Rule.{all_shares, newcomer, waiting, having, passed, noted, IsTrue, Differ, IsHome, IsOut, IsKept, given, left, right, longer, both, Draws, Comes, Awaits, Leaves}
-use Rattle.turn_lock.proofs.Lists.{among_append, among_left, among_right, numbers_append, once_apart, total_set, total_snoc, total_le, set_at, each_set, each_snoc, extends_more, fronts_both, fronts_longer, untouched_longer}
+use Rattle.turn_lock.specs.Lists.{Among, AreFronts, EachOnce, numbers, total, Extends, OpensAll, OpensOnly}
+use Rattle.turn_lock.specs.Rule.{all_shares, newcomer, founder, IsSomeones, waiting, having, passed, noted, IsTrue, Differ, IsHome, IsOut, IsKept, given, left, right, longer, both, Draws, Comes, Awaits, Leaves}
+use Rattle.turn_lock.proofs.Lists.{among_append, among_left, among_right, numbers_append, once_apart, total_set, total_snoc, total_le, total_two, set_at, each_set, each_snoc, extends_more, fronts_both, fronts_longer, untouched_longer}
 
 module _ {S I : Type 0} (items : S → List I) (opens closes : I → Option ℕ) where
   abbrev V : Type 0
@@ -63,6 +63,13 @@ module _ {S I : Type 0} (items : S → List I) (opens closes : I → Option ℕ)
   apart_set : (vs : List V) (id : ℕ) (w : V) → Apart vs → ((j : ℕ) (u : V) → (j ≡ id → ⊥) → get_elem? vs j ≡ some u → D w u) → Apart (set vs id w)
   apart_set vs id w old mine = apart_but vs id w (λ i j u z ne _ _ at bt. old i j u z ne at bt) mine
 
+  -- a number is still someone's after one view has changed to one that has at least as many
+  someones_set : (vs : List V) (id : ℕ) (v w : V) → get_elem? vs id ≡ some v → (n : ℕ) → (Among n v.mine → Among n w.mine) → IsSomeones vs n → IsSomeones (set vs id w) n
+  someones_set vs id v w at n more o = dite (ℕ_discrete o.0 id)
+      (λ (e : o.0 ≡ id). let here : get_elem? vs id ≡ some o.1 = subst (λ (k : ℕ). get_elem? vs k ≡ some o.1) e o.2 in
+      (id, w, set_at vs id v w at, more (subst (λ (x : V). Among n x.mine) (some-injective o.1 v (sym here ∙ at)) o.3)))
+      (λ (ne : o.0 ≡ id → ⊥). (o.0, o.1, set_else vs id o.0 w ne ∙ o.2, o.3))
+
   -- the slot, where the view keeps its turn or keeps having none
   slot_same : (ws : List ℕ) (s : St) (log : List I) (id : ℕ) (v w : V) → get_elem? s.views id ≡ some v → w.turn ≡ v.turn → IsHome items opens closes s log ⊎ IsOut items opens closes s
       → IsHome items opens closes record { words = ws; homes = s.homes; views = set s.views id w } log ⊎ IsOut items opens closes record { words = ws; homes = s.homes; views = set s.views id w }
@@ -102,10 +109,11 @@ module _ {S I : Type 0} (items : S → List I) (opens closes : I → Option ℕ)
           shares = q.0;
           count = q.1;
           each = each_set (F r.served (r.drawn + 1) r.log) s.views id w
-              record { shared = omega arith; queued = λ _. (omega (arith, r.count), omega arith); turned = λ e. absurd (false≢true (sym calm ∙ e)); grown = fit.grown; own = fit.own; fronts = fit.fronts }
-              (λ j u ne bt. let f = r.each j u bt in record { shared = f.shared; queued = λ h. let a = f.queued h in (a.0, omega (arith, a.1)); turned = f.turned; grown = f.grown; own = f.own; fronts = f.fronts });
+              record { shared = omega arith; queued = λ _. (omega (arith, r.count), omega arith); turned = λ e. absurd (false≢true (sym calm ∙ e)); grown = fit.grown; own = fit.own; bare = fit.bare; fronts = fit.fronts }
+              (λ j u ne bt. let f = r.each j u bt in record { shared = f.shared; queued = λ h. let a = f.queued h in (a.0, omega (arith, a.1)); turned = f.turned; grown = f.grown; own = f.own; bare = f.bare; fronts = f.fronts });
           apart = apart_set s.views id w r.apart (λ j u ne bt. let f = r.each j u bt in
               ((λ _ h e. let a = (f.queued h).1 in omega arith), (r.apart id j v u (λ e. ne (sym e)) at bt).1));
+          whole = λ n a. someones_set s.views id v w at n (λ b. b) (r.whole n a);
           slot = slot_same (set s.words 0 ((get_or s.words 0 0 + 1) % 2 ^ 64)) s r.log id v w at refl r.slot;
         },
         (found, refl),
@@ -120,9 +128,16 @@ module _ {S I : Type 0} (items : S → List I) (opens closes : I → Option ℕ)
   unchanged s r i id v c n at same = let a : s.words ≡ set s.words i n = sym same in let b : s.views ≡ set s.views id v = sym (set_again s.views id v at) in subst Rule (λ k. record { words = a k; homes = s.homes; views = b k }) r
 
   -- the numbers of a pass are opened in the whole list
-  own_all : (s : St) (r : Rule s) (id : ℕ) (v : V) → get_elem? s.views id ≡ some v → (n : ℕ) → Among n v.mine → Among n (numbers opens r.log)
+  own_all : (s : St) (r : Rule s) (id : ℕ) (v : V) → get_elem? s.views id ≡ some v → OpensAll opens v.mine r.log
   own_all s r id v at n a = let f = r.each id v at in let g = f.grown in
       subst (Among n) (sym (ap (numbers opens) g.1 ∙ numbers_append opens v.seen g.0)) (among_left n (numbers opens v.seen) (numbers opens g.0) (f.own n a))
+
+  -- a pass with all shares has each number that the list opens
+  only_own : (s : St) (r : Rule s) (id : ℕ) (v : V) → get_elem? s.views id ≡ some v → all_shares ≤ v.shares → OpensOnly opens v.mine r.log
+  only_own s r id v at all n a = let o = r.whole n a in dite (ℕ_discrete o.0 id)
+      (λ (e : o.0 ≡ id). let here : get_elem? s.views id ≡ some o.1 = subst (λ (k : ℕ). get_elem? s.views k ≡ some o.1) e o.2 in
+      subst (λ (x : V). Among n x.mine) (some-injective o.1 v (sym here ∙ at)) o.3)
+      (λ (ne : o.0 ≡ id → ⊥). let t = total_two shares_of s.views id o.0 v o.1 (λ e. ne (sym e)) at o.2 in let b = (r.each o.0 o.1 o.2).bare n o.3 in let p = r.shares in absurd (omega arith))
 
   comes : (s : St) (r : Rule s) (id : ℕ) (v : V) (n : ℕ) → get_elem? s.views id ≡ some v → v.waits ≡ 1 → v.turn ≡ false → v.ticket ≡ r.served → set s.words 1 n ≡ s.words
       → (w : V) × (a : Act (Option S)) × Valid s.homes [] a × Rule (stepped s 1 n id [] w a) × Comes items opens closes (v, []) (w, carried_after [] a)
@@ -139,12 +154,20 @@ module _ {S I : Type 0} (items : S → List I) (opens closes : I → Option ℕ)
           shares = (queue_set r.served r.drawn r.served r.drawn id s.views v w at (r.shares, r.count) refl refl).0;
           count = (queue_set r.served r.drawn r.served r.drawn id s.views v w at (r.shares, r.count) refl refl).1;
           each = each_set (F r.served r.drawn r.log) s.views id w
-              record { shared = fit.shared; queued = fit.queued; turned = λ _. (wait, mine, h.2); grown = subst (λ (l : List I). Extends opens closes v.mine l r.log) (sym h.2) ([], sym (append-nil r.log), λ n a. ((λ z. z), (λ z. z))); own = λ k a. subst (λ (l : List I). Among k (numbers opens l)) (sym h.2) (own_all s r id v at k a); fronts = fit.fronts }
+              record { shared = fit.shared; queued = fit.queued; turned = λ _. (wait, mine, h.2); grown = subst (λ (l : List I). Extends opens closes v.mine l r.log) (sym h.2) ([], sym (append-nil r.log), λ n a. ((λ z. z), (λ z. z))); own = λ k a. subst (λ (l : List I). Among k (numbers opens l)) (sym h.2) (own_all s r id v at k a); bare = fit.bare; fronts = fit.fronts }
               (λ j u ne bt. r.each j u bt);
           apart = apart_set s.views id w r.apart (λ j u ne bt. r.apart id j v u (λ e. ne (sym e)) at bt);
+          whole = λ k a. someones_set s.views id v w at k (λ b. b) (r.whole k a);
           slot = inr (id, w, set_at s.views id v w at, refl, ap (λ l. set l 0 none) h.1);
         },
-        (h.0, refl, subst (λ (l : List I). Extends opens closes v.mine v.seen l) (sym h.2) fit.grown, subst (λ (l : List I). AreFronts v.told l) (sym h.2) fit.fronts),
+        (
+          h.0,
+          refl,
+          subst (λ (l : List I). Extends opens closes v.mine v.seen l) (sym h.2) fit.grown,
+          subst (λ (l : List I). AreFronts v.told l) (sym h.2) fit.fronts,
+          subst (λ (l : List I). OpensAll opens v.mine l) (sym h.2) (own_all s r id v at),
+          λ all. subst (λ (l : List I). OpensOnly opens v.mine l) (sym h.2) (only_own s r id v at all),
+        ),
       ))
       (λ (o : IsOut items opens closes s). dite (ℕ_discrete o.0 id)
       (λ (e : o.0 ≡ id). let here : get_elem? s.views id ≡ some o.1 = subst (λ (k : ℕ). get_elem? s.views k ≡ some o.1) e o.2 in
@@ -222,6 +245,7 @@ module _ {S I : Type 0} (items : S → List I) (opens closes : I → Option ℕ)
                 grown = ([], sym (append-nil xs), λ n a. ((λ z. z), (λ z. z)));
                 own = λ n a. subst (Among n) (sym opened) (⊎_elim (λ (c : Among n v.mine). among_left n (numbers opens r.log) (numbers opens rest) (own_all s r id v at n c)) (λ (c : Among n (numbers opens rest)). among_right n (numbers opens r.log) (numbers opens rest) c)
                     (among_append n v.mine (numbers opens rest) (subst (Among n) mine a)));
+                bare = λ n a. let b = fit.shared in omega (arith, t0);
                 fronts = subst (AreFronts v.told) (sym grown) (fronts_longer v.told r.log rest fit.fronts);
               }
               (λ j u ne bt. let f = r.each j u bt in record {
@@ -232,13 +256,21 @@ module _ {S I : Type 0} (items : S → List I) (opens closes : I → Option ℕ)
                 grown = subst (Extends opens closes u.mine u.seen) (sym grown) (extends_more opens closes u.mine u.seen r.log rest f.grown
                     (λ n a. ((λ b. once n (own_all s r j u bt n a) b), (λ b. foreign j u ne bt n a (may.2 n b)))));
                 own = f.own;
+                bare = f.bare;
                 fronts = subst (AreFronts u.told) (sym grown) (fronts_longer u.told r.log rest f.fronts);
               });
           apart = apart_set s.views id w r.apart (λ j u ne bt. ((λ h. absurd (omega arith)), (λ n a b. foreign j u ne bt n b (subst (Among n) mine a))));
+          whole = λ n a. ⊎_elim
+              (λ (b : Among n (numbers opens r.log)). someones_set s.views id v w at n (λ c. subst (Among n) (sym mine) (among_left n v.mine (numbers opens rest) c)) (r.whole n b))
+              (λ (b : Among n (numbers opens rest)). (id, w, set_at s.views id v w at, subst (Among n) (sym mine) (among_right n v.mine (numbers opens rest) b)))
+              (among_append n (numbers opens r.log) (numbers opens rest) (subst (Among n) opened a));
           slot = inl (x, ap (λ l. set l 0 (some (Some x))) (out s r id v at has), refl, each_set (λ (u : V). u.turn ≡ false) s.views id w refl none_else);
         },
         (λ y holds'. let same : xs ≡ items y = ap (λ l. items_or xs (in_hand l)) holds' in ap (λ (l : List I). (passed (noted opens closes v l), [])) same),
       )
+
+  given_less : (n : ℕ) → 0 < n → given n < n
+  given_less n h = omega (arith, h)
 
   given_le : (n : ℕ) → given n ≤ n
   given_le n = omega arith
@@ -265,12 +297,13 @@ module _ {S I : Type 0} (items : S → List I) (opens closes : I → Option ℕ)
         shares = omega arith;
         count = omega arith;
         each = each_snoc ls vs w
-            record { shared = omega arith; queued = λ h. absurd (omega arith); turned = λ h. absurd (false≢true h); grown = (fit.grown.0, fit.grown.1, λ n h. absurd h); own = λ n h. absurd h; fronts = tt }
+            record { shared = omega arith; queued = λ h. absurd (omega arith); turned = λ h. absurd (false≢true h); grown = (fit.grown.0, fit.grown.1, λ n h. absurd h); own = λ n h. absurd h; bare = λ n h. absurd h; fronts = tt }
             (each_set ls s.views id l
-            record { shared = omega arith; queued = fit.queued; turned = fit.turned; grown = fit.grown; own = fit.own; fronts = fit.fronts }
+            record { shared = omega arith; queued = fit.queued; turned = fit.turned; grown = fit.grown; own = fit.own; bare = λ n h. let k = given_less v.shares (fit.bare n h) in omega arith; fronts = fit.fronts }
             (λ j u _ bt. r.each j u bt));
         apart = apart_snoc vs w (apart_set s.views id l r.apart (λ j u ne bt. r.apart id j v u (λ k. ne (sym k)) at bt)) ((λ h. absurd (omega arith)), (λ n h. absurd h))
             (λ j u bt. ((λ h. absurd (omega arith)), (λ n h. absurd h)));
+        whole = λ n h. let o = someones_set s.views id v l at n (λ b. b) (r.whole n h) in (o.0, o.1, at_longer vs (w ∷ []) o.0 o.1 o.2, o.3);
         slot = ⊎_elim
             (λ (h : IsHome items opens closes s r.log). inl (h.0, h.1, h.2, each_snoc (λ (u : V). u.turn ≡ false) vs w refl (each_set (λ (u : V). u.turn ≡ false) s.views id l calm (λ j u _ bt. h.3 j u bt))))
             (λ (o : IsOut items opens closes s). dite (ℕ_discrete o.0 id)
@@ -303,22 +336,30 @@ module _ {S I : Type 0} (items : S → List I) (opens closes : I → Option ℕ)
       (cases_Bool (nat_lt (length v.seen) (length w.seen)))
 
   -- a new lock
-  pub begins : (x : S) (k : ℕ) → k ≡ all_shares → Rule record { words = 0 ∷ 0 ∷ []; homes = some (Some x) ∷ []; views = newcomer k ∷ [] }
-  begins x k full = record {
+  pub begins : (x : S) → Rule record { words = 0 ∷ 0 ∷ []; homes = some (Some x) ∷ []; views = founder opens (items x) ∷ [] }
+  begins x = record {
     drawn = 0;
     served = 0;
     log = items x;
     words = refl;
     shares = omega arith;
     count = omega arith;
-    each = λ j v at. subst (F 0 0 (items x)) (only j v at) record { shared = omega arith; queued = λ h. absurd (omega arith); turned = λ h. absurd (false≢true h); grown = (items x, refl, λ n h. absurd h); own = λ n h. absurd h; fronts = tt };
-    apart = λ i j v w ne at bt. subst (λ (y : V). D y w) (only i v at) ((λ h. absurd (omega arith)), (λ n h. absurd h));
+    each = λ j v at. subst (F 0 0 (items x)) (only j v at) record { shared = omega arith; queued = λ h. absurd (omega arith); turned = λ h. absurd (false≢true h); grown = ([], sym (append-nil (items x)), λ n h. ((λ z. z), (λ z. z))); own = λ n h. h; bare = λ n h. omega arith; fronts = tt };
+    apart = λ i j v w ne at bt. absurd (ne (lone i v at ∙ sym (lone j w bt)));
+    whole = λ n h. (0, first, refl, h);
     slot = inl (x, refl, refl, λ j v at. ap (λ (y : V). y.turn) (sym (only j v at)));
   }
     where
-      only : (j : ℕ) (v : V) → get_elem? (newcomer k ∷ []) j ≡ some v → newcomer k ≡ v
-      only zero v at = some-injective (newcomer k) v at
+      first : V
+      first = founder opens (items x)
+
+      only : (j : ℕ) (v : V) → get_elem? (first ∷ []) j ≡ some v → first ≡ v
+      only zero v at = some-injective first v at
       only (suc j) v at = absurd (some-ne-none v (sym at))
+
+      lone : (j : ℕ) (v : V) → get_elem? (first ∷ []) j ≡ some v → j ≡ 0
+      lone zero v at = refl
+      lone (suc j) v at = absurd (some-ne-none v (sym at))
 
   pub joins : (id : ℕ) (v : V) (other : ℕ) (w : V) → v.waits ≡ 0 → v.turn ≡ false → w.waits ≡ 0 → w.turn ≡ false → Joins Rule id v other w (both v w) (newcomer 0)
   joins id v other w idle calm idle' calm' s r at ne there =
@@ -337,6 +378,15 @@ module _ {S I : Type 0} (items : S → List I) (opens closes : I → Option ℕ)
         (λ n a c. ⊎_elim
             (λ (y : Among n v.mine). (r.apart id j v x (λ e. ni (sym e)) at bt).1 n y c) (λ (y : Among n w.mine). (r.apart other j w x (λ e. no (sym e)) at' bt).1 n y c) (among_append n v.mine w.mine a)),
       ) in
+      let some_shares : (n : ℕ) → Among n v.mine ⊎ Among n w.mine → 0 < b.shares = λ n. ⊎_elim (λ (h : Among n v.mine). let y = fit.bare n h in omega arith) (λ (h : Among n w.mine). let y = fit'.bare n h in omega arith) in
+      let kept : get_elem? (set vs other z) id ≡ some b = set_else vs other id z (λ e. ne (sym e)) ∙ set_at s.views id v b at in
+      let joined : (n : ℕ) → IsSomeones s.views n → IsSomeones (set vs other z) n = λ n o. dite (ℕ_discrete o.0 other)
+      (λ (e : o.0 ≡ other). let here : get_elem? s.views other ≡ some o.1 = subst (λ (y : ℕ). get_elem? s.views y ≡ some o.1) e o.2 in
+      (id, b, kept, among_right n v.mine w.mine (subst (λ (x : V). Among n x.mine) (some-injective o.1 w (sym here ∙ at')) o.3)))
+      (λ (no : o.0 ≡ other → ⊥). dite (ℕ_discrete o.0 id)
+      (λ (e : o.0 ≡ id). let here : get_elem? s.views id ≡ some o.1 = subst (λ (y : ℕ). get_elem? s.views y ≡ some o.1) e o.2 in
+      (id, b, kept, among_left n v.mine w.mine (subst (λ (x : V). Among n x.mine) (some-injective o.1 v (sym here ∙ at)) o.3)))
+      (λ (ni : o.0 ≡ id → ⊥). (o.0, o.1, set_else vs other o.0 z no ∙ (set_else s.views id o.0 b ni ∙ o.2), o.3))) in
       record {
         drawn = r.drawn;
         served = r.served;
@@ -345,9 +395,9 @@ module _ {S I : Type 0} (items : S → List I) (opens closes : I → Option ℕ)
         shares = omega arith;
         count = omega arith;
         each = each_set ls vs other z
-            record { shared = omega arith; queued = λ h. absurd (omega arith); turned = λ h. absurd (false≢true h); grown = (r.log, refl, λ n h. absurd h); own = λ n h. absurd h; fronts = tt }
+            record { shared = omega arith; queued = λ h. absurd (omega arith); turned = λ h. absurd (false≢true h); grown = (r.log, refl, λ n h. absurd h); own = λ n h. absurd h; bare = λ n h. absurd h; fronts = tt }
             (λ j u _ bt. each_set ls s.views id b
-            record { shared = omega arith; queued = λ h. absurd (omega arith); turned = λ e. absurd (false≢true (sym calm ∙ e)); grown = k.0; own = k.1; fronts = ((fit'.grown.0, fit'.grown.1), fronts_both v.told w.told r.log fit.fronts fit'.fronts) }
+            record { shared = omega arith; queued = λ h. absurd (omega arith); turned = λ e. absurd (false≢true (sym calm ∙ e)); grown = k.0; own = k.1; bare = λ n h. some_shares n (among_append n v.mine w.mine h); fronts = ((fit'.grown.0, fit'.grown.1), fronts_both v.told w.told r.log fit.fronts fit'.fronts) }
             (λ i x _ ct. r.each i x ct) j u bt);
         apart = apart_but vs other z
             (λ i j u x ne ni nj bt ct. ⊎_elim
@@ -357,6 +407,7 @@ module _ {S I : Type 0} (items : S → List I) (opens closes : I → Option ℕ)
             (at_set s.views id j b x ct))
             (at_set s.views id i b u bt))
             (λ j u _ bt. ((λ h. absurd (omega arith)), (λ n h. absurd h)));
+        whole = λ n h. joined n (r.whole n h);
         slot = ⊎_elim
             (λ (h : IsHome items opens closes s r.log). inl (h.0, h.1, h.2, each_set (λ (u : V). u.turn ≡ false) vs other z refl (λ j u _ bt. each_set (λ (u : V). u.turn ≡ false) s.views id b calm (λ i x _ ct. h.3 i x ct) j u bt)))
             (λ (o : IsOut items opens closes s). inr (o.0, o.1, set_else vs other o.0 z (idle_has other w at' calm' o.0 o.1 o.2 o.3) ∙ (set_else s.views id o.0 b (idle_has id v at calm o.0 o.1 o.2 o.3) ∙ o.2), o.3, o.4))

@@ -44,6 +44,19 @@ pub total_le : {V : Type 0} (f g : V → ℕ) (vs : List V) → ((j : ℕ) (v : 
 total_le f g [] h = omega arith
 total_le f g (x ∷ xs) h = let a = h 0 x refl in let r = total_le f g xs (λ j v at. h (suc j) v at) in omega arith
 
+total_one : {V : Type 0} (f : V → ℕ) (vs : List V) (i : ℕ) (v : V) → get_elem? vs i ≡ some v → f v ≤ total f vs
+total_one f [] i v at = absurd (some-ne-none v (sym at))
+total_one f (x ∷ xs) zero v at = let e : f x ≡ f v = ap f (some-injective x v at) in omega arith
+total_one f (x ∷ xs) (suc i) v at = let r = total_one f xs i v at in omega arith
+
+-- two of them are no more than all
+pub total_two : {V : Type 0} (f : V → ℕ) (vs : List V) (i j : ℕ) (v w : V) → (i ≡ j → ⊥) → get_elem? vs i ≡ some v → get_elem? vs j ≡ some w → f v + f w ≤ total f vs
+total_two f [] i j v w ne at bt = absurd (some-ne-none v (sym at))
+total_two f (x ∷ xs) zero zero v w ne at bt = absurd (ne refl)
+total_two f (x ∷ xs) zero (suc j) v w ne at bt = let e : f x ≡ f v = ap f (some-injective x v at) in let r = total_one f xs j w bt in omega arith
+total_two f (x ∷ xs) (suc i) zero v w ne at bt = let e : f x ≡ f w = ap f (some-injective x w bt) in let r = total_one f xs i v at in omega arith
+total_two f (x ∷ xs) (suc i) (suc j) v w ne at bt = let r = total_two f xs i j v w (λ e. ne (ap suc e)) at bt in omega arith
+
 pub set_at : {V : Type 0} (vs : List V) (i : ℕ) (v w : V) → get_elem? vs i ≡ some v → get_elem? (set vs i w) i ≡ some w
 set_at [] i v w at = absurd (some-ne-none v (sym at))
 set_at (x ∷ xs) zero v w at = refl

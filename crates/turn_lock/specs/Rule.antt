@@ -5,7 +5,7 @@ use mathlib.Core.Option.{some, none}
 use lib.ListN.{get_elem?}
 use Rattle.atomic_table.specs.Table.{State, Me, Step, rest}
 use Rattle.turn_lock.specs.declared.knowledge.Knowledge.{Knowledge}
-use Rattle.turn_lock.specs.Lists.{Among, AreFronts, numbers, total, Extends}
+use Rattle.turn_lock.specs.Lists.{Among, AreFronts, numbers, total, Extends, OpensAll, OpensOnly}
 
 -- the shares of all passes together
 abbrev pub all_shares : ℕ
@@ -23,6 +23,10 @@ module _ {I : Type 0} where
   -- has n shares, and knows nothing
   abbrev pub newcomer : ℕ → Knowledge I
   newcomer n = record { shares = n; waits = 0; ticket = 0; turn = false; seen = []; mine = []; told = [] }
+
+  -- has all shares, has seen the list xs, and has each number that it opens
+  abbrev pub founder : (I → Option ℕ) → List I → Knowledge I
+  founder opens xs = record { shares = all_shares; waits = 0; ticket = 0; turn = false; seen = xs; mine = numbers opens xs; told = [] }
 
   abbrev pub waiting : Knowledge I → ℕ → Knowledge I
   waiting v t = record v { waits = 1; ticket = t }
@@ -46,6 +50,10 @@ module _ {I : Type 0} where
   abbrev pub passed : Knowledge I → Knowledge I
   passed v = record v { waits = 0; turn = false }
 
+  -- one of these passes has the number
+  abbrev pub IsSomeones : List (Knowledge I) → ℕ → Type 0
+  IsSomeones vs n = (j : ℕ) × (v : Knowledge I) × (get_elem? vs j ≡ some v) × Among n v.mine
+
 module _ {I : Type 0} (opens takes : I → Option ℕ) where
   -- the list xs was seen, and the numbers that are opened behind what was seen before are this pass's
   abbrev pub noted : Knowledge I → List I → Knowledge I
@@ -53,12 +61,14 @@ module _ {I : Type 0} (opens takes : I → Option ℕ) where
 
   -- What a pass knows is true: its ticket is one of those that are out, with the turn it has seen the whole list, and
   -- what it has not seen of the list neither opens nor takes its numbers. The list begins with all that joined passes had seen.
+  -- A pass without shares has no numbers.
   pub record IsTrue (served drawn : ℕ) (log : List I) (v : Knowledge I) : Type 0 where
     pub shared : v.waits ≤ v.shares
     pub queued : 0 < v.waits → (served ≤ v.ticket) × (v.ticket < drawn)
     pub turned : v.turn ≡ true → (v.waits ≡ 1) × (v.ticket ≡ served) × (v.seen ≡ log)
     pub grown : Extends opens takes v.mine v.seen log
-    pub own : (n : ℕ) → Among n v.mine → Among n (numbers opens v.seen)
+    pub own : OpensAll opens v.mine v.seen
+    pub bare : (n : ℕ) → Among n v.mine → 0 < v.shares
     pub fronts : AreFronts v.told log
 
   -- two passes differ in their tickets and in their numbers
@@ -83,6 +93,7 @@ module _ {S I : Type 0} (items : S → List I) (opens takes : I → Option ℕ) 
     pub count : served + total (λ (v : Knowledge I). v.waits) s.views ≡ drawn
     pub each : (j : ℕ) (v : Knowledge I) → get_elem? s.views j ≡ some v → IsTrue opens takes served drawn log v
     pub apart : (i j : ℕ) (v w : Knowledge I) → (i ≡ j → ⊥) → get_elem? s.views i ≡ some v → get_elem? s.views j ≡ some w → Differ opens takes v w
+    pub whole : (n : ℕ) → Among n (numbers opens log) → IsSomeones s.views n
     pub slot : IsHome s log ⊎ IsOut s
 
   -- a pass at the table: what it knows, and what it holds
@@ -93,9 +104,10 @@ module _ {S I : Type 0} (items : S → List I) (opens takes : I → Option ℕ) 
   abbrev pub Draws : Step (Option S) → Sat → ℕ → Sat → Type 0
   Draws s m n m' = (n ≡ m'.0.ticket % 2 ^ 64) × (m' ≡ (waiting m.0 m'.0.ticket, m.1))
 
-  -- the state x came with the turn
+  -- The state x came with the turn. A pass with all shares has each number that its list opens.
   abbrev pub Comes : Sat → Sat → Type 0
   Comes m m' = (x : S) × (m' ≡ (having m.0 (items x), (0, Some x) ∷ [])) × Extends opens takes m.0.mine m.0.seen (items x) × AreFronts m.0.told (items x)
+      × OpensAll opens m.0.mine (items x) × (all_shares ≤ m.0.shares → OpensOnly opens m.0.mine (items x))
 
   -- where the ticket is the one that is served, the turn has come
   abbrev pub Awaits : Step (Option S) → Sat → ℕ → Sat → Type 0

@@ -13,7 +13,7 @@ pub struct Knowledge<I> {
     pub turn: bool,
     /// The beginning of the list that it has seen.
     pub seen: LinkedList<I>,
-    /// The numbers that were opened in its turns.
+    /// The numbers that were opened in its turns, and for the first pass those that were open when the lock was made.
     pub mine: LinkedList<u64>,
     /// What the passes that were put into it had seen, each of them the beginning of the list that it had seen.
     pub told: LinkedList<LinkedList<I>>,

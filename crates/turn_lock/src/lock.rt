@@ -31,7 +31,7 @@ const MOST_GIVEN: u64 = 1 << 32;
 /// A lock over a state with a list that only grows. The turn goes round in the order of the tickets that were drawn.
 #[derive(Drop)]
 pub struct HistoryLock<S: History> {
-    pub table: Table<Option<S>, Knowledge<S::Item>, (), Turns, Global>,
+    pub table: Table<Option<S>, Knowledge<S::Item>, Snapshot<S>, Turns, Global>,
     rooms: WaitingRooms,
     ghost sized: { (table.shared.table_id.words ≡ 2) × (table.shared.table_id.slots ≡ 1) },
 }
@@ -62,27 +62,29 @@ impl<S: History> Pass<S> {
 }
 
 impl<S: History> HistoryLock<S> {
-    ghost use Rattle.turn_lock.specs.Lists.{numbers, AreFronts, Extends};
+    ghost use Rattle.turn_lock.specs.Lists.{numbers, AreFronts, Extends, OpensAll, OpensOnly};
     ghost use Rattle.turn_lock.specs.Rule.{all_shares, given, pooled, waiting, having, both};
     ghost use Rattle.turn_lock.specs.Passes.{IsSame, IsFree, HasTurn, MayEnd};
 
-    /// A lock over the state, and the pass that all others are split from.
+    /// A lock over the state, and the pass that all others are split from. It has seen the state's list, and the numbers
+    /// that are open in it are its own.
     pub fn new(alloc: Global, state: S) -> Result<(HistoryLock<S>, Pass<S>), (S, AllocError)>
         ensures own { IfOk result (λ r. (r.1.seat.table_id ≡ r.0.table.shared.table_id) × IsFree r.1.seat) }
-        ensures knows { IfOk result (λ r. (r.1.seat.me.0.seen ≡ []) × (r.1.seat.me.0.mine ≡ []) × (r.1.seat.me.0.told ≡ [])) }
+        ensures knows { IfOk result (λ r. (r.1.seat.me.0.seen ≡ S.items state) × (r.1.seat.me.0.mine ≡ numbers S.opens (S.items state)) × (r.1.seat.me.0.told ≡ [])) }
         ensures shares { IfOk result (λ r. r.1.shares ≡ all_shares) }
         ensures no_memory { IfErr result (λ r. r.0 ≡ state) }
     {
         let Ok(rooms) = WaitingRooms::new(alloc) else {
             return Err((state, AllocError));
         };
+        let begun = Snapshot::of(&state);
         let mut slots = Vec::new(alloc);
         if let Err(failed) = slots.push(Some(state)) {
             let AllocFailed { value } = failed;
             slots.destroy_empty();
             return Err((in_slot(value), AllocError));
         }
-        match Table::new(alloc, &[0, 0], slots, &()) {
+        match Table::new(alloc, &[0, 0], slots, &begun) {
             Ok((table, seat)) => Ok((
                 HistoryLock { table, rooms },
                 Pass {
@@ -102,6 +104,8 @@ impl<S: History> HistoryLock<S> {
         ensures turn { (t : ℕ) × (seat.new.me ≡ (having (waiting seat.old.me.0 t) (S.items result), (0, None) ∷ [])) }
         ensures grown { Extends S.opens S.takes seat.old.me.0.mine seat.old.me.0.seen (S.items result) }
         ensures told { AreFronts seat.old.me.0.told (S.items result) }
+        ensures opened { OpensAll S.opens seat.old.me.0.mine (S.items result) }
+        ensures whole { all_shares ≤ seat.old.me.0.shares → OpensOnly S.opens seat.old.me.0.mine (S.items result) }
     {
         let shared = &self.table.shared;
         let ticket = shared.fetch_add::<DrawTicket>(seat, DRAWN, 1);
@@ -158,7 +162,8 @@ impl<S: History> HistoryLock<S> {
 
     /// Waits for the turn. The state's list goes on from all that the pass has seen, and what was added since neither
     /// opens nor takes a number that the pass opened. It begins with all that passes had seen that were put into this one.
-    /// The pass has then seen the whole list.
+    /// The pass has then seen the whole list. The numbers that the pass opened are open in it; and where the pass has all
+    /// shares, no others are.
     pub fn take<R: Wait>(&self, rt: &R, pass: &mut Pass<S>) -> Turn<S>
         requires own { pass.old.seat.table_id ≡ self.now.table.shared.table_id }
         requires free { IsFree pass.old.seat }
@@ -168,6 +173,8 @@ impl<S: History> HistoryLock<S> {
         ensures mine { (pass.new.seat.me.0.mine ≡ pass.old.seat.me.0.mine) × (pass.new.seat.me.0.told ≡ pass.old.seat.me.0.told) }
         ensures grown { Extends S.opens S.takes pass.old.seat.me.0.mine pass.old.seat.me.0.seen (S.items result.state) }
         ensures told { AreFronts pass.old.seat.me.0.told (S.items result.state) }
+        ensures opened { OpensAll S.opens pass.old.seat.me.0.mine (S.items result.state) }
+        ensures whole { all_shares ≤ pass.old.shares → OpensOnly S.opens pass.old.seat.me.0.mine (S.items result.state) }
     {
         let state = self.wait_turn(rt, &mut pass.seat);
         Turn {

@@ -2,15 +2,16 @@
 use crate::history::History;
 use crate::knowledge::Knowledge;
 use atomic_table::{Join, Play, Split, TableRule};
+use std::snapshot::Snapshot;
 
 pub struct Turns;
 
-impl<S: History> TableRule<Option<S>, Knowledge<S::Item>, ()> for Turns {
-    ghost use Rattle.turn_lock.specs.Rule.{IsKept, newcomer, all_shares};
+impl<S: History> TableRule<Option<S>, Knowledge<S::Item>, Snapshot<S>> for Turns {
+    ghost use Rattle.turn_lock.specs.Rule.{IsKept, founder};
 
     ghost holds = { λ _. IsKept S.items S.opens S.takes };
 
-    ghost first = { λ _. newcomer all_shares };
+    ghost first = { λ begun. founder S.opens (S.items begun.value) };
 }
 
 pub struct DrawTicket;

@@ -1,7 +1,8 @@
-use Rattle.std.proofs.Common.{sym, subst}
+use Rattle.std.proofs.Common.{◌≡◌, ◌∙◌, ℕ, List, [], ◌++◌, append-nil, sym, ap, subst}
+use Rattle.turn_lock.specs.Rule.{pooled}
 use Rattle.serve_outside.specs.Links.{IsNew}
-use Rattle.http_connections.specs.Boards.{known}
-use Rattle.http_connections.proofs.Runs.{told_before, turned_none, turned_one}
+use Rattle.http_exchanges.specs.Boards.{known}
+use Rattle.http_connections.proofs.Runs.{pooled_all, told_before, turned_none, turned_one}
 use Rattle.http_connections.proofs.start.launch.Goals as goal
 
 pub returns-in-Ok-clause-turned : goal.returns-in-Ok-clause-turned
@@ -18,3 +19,14 @@ pub returns-in-Err-clause-told : goal.returns-in-Err-clause-told
 returns-in-Err-clause-told g c =
     let own = known c.in-Err.job.pass in
     told_before c.args.pass.now.seat.me.0.told own.told c.give_back.new.pass.seat.me.0.told own.seen c.give_back.ensures.told
+
+pub returns-in-Err-clause-unasked : goal.returns-in-Err-clause-unasked
+returns-in-Err-clause-unasked g c =
+    let mine = (known c.args.pass.now).mine in
+    let none = subst (λ (j : _). (known j.pass).mine ≡ []) (sym c.in-Err.ensures.refused) c.requires.theirs.1 in
+    c.give_back.ensures.mine ∙ (ap (λ (l : List ℕ). mine ++ l) none ∙ append-nil mine)
+
+pub returns-in-Err-clause-shares : goal.returns-in-Err-clause-shares
+returns-in-Err-clause-shares g c =
+    let p = c.args.pass.now.shares in
+    c.give_back.ensures.shares ∙ (ap (λ (j : _). pooled p j.pass.shares) c.in-Err.ensures.refused ∙ pooled_all p c.args.job.pass.shares c.requires.few)

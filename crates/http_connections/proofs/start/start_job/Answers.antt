@@ -3,8 +3,8 @@ use denote.Param.Send.{arg_send, copied_send, param_send, param_sync}
 use denote.Exit.{no}
 use Rattle.stale_view.proofs.Crossing.{viewer_sends}
 use Rattle.http_connections.proofs.Crossing.{job_sends}
-use Rattle.http_connections.proofs.job.Finished.TheSendSync as finished
-use Rattle.http_connections.proofs.served.Served.TheSendSync as served
+use Rattle.http_exchanges.proofs.job.Finished.TheSendSync as finished
+use Rattle.http_exchanges.proofs.served.Served.TheSendSync as served
 use Rattle.http_connections.proofs.start.start_job.Goals as goal
 
 pub start-requires-send-J : goal.start-requires-send-J

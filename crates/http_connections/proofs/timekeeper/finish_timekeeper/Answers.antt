@@ -1,4 +1,4 @@
-use Rattle.http_connections.specs.Boards.{known}
+use Rattle.http_exchanges.specs.Boards.{known}
 use Rattle.http_connections.proofs.Runs.{told_before}
 use Rattle.http_connections.proofs.timekeeper.finish_timekeeper.Goals as goal
 

@@ -3,7 +3,7 @@ use denote.Param.Send.{arg_send, copied_send, param_send, param_sync}
 use denote.Exit.{no}
 use Rattle.stale_view.proofs.Crossing.{viewer_sends}
 use Rattle.http_connections.proofs.Crossing.{keeper_sends}
-use Rattle.http_connections.proofs.served.Served.TheSendSync as served
+use Rattle.http_exchanges.proofs.served.Served.TheSendSync as served
 use Rattle.http_connections.proofs.timekeeper.start_timekeeper.Goals as goal
 
 pub start_beside-task-requires-send-J : goal.start_beside-task-requires-send-J

@@ -1,5 +1,5 @@
 use Rattle.std.proofs.Common.{ap}
-use Rattle.http_connections.specs.Marks.{agreed_by}
+use Rattle.http_exchanges.specs.Marks.{agreed_by}
 use Rattle.http_front.proofs.Naming.{from_same, leaves_port, leaves_served, rose_before}
 use Rattle.http_front.proofs.connections.serve_beside.Goals as goal
 

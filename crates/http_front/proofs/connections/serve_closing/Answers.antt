@@ -1,6 +1,6 @@
 use Rattle.std.proofs.Common.{reverse}
 use Rattle.cluster_rules.specs.Reached.{MayBegin}
-use Rattle.http_connections.specs.Marks.{agreed_by}
+use Rattle.http_exchanges.specs.Marks.{agreed_by}
 use Rattle.http_front.proofs.Naming.{names_served}
 use Rattle.http_front.proofs.connections.serve_closing.Goals as goal
 

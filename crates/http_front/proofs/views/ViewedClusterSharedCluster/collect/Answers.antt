@@ -1,4 +1,4 @@
-use Rattle.http_connections.proofs.Clocks.{collects_still}
+use Rattle.http_exchanges.proofs.Clocks.{collects_still}
 use Rattle.http_front.proofs.Agreeing.{behind_still}
 use Rattle.http_front.proofs.views.ViewedClusterSharedCluster.collect.Goals as goal
 

@@ -1,8 +1,0 @@
-use Rattle.std.proofs.Common.{refl}
-use Rattle.http_connections.specs.Knowing.{known_by}
-use Rattle.http_connections.proofs.OwnTurns.{looks_first}
-use Rattle.http_connections.proofs.turns.wait_for.Goals as goal
-
-pub loop-init : goal.loop-init
-loop-init g c =
-    ((refl, refl), c.requires.free, looks_first g.C.SharedCluster.shows c.args.turned.number c.args.turned.got (known_by c.args.pass.now c.args.viewer.now) c.requires.stands, c.requires.learned, refl)

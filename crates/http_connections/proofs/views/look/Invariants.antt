@@ -1,6 +1,0 @@
-use mathlib.Core.List.{IsPrefix}
-use Rattle.http_connections.proofs.views.look.Given as goal
-
--- what was read begins what is read
-abbrev pub invariant-loop : goal.invariant-loop
-invariant-loop g l = IsPrefix l.fn.viewer l.viewer

@@ -1,0 +1,11 @@
+pub mod Marks
+pub mod Collects
+pub mod Turns
+pub mod Boards
+pub mod Knowing
+pub mod Waiting
+pub mod Replies
+pub mod Serving
+pub mod Stages
+pub mod Services
+pub mod Jobs
