@@ -1,7 +1,6 @@
 -- The journal of a node's process, and what it tells.
 use Rattle.std.specs.Prelude.{◌≡◌, ℕ, zero, suc, List, [], ◌∷◌, ◌++◌, Option, Some, None, Result}
 use Rattle.std.specs.Option.{option_map}
-use Rattle.std.specs.Vec.{Vec}
 use Rattle.cat_model.specs.declared.memory.Memory.{Memory}
 use Rattle.node_link.specs.Hosts.{IsHost}
 use Rattle.peer_frames.specs.declared.frame.Frame.{Frame}

@@ -1,6 +1,5 @@
 -- What a turn adds to the journal.
 use Rattle.std.specs.Prelude.{◌≡◌, ℕ, ◌⊎◌, List, [], ◌∷◌, ◌++◌, Option, Some, None, Result, Ok, Err}
-use Rattle.std.specs.Vec.{Vec}
 use Rattle.cat_model.specs.declared.memory.Memory.{Memory}
 use Rattle.peer_frames.specs.declared.frame.Frame.{Frame}
 use Rattle.peer_frames.specs.declared.frame.Frame.TheVariants as frames
@@ -21,15 +20,19 @@ IsReply (frames.Propose command) = ⊥
 IsReply frames.Status = ⊥
 
 module _ {D : Type 0} where
-  -- a process that shares nothing yet, over peers with these ports
-  abbrev pub begun : Running → D → Vec ℕ w16 → Shared D
-  begun running dialer ports = record {
-    running = running;
-    dialer = dialer;
-    ports = ports.items;
-    count = 0;
-    items = items.Began (record { value = running }) (record { value = dialer }) (record { value = ports }) ∷ [];
-  }
+  -- the journal of a process that has just begun so, over peers with these ports
+  abbrev pub IsBeginning : Running → D → List ℕ → List (Item Running D) → Type 0
+  IsBeginning running dialer ports [] = ⊥
+  IsBeginning running dialer ports (items.Began p d at ∷ []) = (p.value ≡ running) × (d.value ≡ dialer) × (at.value.items ≡ ports)
+  IsBeginning running dialer ports (items.Began p d at ∷ item ∷ rest) = ⊥
+  IsBeginning running dialer ports (items.Turned now word due taken sent ∷ rest) = ⊥
+
+  -- a process that took no frame yet, and its journal
+  pub record Begins (running : Running) (dialer : D) (ports : List ℕ) (s : Shared D) : Type 0 where
+    pub running_is : s.running ≡ running
+    pub dialer_is : s.dialer ≡ dialer
+    pub ports_are : s.ports ≡ ports
+    pub journal : IsBeginning running dialer ports s.items
 
   -- One item was added: that of a turn without a frame.
   pub record AddsTurn (old new : List (Item Running D)) : Type 0 where

@@ -10,7 +10,6 @@ ghost use Rattle.node_connections.specs.Serving.{EndsBy};
 use crate::cause::PeerCause;
 use crate::serving::{Service, Serving};
 use crate::shared::SharedNode;
-use crate::turns::PeerBoard;
 use node_service::Dialer;
 use outside::Keeper;
 use peer_frames::FrameReader;
@@ -18,26 +17,26 @@ use serve_outside::{Clock, Job, Link, Words};
 use std::alloc::Global;
 use std::snapshot::Snapshot;
 use std::sync::{Arc, Wait};
-use turn_lock::Pass;
+use turn_lock::{History, HistoryLock, Pass};
 
 /// A connection with a server or a client that is to be served, from its first byte on.
 #[derive(Drop)]
-pub struct PeerJob<R, K: Keeper, D: Dialer, Cl, W, L> {
+pub struct PeerJob<R, S: History, Cl, W, L> {
     pub rt: R,
     pub alloc: Global,
-    pub board: Arc<PeerBoard<K, D>, Global>,
+    pub board: Arc<HistoryLock<S>, Global>,
     pub clock: Cl,
     pub words: W,
     pub link: L,
     pub reader: FrameReader,
-    pub pass: Pass<SharedNode<K, D>>,
+    pub pass: Pass<S>,
 }
 
 /// A connection that has ended, and is shut.
 #[derive(Drop)]
-pub struct PeerEnded<K: Keeper, D: Dialer, L> {
+pub struct PeerEnded<S: History, L> {
     pub link: L,
-    pub pass: Pass<SharedNode<K, D>>,
+    pub pass: Pass<S>,
     /// How many frames were answered, those that have no answer counted too.
     pub frames: u64,
     pub cause: PeerCause,
@@ -51,7 +50,7 @@ pub fn serve_peer<
     Cl: Clock + Drop,
     W: Words + Drop,
     L: Link,
->(job: PeerJob<R, K, D, Cl, W, L>) -> PeerEnded<K, D, L>
+>(job: PeerJob<R, SharedNode<K, D>, Cl, W, L>) -> PeerEnded<SharedNode<K, D>, L>
     requires ours { IsOurs (arc_value job.board) job.pass }
     requires told { IsTold D.state (known job.pass).seen }
     requires fresh { job.reader ≡ record { peers = job.reader.peers; passed = 0; held = []; stop = None } }
@@ -94,9 +93,9 @@ pub fn serve_peer<
 
 // Shuts a connection that has ended.
 fn end_serving<K: Keeper + Drop, D: Dialer, W: Drop, L: Link>(
-    serving: Serving<K, D, W, L>,
+    serving: Serving<SharedNode<K, D>, W, L>,
     cause: PeerCause,
-) -> PeerEnded<K, D, L>
+) -> PeerEnded<SharedNode<K, D>, L>
     ensures pass { result.pass ≡ serving.pass }
     ensures link { L.state result.link ≡ record (L.state serving.link) { shut = true } }
     ensures frames { (result.frames ≡ serving.frames) × (result.cause ≡ cause) }
@@ -124,14 +123,14 @@ impl<
     Cl: Clock + Drop,
     W: Words + Drop,
     L: Link,
-> Job for PeerJob<R, K, D, Cl, W, L> {
+> Job for PeerJob<R, SharedNode<K, D>, Cl, W, L> {
     ghost use Rattle.std.specs.Prelude.{[], None, false};
     ghost use Rattle.std.specs.Arc.{arc_value};
     ghost use Rattle.node_connections.specs.Boards.{IsOurs, known};
     ghost use Rattle.node_connections.specs.Jobs.{HasEnded};
     ghost use Rattle.node_connections.specs.Journals.{IsOf, IsTold};
 
-    type Done = PeerEnded<K, D, L>;
+    type Done = PeerEnded<SharedNode<K, D>, L>;
 
     ghost ready = { λ job. IsOurs (arc_value job.board) job.pass
         × IsTold D.state (known job.pass).seen
@@ -141,7 +140,7 @@ impl<
 
     ghost keeps = { λ job done. HasEnded D.state L.state job done };
 
-    fn run(self) -> PeerEnded<K, D, L> {
+    fn run(self) -> PeerEnded<SharedNode<K, D>, L> {
         serve_peer(self)
     }
 }

@@ -13,7 +13,7 @@ ghost use Rattle.node_connections.specs.Turning.{IsReply};
 
 use crate::cause::PeerCause;
 use crate::shared::SharedNode;
-use crate::turns::{PeerBoard, hand_in};
+use crate::turns::hand_in;
 use crate::writer::send_answer;
 use cat_model::Memory;
 use node_service::Dialer;
@@ -23,30 +23,30 @@ use serve_outside::{Awaited, Clock, Link, Words};
 use std::alloc::Global;
 use std::snapshot::Snapshot;
 use std::sync::{Arc, Wait};
-use turn_lock::Pass;
+use turn_lock::{History, HistoryLock, Pass};
 
 /// How many bytes are read at most in one call.
 const ROOM: usize = 16_384;
 
 /// What serves a connection: the board of turns and a clock, and the link, the reader and the pass as they were at first.
 #[derive(Drop)]
-pub(crate) struct Service<R, K: Keeper, D: Dialer, Cl, L> {
+pub(crate) struct Service<R, S: History, Cl, L> {
     pub rt: R,
     pub alloc: Global,
-    pub board: Arc<PeerBoard<K, D>, Global>,
+    pub board: Arc<HistoryLock<S>, Global>,
     pub clock: Cl,
     pub first: Snapshot<L>,
     pub fresh: Snapshot<FrameReader>,
-    pub begun: Snapshot<Pass<SharedNode<K, D>>>,
+    pub begun: Snapshot<Pass<S>>,
 }
 
 /// A connection that is served, and how many frames were answered on it.
 #[derive(Drop)]
-pub(crate) struct Serving<K: Keeper, D: Dialer, W, L> {
+pub(crate) struct Serving<S: History, W, L> {
     pub words: W,
     pub link: L,
     pub reader: FrameReader,
-    pub pass: Pass<SharedNode<K, D>>,
+    pub pass: Pass<S>,
     pub frames: u64,
 }
 
@@ -59,11 +59,11 @@ fn read_next<L: Link>(link: &mut L, buffer: &mut [u8]) -> Result<usize, Failed>
     link.read(buffer)
 }
 
-impl<K: Keeper + Drop, D: Dialer, W: Words, L: Link> Serving<K, D, W, L> {
+impl<K: Keeper + Drop, D: Dialer, W: Words, L: Link> Serving<SharedNode<K, D>, W, L> {
     // Hands a frame in, and gives its answer.
     fn hand_in<R: Wait, Cl: Clock>(
         &mut self,
-        service: &Service<R, K, D, Cl, L>,
+        service: &Service<R, SharedNode<K, D>, Cl, L>,
         frame: &Frame,
     ) -> Result<Option<Frame>, PeerCause>
         requires ours { IsOurs (arc_value service.now.board) self.old.pass }
@@ -89,7 +89,7 @@ impl<K: Keeper + Drop, D: Dialer, W: Words, L: Link> Serving<K, D, W, L> {
     // Writes the answer to the frame that was handed in last.
     fn give<R, Cl>(
         &mut self,
-        service: &Service<R, K, D, Cl, L>,
+        service: &Service<R, SharedNode<K, D>, Cl, L>,
         answer: &Option<Frame>,
     ) -> Result<(), PeerCause>
         requires reply { ForSome answer.now IsReply }
@@ -113,7 +113,7 @@ impl<K: Keeper + Drop, D: Dialer, W: Words, L: Link> Serving<K, D, W, L> {
     // Hands a frame in, and writes its answer.
     fn answer<R: Wait, Cl: Clock>(
         &mut self,
-        service: &Service<R, K, D, Cl, L>,
+        service: &Service<R, SharedNode<K, D>, Cl, L>,
         frame: &Frame,
     ) -> Result<(), PeerCause>
         requires ours { IsOurs (arc_value service.now.board) self.old.pass }
@@ -137,7 +137,7 @@ impl<K: Keeper + Drop, D: Dialer, W: Words, L: Link> Serving<K, D, W, L> {
     // Does what the reader asks for.
     fn handle<R: Wait, Cl: Clock>(
         &mut self,
-        service: &Service<R, K, D, Cl, L>,
+        service: &Service<R, SharedNode<K, D>, Cl, L>,
         got: GotFrame,
     ) -> Result<(), PeerCause>
         requires ours { IsOurs (arc_value service.now.board) self.old.pass }
@@ -164,7 +164,7 @@ impl<K: Keeper + Drop, D: Dialer, W: Words, L: Link> Serving<K, D, W, L> {
     // Takes the first bytes of a piece that is not empty, and says how many.
     fn take_some<R: Wait, Cl: Clock>(
         &mut self,
-        service: &Service<R, K, D, Cl, L>,
+        service: &Service<R, SharedNode<K, D>, Cl, L>,
         piece: &[u8],
     ) -> Result<usize, PeerCause>
         requires some { 0 < length piece.now }
@@ -188,7 +188,7 @@ impl<K: Keeper + Drop, D: Dialer, W: Words, L: Link> Serving<K, D, W, L> {
     // Takes a whole piece that was read.
     fn take_piece<R: Wait, Cl: Clock>(
         &mut self,
-        service: &Service<R, K, D, Cl, L>,
+        service: &Service<R, SharedNode<K, D>, Cl, L>,
         piece: &[u8],
     ) -> Result<(), PeerCause>
         requires ours { IsOurs (arc_value service.now.board) self.old.pass }
@@ -211,7 +211,7 @@ impl<K: Keeper + Drop, D: Dialer, W: Words, L: Link> Serving<K, D, W, L> {
     // Reads the next bytes, and says how many.
     fn read_some<R, Cl>(
         &mut self,
-        service: &Service<R, K, D, Cl, L>,
+        service: &Service<R, SharedNode<K, D>, Cl, L>,
         buffer: &mut [u8],
     ) -> Result<usize, PeerCause>
         requires room { 0 < length buffer.old }
@@ -233,7 +233,7 @@ impl<K: Keeper + Drop, D: Dialer, W: Words, L: Link> Serving<K, D, W, L> {
     /// Serves the connection to its end, and says why it ended.
     pub(crate) fn serve<R: Wait, Cl: Clock>(
         &mut self,
-        service: &Service<R, K, D, Cl, L>,
+        service: &Service<R, SharedNode<K, D>, Cl, L>,
     ) -> PeerCause
         requires ours { IsOurs (arc_value service.now.board) self.old.pass }
         requires told { IsTold D.state (known self.old.pass).seen }

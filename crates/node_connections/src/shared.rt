@@ -5,7 +5,7 @@ ghost use Rattle.std.specs.Option.{ForSome};
 ghost use Rattle.peer_frames.specs.Spelling.{Accepts};
 ghost use Rattle.node_service.specs.Answering.{peers_of};
 ghost use Rattle.node_connections.specs.Journals.{IsTold, opens, takes};
-ghost use Rattle.node_connections.specs.Turning.{AddsFrame, AddsTurn, IsReply, begun};
+ghost use Rattle.node_connections.specs.Turning.{AddsFrame, AddsTurn, Begins, IsReply};
 
 use crate::item::{Item, Taken};
 use cat_model::Memory;
@@ -55,7 +55,7 @@ impl<K: Keeper, D: Dialer> History for SharedNode<K, D> {
 impl<K: Keeper + Drop, D: Dialer> SharedNode<K, D> {
     /// The process as it stands, whose journal begins now.
     pub fn new(process: NodeProcess<K>, dialer: D, ports: Vec<u16>) -> SharedNode<K, D>
-        ensures { result ≡ begun process dialer ports }
+        ensures { Begins process dialer ports.items result }
     {
         let journal = Log::new().and(
             &Item::Began {

@@ -43,7 +43,7 @@ fn serve<R: Wait + Drop>(
     alloc: Global,
     bytes: &[u8],
     most: usize,
-) -> Result<PeerEnded<SureKeeper, MemDialer, MemLink>, Fail> {
+) -> Result<PeerEnded<Shared, MemLink>, Fail> {
     let (board, pass) = leader(&rt, alloc)?;
     let script = Script {
         bytes: Bytes::new(alloc, bytes)?,
