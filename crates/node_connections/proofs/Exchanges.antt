@@ -1,5 +1,5 @@
 -- A connection, from one step to the next.
-use Rattle.std.proofs.Common.{◌≡◌, ℕ, zero, suc, ◌+◌, ◌^◌, ◌-◌, ◌<◌, ◌≤◌, min, false, inl, inr, List, [], ◌∷◌, ◌++◌, length, take, drop, map, Option, Some, None, Result, Ok, Err, refl, sym, ap, ◌∙◌, subst, arith, append_assoc, append-nil, take-append-drop}
+use Rattle.std.proofs.Common.{◌≡◌, ℕ, zero, suc, ◌+◌, ◌^◌, ◌-◌, ◌<◌, ◌≤◌, min, false, true, inl, inr, List, [], ◌∷◌, ◌++◌, length, take, drop, map, Option, Some, None, Result, Ok, Err, refl, sym, ap, ◌∙◌, subst, arith, append_assoc, append-nil, take-append-drop}
 use Rattle.std.specs.Prelude.{MatchResult}
 use Rattle.std.specs.List.{AllByRecursion, concat, flat_map}
 use Rattle.std.specs.Io.KnownBytes.{append_known}
@@ -29,10 +29,10 @@ use Rattle.node_connections.specs.declared.item.Item.{Item}
 use Rattle.node_connections.specs.declared.item.Taken.{Taken}
 use Rattle.node_connections.specs.Boards.{HandsIn, MayHandIn, Sees}
 use Rattle.node_connections.specs.Journals.{IsOf, opens}
-use Rattle.node_connections.specs.Serving.{Connection, EndsBy, IsAnswered, IsCut, IsLater, Passed, answer_bytes, answers_of, numbers_of, stream_of, taken_by}
+use Rattle.node_connections.specs.Serving.{Connection, EndsBy, IsAnswered, IsCut, IsLater, IsWhole, Passed, answer_bytes, answers_of, numbers_of, stream_of, taken_by}
 use Rattle.node_connections.specs.Stages.{Comes, GoesOn, IsAfterWrite, IsTaking, Owes, OwesAnswer, Stage, StopsBy, Talks, Wrote, reader_behind}
 use Rattle.node_connections.proofs.Journals.{of_on}
-use Rattle.node_connections.proofs.Own.{own_more, own_same}
+use Rattle.node_connections.proofs.Own.{own_more, own_same, taken_none}
 use Rattle.node_connections.proofs.Written.{known_nil, known_on, rose_from, stops_from}
 
 all_more : {X : Type 0} (P : X → Type 0) (xs : List X) (x : X) → AllByRecursion P xs → P x → AllByRecursion P (xs ++ x ∷ [])
@@ -205,3 +205,201 @@ module _ {D : Type 0} (c : Connection D) where
   pub cut_short : (s : Stage D) (w : Knowledge (Item Running D)) (frame : Frame) (e : Memory) (rest : List ℕ) → Owes c s frame rest → MayHandIn frame (Err e) s.known w → IsCut c s.link w s.frames
   cut_short s w frame e rest o (inl h) = cut_handed s w frame e rest o h
   cut_short s w frame e rest o (inr h) = cut_of s.link w s.frames o.ts (frame_bytes frame ++ rest) (still s.link s.known w o.ts _ _ o.passed h) o.answered o.count
+
+  -- what was written, behind what had been
+  written_on : (link link' : LinkState) (known : Knowledge (Item Running D)) (ts : List Taken) (read written more : List ℕ) → Passed c link known ts read written → IsAfterWrite link link' → link'.said ≡ append_known link.said more → Passed c link' known ts read (written ++ more)
+  written_on link link' known ts read written more p a s = record {
+    heard = a.heard ∙ p.heard;
+    said = known_on c.first.said link.said link'.said written more p.said s;
+    later = record {
+      number = a.number ∙ p.later.number;
+      ends = let l = p.later.ends in let e = a.ends in omega arith;
+      read_faults = let l = p.later.read_faults in let e = a.read_faults in omega arith;
+      write_faults = let l = p.later.write_faults in let e = a.write_faults in omega arith;
+    };
+    grown = p.grown;
+    own = p.own;
+    taken = p.taken;
+    once = p.once;
+    accepted = p.accepted;
+  }
+
+  pub given : (s : Stage D) (link' : LinkState) (answer : Option Frame) (frames : ℕ) (u : Unit {0}) (rest : List ℕ) → OwesAnswer c s answer rest → Wrote s.link (answer_bytes (Ok answer)) (Ok u) link' → frames ≡ s.frames + 1
+      → Talks c (record { link = link'; reader = s.reader; known = s.known; frames = frames }) rest
+  given s link' answer frames u rest o w n =
+      let all : answer_bytes (Ok answer) ≡ w.written = w.piece_is ∙ (ap (λ (l : List ℕ). w.written ++ l) w.whole ∙ append-nil w.written) in
+      let due : answers_of (o.ts ++ o.last ∷ []) ≡ answers_of o.ts ++ w.written = answers_more o.ts o.last ∙ ap (λ (l : List ℕ). answers_of o.ts ++ l) (ap answer_bytes o.answer_is ∙ all) in record {
+        ts = o.ts ++ o.last ∷ [];
+        held = [];
+        passed = subst (Passed c link' s.known (o.ts ++ o.last ∷ []) (stream_of (o.ts ++ o.last ∷ []) ++ rest)) (sym due) (written_on s.link link' s.known (o.ts ++ o.last ∷ []) _ (answers_of o.ts) w.written o.passed w.after w.said);
+        reader = o.reader;
+        part = none_part c.peers;
+        answered = all_more IsAnswered o.ts o.last o.answered (answer, o.answer_is);
+        count = n ∙ (ap (λ (k : ℕ). k + 1) o.count ∙ sym (count_more o.ts o.last));
+        unshut = w.after.shut ∙ o.unshut;
+        of = o.of;
+      }
+
+  abbrev cut_answer : (s : Stage D) (link' : LinkState) (answer : Option Frame) (written unwritten rest : List ℕ) (o : OwesAnswer c s answer rest) → answer_bytes (Ok answer) ≡ written ++ unwritten → IsAfterWrite s.link link' → link'.said ≡ append_known s.link.said written → IsCut c link' s.known s.frames
+  cut_answer s link' answer written unwritten rest o piece after said = record {
+    ts = o.ts;
+    last = o.last ∷ [];
+    few = omega arith;
+    rest = rest;
+    written = written;
+    unwritten = unwritten;
+    due = append-nil (answer_bytes o.last.answer.value) ∙ (ap answer_bytes o.answer_is ∙ piece);
+    passed = written_on s.link link' s.known (o.ts ++ o.last ∷ []) _ (answers_of o.ts) written o.passed after said;
+    answered = o.answered;
+    count = o.count;
+  }
+
+  pub cut_uncounted : (s : Stage D) (answer : Option Frame) (rest : List ℕ) → OwesAnswer c s answer rest → IsCut c s.link s.known s.frames
+  cut_uncounted s answer rest o =
+      cut_answer s s.link answer [] (answer_bytes (Ok answer)) rest o refl (record { number = refl; heard = refl; ends = refl; read_faults = refl; write_faults = omega arith; shut = refl }) (sym (known_nil s.link.said))
+
+  pub not_given : (s : Stage D) (link' : LinkState) (answer : Option Frame) (why : PeerCause) (rest : List ℕ) → OwesAnswer c s answer rest → Wrote s.link (answer_bytes (Ok answer)) (Err why) link' → EndsBy c why link' s.known s.frames
+  not_given s link' answer cause.WriteFault rest o w =
+      (cut_answer s link' answer w.written w.unwritten rest o w.piece_is w.after w.said, rose_from c.first.write_faults s.link.write_faults link'.write_faults o.passed.later.write_faults w.stopped, ((answer, o.answer_is), tt))
+  not_given s link' answer cause.Memory rest o w = cut_answer s link' answer w.written w.unwritten rest o w.piece_is w.after w.said
+  not_given s link' answer cause.Closed rest o w = absurd w.stopped
+  not_given s link' answer (cause.Bad at) rest o w = absurd w.stopped
+  not_given s link' answer cause.ReadFault rest o w = absurd w.stopped
+
+  -- what was read, behind what had been
+  read_on : (link link' : LinkState) (known : Knowledge (Item Running D)) (ts : List Taken) (read more written : List ℕ) → Passed c link known ts read written → link'.heard ≡ append_known link.heard more → IsLater link link' → link'.said ≡ link.said → Passed c link' known ts (read ++ more) written
+  read_on link link' known ts read more written p h l s = record {
+    heard = known_on c.first.heard link.heard link'.heard read more p.heard h;
+    said = s ∙ p.said;
+    later = record {
+      number = l.number ∙ p.later.number;
+      ends = let a = p.later.ends in let b = l.ends in omega arith;
+      read_faults = let a = p.later.read_faults in let b = l.read_faults in omega arith;
+      write_faults = let a = p.later.write_faults in let b = l.write_faults in omega arith;
+    };
+    grown = p.grown;
+    own = p.own;
+    taken = p.taken;
+    once = p.once;
+    accepted = p.accepted;
+  }
+
+  later_of : (link link' : LinkState) (buffer : List ℕ) (r : Result ℕ Failed) → Reads link buffer r link' → IsLater link link'
+  later_of link link' buffer r x = record {
+    number = x.number;
+    ends = x.at_end.later;
+    read_faults = x.cause.later;
+    write_faults = let e = x.write_faults in omega arith;
+  }
+
+  none_left : (ts : List Taken) (held : List ℕ) → stream_of ts ++ (held ++ []) ≡ stream_of ts ++ held
+  none_left ts held = ap (λ (l : List ℕ). stream_of ts ++ l) (append-nil held)
+
+  pub read_some : (s : Stage D) (link' : LinkState) (buffer : List ℕ) (n : ℕ) → Reads s.link buffer (Ok n) link' → Talks c s [] → Talks c (record s { link = link' }) (take n buffer)
+  read_some s link' buffer n x t = record {
+    ts = t.ts;
+    held = t.held;
+    passed = subst (λ (l : List ℕ). Passed c link' s.known t.ts l (answers_of t.ts))
+        (ap (λ (l : List ℕ). l ++ take n buffer) (none_left t.ts t.held) ∙ append_assoc (stream_of t.ts) t.held (take n buffer))
+        (read_on s.link link' s.known t.ts (stream_of t.ts ++ (t.held ++ [])) (take n buffer) (answers_of t.ts) t.passed x.heard (later_of s.link link' buffer (Ok n) x) x.said);
+    reader = t.reader;
+    part = t.part;
+    answered = t.answered;
+    count = t.count;
+    unshut = x.shut ∙ t.unshut;
+    of = t.of;
+  }
+
+  nothing_read : (s : Stage D) (link' : LinkState) → link'.heard ≡ s.link.heard → IsLater s.link link' → link'.said ≡ s.link.said → (t : Talks c s []) → Passed c link' s.known t.ts (stream_of t.ts ++ t.held) (answers_of t.ts)
+  nothing_read s link' h l e t =
+      subst (λ (r : List ℕ). Passed c link' s.known t.ts r (answers_of t.ts)) (append-nil (stream_of t.ts ++ (t.held ++ [])) ∙ none_left t.ts t.held)
+      (read_on s.link link' s.known t.ts (stream_of t.ts ++ (t.held ++ [])) [] (answers_of t.ts) t.passed (h ∙ sym (known_nil s.link.heard)) l e)
+
+  pub read_end : (s : Stage D) (link' : LinkState) (buffer : List ℕ) → Reads s.link buffer (Ok 0) link' → 0 < length buffer → Talks c s [] → EndsBy c cause.Closed link' s.known s.frames
+  read_end s link' buffer x some t =
+      let p = t.passed.later.ends in let r = x.at_end.at_end refl some in record {
+        ts = t.ts;
+        rest = t.held;
+        passed = nothing_read s link' (x.heard ∙ known_nil s.link.heard) (later_of s.link link' buffer (Ok 0) x) x.said t;
+        answered = t.answered;
+        count = t.count;
+        ends = (t.part, rose_from c.first.ends s.link.ends link'.ends p r);
+      }
+
+  pub read_fault : (s : Stage D) (link' : LinkState) (buffer : List ℕ) (e : Failed) → Reads s.link buffer (Err e) link' → Talks c s [] → EndsBy c cause.ReadFault link' s.known s.frames
+  read_fault s link' buffer e x t =
+      let p = t.passed.later.read_faults in record {
+        ts = t.ts;
+        rest = t.held;
+        passed = nothing_read s link' x.heard (later_of s.link link' buffer (Err e) x) x.said t;
+        answered = t.answered;
+        count = t.count;
+        ends = (t.part, rose_from c.first.read_faults s.link.read_faults link'.read_faults p x.cause.failed);
+      }
+
+  pub begins : (reader : Reader) → reader ≡ record { peers = c.peers; passed = 0; held = []; stop = None } → c.first.shut ≡ false → IsOf c.peers c.begun.seen → EachOnce (numbers opens c.begun.seen)
+      → Talks c (record { link = c.first; reader = reader; known = c.begun; frames = 0 }) []
+  begins reader r unshut of once = record {
+    ts = [];
+    held = [];
+    passed = record {
+      heard = sym (known_nil c.first.heard);
+      said = sym (known_nil c.first.said);
+      later = record { number = refl; ends = omega arith; read_faults = omega arith; write_faults = omega arith };
+      grown = ([], sym (append-nil c.begun.seen));
+      own = sym (append-nil c.begun.mine);
+      taken = taken_none c.begun.seen;
+      once = once;
+      accepted = tt;
+    };
+    reader = r;
+    part = none_part c.peers;
+    answered = tt;
+    count = refl;
+    unshut = unshut;
+    of = of;
+  }
+
+  shut_passed : (link : LinkState) (known : Knowledge (Item Running D)) (ts : List Taken) (read written : List ℕ) → Passed c link known ts read written → Passed c (record link { shut = true }) known ts read written
+  shut_passed link known ts read written p = record {
+    heard = p.heard;
+    said = p.said;
+    later = record { number = p.later.number; ends = p.later.ends; read_faults = p.later.read_faults; write_faults = p.later.write_faults };
+    grown = p.grown;
+    own = p.own;
+    taken = p.taken;
+    once = p.once;
+    accepted = p.accepted;
+  }
+
+  shut_whole : (Ends Ends' : List Taken → List ℕ → Type 0) (link : LinkState) (known : Knowledge (Item Running D)) (frames : ℕ) → ((ts : List Taken) (rest : List ℕ) → Ends ts rest → Ends' ts rest) → IsWhole c Ends link known frames
+      → IsWhole c Ends' (record link { shut = true }) known frames
+  shut_whole Ends Ends' link known frames f w = record {
+    ts = w.ts;
+    rest = w.rest;
+    passed = shut_passed link known w.ts (stream_of w.ts ++ w.rest) (answers_of w.ts) w.passed;
+    answered = w.answered;
+    count = w.count;
+    ends = f w.ts w.rest w.ends;
+  }
+
+  abbrev shut_cut : (link : LinkState) (known : Knowledge (Item Running D)) (frames : ℕ) → IsCut c link known frames → IsCut c (record link { shut = true }) known frames
+  shut_cut link known frames x = record {
+    ts = x.ts;
+    last = x.last;
+    few = x.few;
+    rest = x.rest;
+    written = x.written;
+    unwritten = x.unwritten;
+    due = x.due;
+    passed = shut_passed link known (x.ts ++ x.last) (stream_of (x.ts ++ x.last) ++ x.rest) (answers_of x.ts ++ x.written) x.passed;
+    answered = x.answered;
+    count = x.count;
+  }
+
+  pub ends_shut : (why : PeerCause) (link : LinkState) (known : Knowledge (Item Running D)) (frames : ℕ) → EndsBy c why link known frames → EndsBy c why (record link { shut = true }) known frames
+  ends_shut cause.Closed link known frames e = shut_whole _ _ link known frames (λ ts rest x. x) e
+  ends_shut (cause.Bad at) link known frames e = shut_whole _ _ link known frames (λ ts rest x. x) e
+  ends_shut cause.ReadFault link known frames e = shut_whole _ _ link known frames (λ ts rest x. x) e
+  ends_shut cause.WriteFault link known frames e = (shut_cut link known frames e.0, e.1, e.2)
+  ends_shut cause.Memory link known frames e = shut_cut link known frames e

@@ -1,5 +1,5 @@
 -- The frames of a journal that are a pass's own.
-use Rattle.std.proofs.Common.{◌≡◌, ℕ, ◌==◌, ◌||◌, Bool, true, false, cond, inl, inr, ⊎_elim, List, [], ◌∷◌, ◌++◌, map, Option, Some, None, Result, Ok, Err, refl, sym, ap, ◌∙◌, subst, append_assoc, append-nil}
+use Rattle.std.proofs.Common.{◌≡◌, ℕ, ◌==◌, ◌||◌, Bool, true, false, cond, inl, inr, ⊎_elim, List, [], ◌∷◌, ◌++◌, map, Option, Some, None, Result, Ok, Err, refl, sym, ap, ◌∙◌, subst, append_assoc, append-nil, arith}
 use Rattle.std.specs.List.{filter, filter_map, list_any}
 use Rattle.std.specs.Option.{option_map}
 use Rattle.std.proofs.lemmas.List.{map-append}
@@ -26,12 +26,12 @@ same_of : (n k : ℕ) → (n == k) ≡ true → n ≡ k
 same_of n k e = grind (arith, e)
 
 any_among : (ns : List ℕ) (k : ℕ) → list_any (λ n. n == k) ns ≡ true → Among k ns
-any_among [] k e = absurd (grind e)
-any_among (n ∷ ns) k e = one (n == k) refl e
+any_among [] k e = absurd (grind (arith, e))
+any_among (n ∷ ns) k e = one (n == k) refl e (any_among ns k)
   where
-    one : (b : Bool) → (n == k) ≡ b → (b || list_any (λ m. m == k) ns) ≡ true → Among k (n ∷ ns)
-    one true f g = inl (same_of n k f)
-    one false f g = inr (any_among ns k g)
+    one : (b : Bool) → (n == k) ≡ b → (b || list_any (λ m. m == k) ns) ≡ true → (list_any (λ m. m == k) ns ≡ true → Among k ns) → Among k (n ∷ ns)
+    one true f g rest = inl (same_of n k f)
+    one false f g rest = inr (rest g)
 
 any_none : (ns : List ℕ) (k : ℕ) → (Among k ns → ⊥) → list_any (λ n. n == k) ns ≡ false
 any_none ns k h = by_cases (list_any (λ n. n == k) ns) refl
@@ -50,7 +50,7 @@ pick_same own n (t ∷ ts) h =
     tells : (b : Bool) → has_number own t ≡ b → has_number (own ++ n ∷ []) t ≡ has_number own t
     tells true e = any_at (own ++ n ∷ []) t.number (among_left t.number own (n ∷ []) (any_among own t.number e)) ∙ sym e
     tells false e = any_none (own ++ n ∷ []) t.number (λ a. ⊎_elim
-        (λ (b : Among t.number own). absurd (grind (any_at own t.number b, e)))
+        (λ (b : Among t.number own). absurd (grind (arith, any_at own t.number b, e)))
         (λ (b : Among t.number (n ∷ [])). ⊎_elim (λ (f : n ≡ t.number). h (inl (sym f))) (λ (z : ⊥). z) b) (among_append t.number own (n ∷ []) a)) ∙ sym e
     same : (a b : Bool) → a ≡ b → {xs ys : List Taken} → xs ≡ ys → cond a (t ∷ xs) xs ≡ cond b (t ∷ ys) ys
     same a b e f = cc (e, f)
@@ -66,9 +66,6 @@ pick_one : (own : List ℕ) (t : Taken) → filter (has_number (own ++ t.number 
 pick_one own t = ap (λ (b : Bool). cond b (t ∷ []) []) (any_at (own ++ t.number ∷ []) t.number (among_right t.number own (t.number ∷ []) (inl refl)))
 
 module _ {D : Type 0} where
-  frames_of : List (Item Running D) → List Taken
-  frames_of xs = filter_map taken_of xs
-
   pub numbers_are : (xs : List (Item Running D)) → numbers opens xs ≡ numbers_of (filter_map taken_of xs)
   numbers_are [] = refl
   numbers_are (items.Began p d at ∷ xs) = numbers_are xs
@@ -76,9 +73,12 @@ module _ {D : Type 0} where
   numbers_are (items.Turned now word due (Some t) sent ∷ xs) = ap (λ (l : List ℕ). t.number ∷ l) (numbers_are xs)
 
   one_frame : (item : Item Running D) (t : Taken) → taken_of item ≡ Some t → filter_map taken_of (item ∷ []) ≡ t ∷ []
-  one_frame (items.Began p d at) t e = absurd (grind e)
-  one_frame (items.Turned now word due None sent) t e = absurd (grind e)
+  one_frame (items.Began p d at) t e = absurd (grind (arith, e))
+  one_frame (items.Turned now word due None sent) t e = absurd (grind (arith, e))
   one_frame (items.Turned now word due (Some u) sent) t e = cc e
+
+  pub taken_none : (xs : List (Item Running D)) → taken_by [] xs ≡ []
+  taken_none xs = pick_none [] (filter_map taken_of xs) (λ k a b. a)
 
   -- A frame that was handed in behind others stands behind the own ones.
   pub own_more : (own mine : List ℕ) (seen before : List (Item Running D)) (item : Item Running D) (t : Taken) → taken_of item ≡ Some t → Untouched opens takes mine before → ((k : ℕ) → Among k own → Among k mine)

@@ -92,11 +92,13 @@ pub record IsShared {D : Type 0} (state : D → DialerState) (s : Shared D) : Ty
   pub numbered : numbers opens s.items ≡ count_to s.count
   pub of : IsOf (peers_of s.running.host) s.items
 
--- What is told of a process that has such a journal: it stands as the journal leads, Raft's rules allow all that its node
--- did, and it is a server among these.
+-- What a journal tells of its process: how it stands, that Raft's rules allow all that its node did, that it is a server
+-- among these, and that frames are numbered from 1.
 pub record IsTold {D : Type 0} (state : D → DialerState) (journal : List (Item Running D)) : Type 0 where
   pub ports : List ℕ
   pub now : Standing
   pub tells : Tells state ports journal now
   pub host : IsHost now.running.host
+  pub count : ℕ
+  pub numbered : numbers opens journal ≡ count_to count
   pub of : IsOf (peers_of now.running.host) journal
