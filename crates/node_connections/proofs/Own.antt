@@ -52,6 +52,7 @@ pick_same own n (t ∷ ts) h =
     tells false e = any_none (own ++ n ∷ []) t.number (λ a. ⊎_elim
         (λ (b : Among t.number own). absurd (grind (arith, any_at own t.number b, e)))
         (λ (b : Among t.number (n ∷ [])). ⊎_elim (λ (f : n ≡ t.number). h (inl (sym f))) (λ (z : ⊥). z) b) (among_append t.number own (n ∷ []) a)) ∙ sym e
+
     same : (a b : Bool) → a ≡ b → {xs ys : List Taken} → xs ≡ ys → cond a (t ∷ xs) xs ≡ cond b (t ∷ ys) ys
     same a b e f = cc (e, f)
 
@@ -93,8 +94,8 @@ module _ {D : Type 0} where
       let not_before : Among t.number (numbers_of A) → ⊥ = λ a. once_apart t.number (numbers_of A) (numbers_of B ++ t.number ∷ []) apart a (among_right t.number (numbers_of B) (t.number ∷ []) (inl refl)) in
       let not_between : Among t.number (numbers_of B) → ⊥ = λ a. once_apart t.number (numbers_of A ++ numbers_of B) (t.number ∷ []) (subst EachOnce (sym (append_assoc (numbers_of A) (numbers_of B) (t.number ∷ []))) apart) (among_right t.number (numbers_of A) (numbers_of B) a) (inl refl) in
       let none : filter (has_number ns) B ≡ [] = pick_none ns B (λ k a b. ⊎_elim
-          (λ (x : Among k own). (u k (sub k x)).0 (subst (Among k) (sym (numbers_are before)) b))
-          (λ (x : Among k (t.number ∷ [])). ⊎_elim (λ (f : t.number ≡ k). not_between (subst (λ (z : ℕ). Among z (numbers_of B)) (sym f) b)) (λ (z : ⊥). z) x) (among_append k own (t.number ∷ []) a)) in
+      (λ (x : Among k own). (u k (sub k x)).0 (subst (Among k) (sym (numbers_are before)) b))
+      (λ (x : Among k (t.number ∷ [])). ⊎_elim (λ (f : t.number ≡ k). not_between (subst (λ (z : ℕ). Among z (numbers_of B)) (sym f) b)) (λ (z : ⊥). z) x) (among_append k own (t.number ∷ []) a)) in
       ap (filter (has_number ns)) parts ∙ (filter-append (has_number ns) A (B ++ t ∷ []) ∙ (ap (λ (l : List Taken). filter (has_number ns) A ++ l) (filter-append (has_number ns) B (t ∷ []) ∙ (ap (λ (l : List Taken). l ++ filter (has_number ns) (t ∷ [])) none ∙ pick_one own t))
       ∙ ap (λ (l : List Taken). l ++ t ∷ []) (pick_same own t.number A not_before)))
 

@@ -116,14 +116,8 @@ fn end_serving<K: Keeper + Drop, D: Dialer, W: Drop, L: Link>(
     }
 }
 
-impl<
-    R: Wait + Drop,
-    K: Keeper + Drop,
-    D: Dialer,
-    Cl: Clock + Drop,
-    W: Words + Drop,
-    L: Link,
-> Job for PeerJob<R, SharedNode<K, D>, Cl, W, L> {
+impl<R: Wait + Drop, K: Keeper + Drop, D: Dialer, Cl: Clock + Drop, W: Words + Drop, L: Link> Job
+    for PeerJob<R, SharedNode<K, D>, Cl, W, L> {
     ghost use Rattle.std.specs.Prelude.{[], None, false};
     ghost use Rattle.std.specs.Arc.{arc_value};
     ghost use Rattle.node_connections.specs.Boards.{IsOurs, known};

@@ -74,13 +74,21 @@ impl<K: Keeper + Drop, D: Dialer, W: Words, L: Link> Serving<SharedNode<K, D>, W
         ensures unshut { (L.state self.new.link).shut ≡ false }
         ensures handed { (rest : List ℕ) → Owes (connection L.state service.now) (stage L.state self.old) frame.now rest
             → MatchResult result
-                (λ answer. OwesAnswer (connection L.state service.now) (stage L.state self.new) answer rest)
-                (λ why. EndsBy (connection L.state service.now) why (L.state self.new.link) (known self.new.pass) self.new.frames) }
+            (λ answer. OwesAnswer (connection L.state service.now) (stage L.state self.new) answer rest)
+            (λ why. EndsBy (connection L.state service.now) why (L.state self.new.link) (known self.new.pass) self.new.frames) }
     {
         let now_ms = service.clock.now_ms();
         let word = self.words.draw().lo;
         let pass = &mut self.pass;
-        match hand_in(&service.rt, service.alloc, &*service.board, pass, now_ms, word, frame) {
+        match hand_in(
+            &service.rt,
+            service.alloc,
+            &*service.board,
+            pass,
+            now_ms,
+            word,
+            frame,
+        ) {
             Ok(answer) => Ok(answer),
             Err(Memory) => Err(PeerCause::Memory),
         }
