@@ -37,7 +37,7 @@ struct Dialed {
 }
 
 /// A dialer over TCP to 127.0.0.1. It keeps one connection to each port. One on which a piece could not be written whole
-/// is closed, and a later call makes another. A call takes at most some 70 milliseconds.
+/// is closed, and a later call makes another. A call takes at most some 120 milliseconds.
 #[derive(Drop)]
 pub struct TcpDialer<R> {
     rt: R,
