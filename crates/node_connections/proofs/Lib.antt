@@ -1,0 +1,5 @@
+mod Journals
+mod Own
+mod Exchanges
+mod Written
+mod Replies
