@@ -19,8 +19,6 @@ mod item;
 mod job;
 mod serving;
 mod shared;
-#[cfg(test)]
-mod tests;
 mod timekeeper;
 mod turns;
 mod writer;
